@@ -1,0 +1,5 @@
+pub mod Checks
+pub mod Outcomes
+pub mod Within
+pub mod Once
+pub mod Table

@@ -1,0 +1,49 @@
+-- The outcome of a definition: what was asked for, or the number and the place of the first check that fails.
+-- Assumes nothing.
+use mathlib.Core.Path.{_≡_}
+use mathlib.Core.List.{List, [], _∷_}
+use mathlib.Core.Bool.{Bool, true, false}
+use Prim.Native.Nat.{ℕ, _+_}
+use lib.Dec.{leb}
+use Rattle.answer.specs.Numbers.{ROOM}
+
+-- `refused n p`: the refusal's number and its place
+pub data Outcome (A : Type 0) : Type 0 where
+  taken : A → Outcome A
+  refused : ℕ → ℕ → Outcome A
+
+-- checks in their order: each a test, and the number and the place that it gives where it is false
+abbrev pub Checks : Type 0
+Checks = List (Bool × ℕ × ℕ)
+
+-- the first check that fails, or what comes after them all
+abbrev pub checked : {A : Type 0} → Checks → Outcome A → Outcome A
+checked [] next = next
+checked (c ∷ l) next = elim (c .0) [ true ↦ checked l next | false ↦ refused (c .1) (c .2) ]
+
+-- none of the checks fails
+abbrev pub Pass : Checks → Type 0
+Pass [] = Unit {0}
+Pass (c ∷ l) = (c .0 ≡ true) × Pass l
+
+-- what is taken goes on to the next definition
+abbrev pub after : {A B : Type 0} → Outcome A → (A → Outcome B) → Outcome B
+after (taken a) next = next a
+after (refused n p) next = refused n p
+
+-- the same, its place counted from k bytes earlier
+abbrev pub moved : {A : Type 0} → ℕ → Outcome A → Outcome A
+moved k (taken a) = taken a
+moved k (refused n p) = refused n (k + p)
+
+-- the same where what is taken is a place too
+abbrev pub shift : ℕ → Outcome ℕ → Outcome ℕ
+shift k r = after (moved k r) (λ e. taken (k + e))
+
+-- taken or not, whatever is taken
+abbrev pub done : {A : Type 0} → Outcome A → Outcome (Unit {0})
+done r = after r (λ _. taken tt)
+
+-- the last check of a call that writes: `have` bytes of output hold the `need` that are to be written
+abbrev pub room : ℕ → ℕ → Checks
+room have need = (leb need have, ROOM, need) ∷ []

@@ -1,0 +1,5 @@
+pub mod Differences
+pub mod Numbers
+pub mod Parts
+pub mod Once
+pub mod Examples

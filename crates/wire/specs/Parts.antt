@@ -1,0 +1,21 @@
+-- Bytes written into lent memory.
+-- Assumes nothing.
+use mathlib.Core.Path.{_≡_}
+use mathlib.Core.Bool.{Bool, cond}
+use mathlib.Core.List.{List, _++_}
+use Prim.Native.Nat.{ℕ, _+_}
+use lib.Dec.{leb}
+use lib.ListN.{length, take, drop}
+
+-- old with bs written over it from a place on
+unfoldable pub splice : ℕ → List ℕ → List ℕ → List ℕ
+splice at bs old = take at old ++ bs ++ drop (at + length bs) old
+
+-- the same where bs fit there; else old, and nothing is written
+unfoldable pub put : ℕ → List ℕ → List ℕ → List ℕ
+put at bs old = cond (leb (at + length bs) (length old)) (splice at bs old) old
+
+-- n bytes, bs, were written over the start of old, and new came of it
+pub record Wrote (bs old new : List ℕ) (n : ℕ) : Type 0 where
+  pub count : n ≡ length bs
+  pub bytes : new ≡ bs ++ drop (length bs) old
