@@ -3,7 +3,7 @@
 use mathlib.Core.Path.{_≡_}
 use mathlib.Core.Bool.{Bool}
 use mathlib.Core.List.{List}
-use Prim.Native.Nat.{ℕ, _+_}
+use Prim.Native.Nat.{ℕ, _+_, _-_}
 use lib.Dec.{leb}
 use Rattle.answer.proofs.Once.{equal-once}
 use Rattle.wire.specs.Numbers.{leAt}
@@ -11,6 +11,9 @@ use Rattle.wire.specs.Parts.{put}
 
 pub fits-once : (len at n : ℕ) {r s : Bool} → r ≡ leb (at + n) len → s ≡ leb (at + n) len → r ≡ s
 fits-once len at n e f = equal-once e f
+
+pub left-once : (len at : ℕ) {r s : ℕ} → r ≡ len - at → s ≡ len - at → r ≡ s
+left-once len at e f = equal-once e f
 
 -- `u8_at` to `u64_at`
 pub load-once : (n : ℕ) (s : List ℕ) (at : ℕ) {x y : ℕ} → x ≡ leAt n s at → y ≡ leAt n s at → x ≡ y

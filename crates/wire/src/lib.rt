@@ -1,7 +1,7 @@
 // Little-endian numbers and parts of byte slices: reading, storing, copying.
 // Every function takes every input. A byte past the end reads as 0; what does not fit is not written at all.
 ghost use mathlib.Core.Path.{_≡_};
-ghost use Prim.Native.Nat.{_+_, _≤_, _<_};
+ghost use Prim.Native.Nat.{_+_, _-_, _≤_, _<_};
 ghost use lib.Dec.{leb};
 ghost use lib.ListN.{length};
 ghost use Rattle.wire.specs.Numbers.{leAt, bytesOf};
@@ -15,6 +15,16 @@ pub fn fits(len: usize, at: usize, n: usize) -> bool
         return false;
     }
     n <= len - at
+}
+
+// How many of `len` bytes stand from `at` on.
+pub fn left(len: usize, at: usize) -> usize
+    ensures { λ r. ⌜ r ≡ len - at ⌝ }
+{
+    if len < at {
+        return 0;
+    }
+    len - at
 }
 
 // ---- reading

@@ -1,0 +1,7 @@
+pub mod Meaning
+pub mod Placed
+pub mod Exits
+pub mod Listed
+pub mod Within
+pub mod Once
+pub mod Examples

@@ -1,0 +1,13 @@
+pub mod Folds
+pub mod Perms
+pub mod Keys
+pub mod Inserts
+pub mod Keeps
+pub mod Sorts
+pub mod Buckets
+pub mod Places
+pub mod Entries
+pub mod Starts
+pub mod Adding
+pub mod Files
+pub mod Examples

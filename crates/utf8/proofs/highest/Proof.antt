@@ -1,0 +1,39 @@
+-- `utf8::highest` meets its contract. The loop's invariant: no byte passed is above the highest so far. Assumes nothing.
+use Prim.Native.Nat.{_-_}
+use mathlib.Core.Logic.{⊎-elim}
+use native.Mathlib.Omega.{arith}
+use lib.ListN.{length}
+use Rattle.utf8.proofs.Turns.{Topped, topped-more, topped-all}
+use Rattle.utf8.proofs.highest.Statement.{statement}
+use Rattle.utf8.proofs.highest.Tie as tie
+
+abbrev Inv-loop : tie.InvT-loop
+Inv-loop s top₀ i₀ top i = Topped s i top
+
+abbrev μ-loop : tie.MeasureT-loop
+μ-loop s top₀ i₀ top i = length s - i
+
+loop-holds : tie.Need-loop-holds Inv-loop μ-loop
+loop-holds c = record { within = omega arith; most = λ k h. absurd (omega arith) }
+
+shared-slice-read-b : tie.Need-shared-slice-read-b Inv-loop μ-loop
+shared-slice-read-b c = omega arith
+
+add-i : tie.Need-add-i Inv-loop μ-loop
+add-i c = omega arith
+
+loop-less : tie.Need-loop-less Inv-loop μ-loop
+loop-less c = omega arith
+
+loop-again : tie.Need-loop-again Inv-loop μ-loop
+loop-again c =
+    let l = c .before .before .before .loop .inv in
+    ⊎-elim (λ w. topped-more l (omega arith) (omega arith) (omega arith)) (λ w. topped-more l (omega arith) (omega arith) (omega arith)) (c .if1 .came)
+
+returns : tie.Need-returns Inv-loop μ-loop
+returns c = topped-all (c .before .loop .inv) (omega arith)
+
+pub highest-spec : {M : Type 1} → statement M
+highest-spec =
+    tie.close
+    (tie.spec Inv-loop μ-loop loop-holds shared-slice-read-b add-i loop-less loop-again returns)

@@ -1,0 +1,131 @@
+// UTF-8 as in RFC 3629, section 4: whether bytes are a text, and else the first place at which none continues.
+ghost use mathlib.Core.Path.{_≡_};
+ghost use Prim.Native.Nat.{_≤_};
+ghost use lib.ListN.{length};
+ghost use Rattle.utf8.specs.Grammar.{Reads};
+ghost use Rattle.utf8.specs.Scan.{leadOf, scan};
+ghost use Rattle.utf8.specs.Steps.{AtMost, Passes, Rest};
+
+// The whole is a text, or the first place at which none continues (the length, where the last character is cut).
+pub enum Found {
+    Whole,
+    Broken(usize),
+}
+
+// After a byte: how many bytes of its character are to come, and between what the next lies.
+enum Step {
+    Next(usize, u8, u8),
+    Stop,
+}
+
+// The highest byte. One pass without a way out, so that it is done many bytes at a time.
+fn highest(s: &[u8]) -> u8
+    ensures { λ r. ⌜ AtMost (now (s .entry)) r ⌝ }
+{
+    let mut top: u8 = 0;
+    let mut i = 0;
+    while i < s.len() {
+        let b = s[i];
+        if top < b {
+            top = b;
+        }
+        i += 1;
+    }
+    top
+}
+
+// What a first byte lets follow, by the alternatives of the RFC in its order.
+fn lead(b: u8) -> Step
+    ensures { λ r. ⌜ r ≡ leadOf b ⌝ }
+{
+    match b {
+        0x00..=0x7F => Step::Next(0, 0x80, 0xBF),
+        0xC2..=0xDF => Step::Next(1, 0x80, 0xBF),
+        0xE0..=0xE0 => Step::Next(2, 0xA0, 0xBF),
+        0xE1..=0xEC => Step::Next(2, 0x80, 0xBF),
+        0xED..=0xED => Step::Next(2, 0x80, 0x9F),
+        0xEE..=0xEF => Step::Next(2, 0x80, 0xBF),
+        0xF0..=0xF0 => Step::Next(3, 0x90, 0xBF),
+        0xF1..=0xF3 => Step::Next(3, 0x80, 0xBF),
+        0xF4..=0xF4 => Step::Next(3, 0x80, 0x8F),
+        _ => Step::Stop,
+    }
+}
+
+// The bytes of a character that are to come, the next of them between lo and hi.
+fn rest(s: &[u8], mut i: usize, mut left: usize, mut lo: u8, mut hi: u8) -> Found
+    requires { ⌜ i ≤ length (now s) ⌝ }
+    ensures { λ r. ⌜ Rest (now (s .entry)) i left lo hi r ⌝ }
+{
+    while 0 < left {
+        if s.len() <= i {
+            return Found::Broken(i);
+        }
+        let b = s[i];
+        if b < lo {
+            return Found::Broken(i);
+        }
+        if hi < b {
+            return Found::Broken(i);
+        }
+        left -= 1;
+        lo = 0x80;
+        hi = 0xBF;
+        i += 1;
+    }
+    Found::Whole
+}
+
+// Past the blocks of 16 bytes from i on that have no byte above 0x7F, where a character begins at i.
+fn plain(s: &[u8], i: usize) -> usize
+    requires { ⌜ i ≤ length (now s) ⌝ }
+    ensures { λ r. ⌜ Passes (now (s .entry)) i 0 0x80 0xBF r ⌝ }
+{
+    let mut at = i;
+    while 16 <= s.len() - at {
+        let end = at + 16;
+        if 0x80 <= highest(&s[at..end]) {
+            return at;
+        }
+        at = end;
+    }
+    at
+}
+
+// Character by character.
+fn walk(s: &[u8]) -> Found
+    ensures { λ r. ⌜ r ≡ scan (now (s .entry)) ⌝ }
+{
+    let mut i = 0;
+    while i < s.len() {
+        let b = s[i];
+        if b < 0x80 {
+            i = plain(s, i + 1);
+        } else {
+            match lead(b) {
+                Step::Next(left, lo, hi) => match rest(s, i + 1, left, lo, hi) {
+                    Found::Whole => {
+                        i = i + 1 + left;
+                    }
+                    Found::Broken(k) => {
+                        return Found::Broken(k);
+                    }
+                },
+                Step::Stop => {
+                    return Found::Broken(i);
+                }
+            }
+        }
+    }
+    Found::Whole
+}
+
+// Whether s is a text, and if not, where it breaks. Most texts are plain, and one fast pass says so.
+pub fn text(s: &[u8]) -> Found
+    ensures { λ r. ⌜ Reads (now (s .entry)) r ⌝ }
+{
+    if highest(s) < 0x80 {
+        return Found::Whole;
+    }
+    walk(s)
+}
