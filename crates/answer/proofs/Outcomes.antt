@@ -40,6 +40,10 @@ pub shift-shift : (j k : ℕ) (r : Outcome ℕ) → shift j (shift k r) ≡ shif
 shift-shift j k (taken e) = ap taken (omega arith)
 shift-shift j k (refused n p) = ap (refused n) (omega arith)
 
+pub after-shift : {A : Type 0} (k : ℕ) (r : Outcome ℕ) (f : ℕ → Outcome A) → after (shift k r) f ≡ after (moved k r) (λ e. f (k + e))
+after-shift k (taken e) f = refl
+after-shift k (refused n p) f = refl
+
 pub done-taken : {A : Type 0} (r : Outcome A) → done r ≡ taken tt → (a : A) × (r ≡ taken a)
 done-taken (taken a) h = (a, refl)
 done-taken (refused n p) h = let z : _≡_ {A = ℕ} 0 1 = cc in absurd (omega arith)

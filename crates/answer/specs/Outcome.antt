@@ -5,6 +5,7 @@ use mathlib.Core.List.{List, [], _∷_}
 use mathlib.Core.Bool.{Bool, true, false}
 use Prim.Native.Nat.{ℕ, _+_}
 use lib.Dec.{leb}
+use lib.ListN.{length}
 use Rattle.answer.specs.Numbers.{ROOM}
 
 -- `refused n p`: the refusal's number and its place
@@ -47,3 +48,7 @@ done r = after r (λ _. taken tt)
 -- the last check of a call that writes: `have` bytes of output hold the `need` that are to be written
 abbrev pub room : ℕ → ℕ → Checks
 room have need = (leb need have, ROOM, need) ∷ []
+
+-- bytes for an output that holds so many
+abbrev pub fitting : ℕ → List ℕ → Outcome (List ℕ)
+fitting have b = checked (room have (length b)) (taken b)

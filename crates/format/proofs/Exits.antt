@@ -5,17 +5,18 @@ use mathlib.Core.List.{List, [], _∷_}
 use mathlib.Core.Bool.{Bool, true, false, not, cond}
 use Prim.Native.Nat.{ℕ, _+_, _-_, _≤_, _<_}
 use native.Mathlib.Omega.{arith}
-use lib.ListN.{length, take, drop, getD, length-drop, length-take}
+use lib.ListN.{length, take, drop, getD, length-drop, length-take, length-append}
+use lib.Seq.{length-take-le}
 use lib.Dec.{leb, eqb}
 use borrow.Author.Tests.{leb-true, le-leb, lt-leb}
-use Rattle.answer.specs.Numbers.{SHAPE, LIMIT, TEXT, VALUE}
-use Rattle.answer.specs.Outcome.{Outcome, taken, refused, Checks, checked, after, moved, shift}
-use Rattle.answer.proofs.Checks.{checked-pass}
+use Rattle.answer.specs.Numbers.{SHAPE, TEXT, VALUE}
+use Rattle.answer.specs.Outcome.{Outcome, taken, refused, Checks, checked, Pass, after, moved, shift}
+use Rattle.answer.proofs.Checks.{checked-pass, pass-checked, checked-append}
 use Rattle.answer.proofs.Outcomes.{shift-taken, moved-taken}
 use Rattle.wire.specs.Numbers.{leAt}
 use Rattle.wire.proofs.Numbers.{leAt-here, leAt-one}
 use Rattle.utf8.specs.Scan.{isText}
-use Rattle.format.specs.Format.{Asks, any, Format, block, sized, option, pair, bytes, atMost, blob, utf8, text, read, optionChecks}
+use Rattle.format.specs.Format.{Asks, any, Format, block, sized, option, pair, bytes, atMost, blob, utf8, text, read, Is, optionChecks, sizedChecks}
 use Rattle.format.specs.Places.{readAt, presentAt}
 use Rattle.format.proofs.Meaning.{sound, least-le}
 use Rattle.format.proofs.Placed.{pair-at, option-at, askedAt, sized-at}
@@ -30,6 +31,14 @@ module _ (s : List ℕ) (at : ℕ) where
   pub block-done : (n : ℕ) → n ≤ length s - at → taken (at + n) ≡ readAt (bytes n) s at
   unfolding read
   block-done n h = rw (length-drop, le-leb n (length s - at) h)
+
+  -- it ends n bytes on, within the bytes
+  pub block-inside : (n : ℕ) {e : ℕ} → taken e ≡ readAt (bytes n) s at → 0 < n → (e ≡ at + n) × (e ≤ length s)
+  block-inside n h k =
+      let j = shift-taken at (read (bytes n) (drop at s)) (sym h) in
+      let u = sound (bytes n) (drop at s) (j .1) in
+      let l : length (take (j .0) (drop at s)) ≡ j .0 = length-take-le (j .0) (drop at s) (u .0) in
+      (omega (arith, u .1 .0, j .2), omega (arith, u .0, u .1 .0, length-drop at s, j .2))
 
   -- ---- one piece after another
 
@@ -90,51 +99,80 @@ module _ (s : List ℕ) (at : ℕ) where
   unfolding read
   sized-short w checks ask h = rw (length-drop, lt-leb w (length s - at) h) (ap (refused SHAPE) (omega arith))
 
-  module _ (w most n : ℕ) (e : n ≡ leAt w s at) (i : w ≤ length s - at) where
+  -- the length is there, and says n
+  module _ (w n : ℕ) (checks : ℕ → Checks) (e : n ≡ leAt w s at) (i : w ≤ length s - at) where
     number : leAt w (drop at s) 0 ≡ n
     number = leAt-here w s at ∙ sym e
 
-    pub blob-big : most < n → refused LIMIT at ≡ readAt (blob w most) s at
+    -- its first check fails, at the length itself
+    pub sized-bad : (m : ℕ) (b : Bool) (more : Checks) → checks n ≡ (b, m, 0) ∷ more → b ≡ false → refused m at ≡ readAt (sized w checks any) s at
     unfolding read
-    blob-big h = rw (number, length-drop, le-leb w (length s - at) i, lt-leb n most h) (ap (refused LIMIT) (omega arith))
+    sized-bad m b more k h = rw (number, length-drop, le-leb w (length s - at) i, k, h) (ap (refused m) (omega arith))
 
-    pub blob-cut : n ≤ most → length s - (at + w) < n → refused SHAPE (at + w) ≡ readAt (blob w most) s at
-    unfolding read
-    blob-cut h k = rw (number, length-drop, le-leb w (length s - at) i, le-leb n most h, lt-leb n (length s - at - w) (omega arith))
+    module _ (k : Pass (checks n)) where
+      -- the checks of the whole piece: its length's, and that its bytes fit
+      passed : checked (sizedChecks w checks (drop at s)) (taken (w + leAt w (drop at s) 0)) ≡ checked ((leb n (length s - at - w), SHAPE, w) ∷ []) (taken (w + n))
+      passed =
+          rw (number, length-drop, le-leb w (length s - at) i)
+          (checked-append (checks n) ((leb n (length s - at - w), SHAPE, w) ∷ []) (taken (w + n)) ∙ pass-checked (checks n) (checked ((leb n (length s - at - w), SHAPE, w) ∷ []) (taken (w + n))) k)
 
-    pub blob-done : n ≤ most → n ≤ length s - (at + w) → taken (at + w + n) ≡ readAt (blob w most) s at
-    unfolding read
-    blob-done h k = rw (number, length-drop, le-leb w (length s - at) i, le-leb n most h, le-leb n (length s - at - w) (omega arith)) (ap taken (omega arith))
+      pub sized-cut : length s - (at + w) < n → refused SHAPE (at + w) ≡ readAt (sized w checks any) s at
+      unfolding read
+      sized-cut h = rw (passed, lt-leb n (length s - at - w) (omega arith))
 
-  -- what is asked of the bytes of a sized piece
-  module _ (w : ℕ) (checks : ℕ → Checks) (ask : Asks) where
-    then-asked : {r : Outcome ℕ} → r ≡ readAt (sized w checks any) s at → after r (askedAt ask s (at + w)) ≡ readAt (sized w checks ask) s at
-    then-asked h = sym (sized-at w checks ask s at ∙ ap (λ (r : Outcome ℕ). after r (askedAt ask s (at + w))) (sym h))
+      pub sized-whole : n ≤ length s - (at + w) → taken (at + w + n) ≡ readAt (sized w checks any) s at
+      unfolding read
+      sized-whole h = rw (passed, le-leb n (length s - at - w) (omega arith)) (ap taken (omega arith))
 
-    pub sized-stop : {a b : ℕ} → refused a b ≡ readAt (sized w checks any) s at → refused a b ≡ readAt (sized w checks ask) s at
-    sized-stop h = then-asked h
+  -- the length stands before the piece's end, and that within the bytes
+  pub sized-inside : (w : ℕ) (checks : ℕ → Checks) (ask : Asks) {e : ℕ} → taken e ≡ readAt (sized w checks ask) s at → 0 < w → (at + w ≤ e) × (e ≤ length s)
+  sized-inside w checks ask {e} h k =
+      let f : Format = sized w checks ask in
+      let j = shift-taken at (read f (drop at s)) (sym h) in
+      let u = sound f (drop at s) (j .1) in
+      let l : w ≤ j .0 = omega (arith, least-le f (take (j .0) (drop at s)) (u .1), length-take (j .0) (drop at s)) in
+      let m : j .0 ≤ length s - at = omega (arith, u .0, length-drop at s) in
+      (omega (arith, j .2), omega (arith, j .2))
 
-    pub sized-done : {e : ℕ} → taken e ≡ readAt (sized w checks any) s at → taken tt ≡ ask (take (e - (at + w)) (drop (at + w) s)) → taken e ≡ readAt (sized w checks ask) s at
-    sized-done {e} h k = ap (λ (r : Outcome (Unit {0})). after (moved (at + w) r) (λ _. taken e)) k ∙ then-asked h
+  -- and the length passed its checks
+  pub sized-passes : (w : ℕ) (checks : ℕ → Checks) (ask : Asks) {e : ℕ} → taken e ≡ readAt (sized w checks ask) s at → Pass (checks (e - (at + w)))
+  sized-passes w checks ask {e} h =
+      let f : Format = sized w checks ask in
+      let j = shift-taken at (read f (drop at s)) (sym h) in
+      let u = sound f (drop at s) (j .1) in
+      go (j .0) (j .2) (u .0) (u .1)
+    where
+      go : (j : ℕ) → e ≡ at + j → j ≤ length (drop at s) → Is (sized w checks ask) (take j (drop at s)) → Pass (checks (e - (at + w)))
+      go j q l (x, y, r, i, n, k, m) =
+          let a : length (take j (drop at s)) ≡ length x + length y = ap length r ∙ length-append x y in
+          let b : e - (at + w) ≡ length y = omega (arith, length-take-le j (drop at s) l) in
+          rw b k
 
-    pub sized-fault : {e a b : ℕ} → taken e ≡ readAt (sized w checks any) s at → refused a b ≡ ask (take (e - (at + w)) (drop (at + w) s)) → refused a (at + w + b) ≡ readAt (sized w checks ask) s at
-    sized-fault {e} h k = ap (λ (r : Outcome (Unit {0})). after (moved (at + w) r) (λ _. taken e)) k ∙ then-asked h
+-- ---- what is asked of bytes that were found
 
-    -- the length stands before the piece's end, and that within the bytes
-    pub sized-inside : {e : ℕ} → taken e ≡ readAt (sized w checks ask) s at → 0 < w → (at + w ≤ e) × (e ≤ length s)
-    sized-inside {e} h k =
-        let f : Format = sized w checks ask in
-        let j = shift-taken at (read f (drop at s)) (sym h) in
-        let u = sound f (drop at s) (j .1) in
-        let l : w ≤ j .0 = omega (arith, least-le f (take (j .0) (drop at s)) (u .1), length-take (j .0) (drop at s)) in
-        let m : j .0 ≤ length s - at = omega (arith, u .0, length-drop at s) in
-        (omega (arith, j .2), omega (arith, j .2))
+-- `plain` is the reading with nothing asked of the bytes from b on, `whole` the reading with it
+module _ (ask : Asks) (s : List ℕ) (b : ℕ) {plain whole : Outcome ℕ} (split : whole ≡ after plain (askedAt ask s b)) where
+  then-asked : {r : Outcome ℕ} → r ≡ plain → after r (askedAt ask s b) ≡ whole
+  then-asked h = sym (split ∙ ap (λ (r : Outcome ℕ). after r (askedAt ask s b)) (sym h))
 
-  -- ---- a text
+  pub asked-stop : {m p : ℕ} → refused m p ≡ plain → refused m p ≡ whole
+  asked-stop h = then-asked h
 
-  module _ (most : ℕ) {e : ℕ} (h : taken e ≡ readAt (blob 4 most) s at) where
-    pub text-done : isText (take (e - (at + 4)) (drop (at + 4) s)) ≡ true → taken e ≡ readAt (text most) s at
-    text-done k = sized-done 4 (atMost most) utf8 h (sym (ap (λ (b : Bool). checked ((b, TEXT, 0) ∷ []) (taken tt)) k))
+  module _ {e : ℕ} (h : taken e ≡ plain) where
+    pub asked-done : taken tt ≡ ask (take (e - b) (drop b s)) → taken e ≡ whole
+    asked-done k = ap (λ (r : Outcome (Unit {0})). after (moved b r) (λ _. taken e)) k ∙ then-asked h
 
-    pub text-fault : isText (take (e - (at + 4)) (drop (at + 4) s)) ≡ false → refused TEXT (at + 4) ≡ readAt (text most) s at
-    text-fault k = ap (refused TEXT) (omega arith) ∙ sized-fault 4 (atMost most) utf8 h (sym (ap (λ (b : Bool). checked ((b, TEXT, 0) ∷ []) (taken tt)) k))
+    pub asked-fault : {m p : ℕ} → refused m p ≡ ask (take (e - b) (drop b s)) → refused m (b + p) ≡ whole
+    asked-fault k = ap (λ (r : Outcome (Unit {0})). after (moved b r) (λ _. taken e)) k ∙ then-asked h
+
+-- ---- a text
+
+module _ (s : List ℕ) (at most : ℕ) {e : ℕ} (h : taken e ≡ readAt (blob 4 most) s at) where
+  told : {t : Bool} → isText (take (e - (at + 4)) (drop (at + 4) s)) ≡ t → checked ((t, TEXT, 0) ∷ []) (taken tt) ≡ utf8 (take (e - (at + 4)) (drop (at + 4) s))
+  told k = sym (ap (λ (b : Bool). checked ((b, TEXT, 0) ∷ []) (taken tt)) k)
+
+  pub text-done : isText (take (e - (at + 4)) (drop (at + 4) s)) ≡ true → taken e ≡ readAt (text most) s at
+  text-done k = asked-done utf8 s (at + 4) (sized-at 4 (atMost most) utf8 s at) h (told k)
+
+  pub text-fault : isText (take (e - (at + 4)) (drop (at + 4) s)) ≡ false → refused TEXT (at + 4) ≡ readAt (text most) s at
+  text-fault k = ap (refused TEXT) (omega arith) ∙ asked-fault utf8 s (at + 4) (sized-at 4 (atMost most) utf8 s at) h (told k)

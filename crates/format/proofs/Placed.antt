@@ -7,9 +7,10 @@ use Prim.Native.Nat.{ℕ, _+_, _-_, _≤_}
 use native.Mathlib.Omega.{arith}
 use lib.ListN.{length, take, drop, length-drop}
 use lib.Seq.{drop-drop}
-use lib.Dec.{eqb}
+use lib.Dec.{leb, eqb}
+use Rattle.answer.specs.Numbers.{SHAPE}
 use Rattle.answer.specs.Outcome.{Outcome, taken, refused, Checks, checked, after, moved, shift}
-use Rattle.answer.proofs.Outcomes.{shift-taken, shift-zero, shift-shift}
+use Rattle.answer.proofs.Outcomes.{shift-taken, shift-zero, shift-shift, after-shift}
 use Rattle.wire.specs.Numbers.{leAt}
 use Rattle.format.specs.Format.{Asks, any, Format, block, sized, option, pair, sizedChecks, optionChecks, read}
 use Rattle.format.specs.Places.{readAt, presentAt}
@@ -59,9 +60,26 @@ option-at f s at = through at (elim (eqb n 0) [ true ↦ taken 1 | false ↦ shi
     go true = refl
     go false = shift-shift at 1 (read f (drop 1 b)) ∙ ap (λ (l : List ℕ). shift (at + 1) (read f l)) (drop-drop 1 at s)
 
--- what is asked of the bytes behind a length, at their own place
+-- what is asked of the bytes from b to e, at their own place
 abbrev pub askedAt : Asks → List ℕ → ℕ → ℕ → Outcome ℕ
 askedAt ask s b e = after (moved b (ask (take (e - b) (drop b s)))) (λ _. taken e)
+
+-- a block is its bytes, and then what is asked of them
+pub block-at : (n : ℕ) (ask : Asks) (s : List ℕ) (at : ℕ) → readAt (block n ask) s at ≡ after (readAt (block n any) s at) (askedAt ask s at)
+unfolding read
+block-at n ask s at =
+    through at (after (ask y) (λ _. taken n)) (taken n) (λ e. askedAt ask s at (at + e)) ((leb n (length (drop at s)), SHAPE, 0) ∷ []) (same (ask y) ∙ ap (λ (k : ℕ). after (moved at (ask (take k (drop at s)))) (λ _. taken (at + n))) (sym part))
+    ∙ sym (after-shift at (checked ((leb n (length (drop at s)), SHAPE, 0) ∷ []) (taken n)) (askedAt ask s at))
+  where
+    y : List ℕ
+    y = take n (drop at s)
+
+    part : at + n - at ≡ n
+    part = omega arith
+
+    same : (r : Outcome (Unit {0})) → shift at (after r (λ _. taken n)) ≡ after (moved at r) (λ _. taken (at + n))
+    same (taken u) = refl
+    same (refused a p) = refl
 
 -- a sized piece is the same with nothing asked of its bytes, and then what is asked of them
 pub sized-at : (w : ℕ) (checks : ℕ → Checks) (ask : Asks) (s : List ℕ) (at : ℕ)
@@ -70,7 +88,7 @@ unfolding read
 sized-at w checks ask s at =
     through at (after (moved w (ask y)) (λ _. taken (w + n))) (taken (w + n)) (λ e. askedAt ask s (at + w) (at + e)) (sizedChecks w checks b)
     (same (ask y) ∙ ap (λ (z : List ℕ). after (moved (at + w) (ask z)) (λ _. taken (at + (w + n)))) (sym part))
-    ∙ sym (back (checked (sizedChecks w checks b) (taken (w + n))))
+    ∙ sym (after-shift at (checked (sizedChecks w checks b) (taken (w + n))) (askedAt ask s (at + w)))
   where
     b : List ℕ
     b = drop at s
@@ -89,7 +107,3 @@ sized-at w checks ask s at =
     same : (r : Outcome (Unit {0})) → shift at (after (moved w r) (λ _. taken (w + n))) ≡ after (moved (at + w) r) (λ _. taken (at + (w + n)))
     same (taken u) = refl
     same (refused a p) = ap (refused a) (omega arith)
-
-    back : (r : Outcome ℕ) → after (shift at r) (askedAt ask s (at + w)) ≡ after (moved at r) (λ e. askedAt ask s (at + w) (at + e))
-    back (taken e) = refl
-    back (refused a p) = refl

@@ -13,10 +13,10 @@ use Rattle.utf8.specs.declared.Found.the-variants.{Whole, Broken}
 use Rattle.utf8.specs.Grammar.{In, Text, none, Begins, Breaks}
 use Rattle.utf8.specs.Scan.{afterOf, onward, scanFrom, scan}
 use Rattle.utf8.proofs.Table.{picked, by-rows}
-use Rattle.utf8.proofs.Whole.{Rest, done, byte, never, rest-whole, text-goes, whole-text, text-whole}
+use Rattle.utf8.proofs.Whole.{Rest, done, byte, never, rest-whole, text-passed, whole-text, text-whole}
 
 -- ---- broken, so no text continues there
--- bounds between which a byte lies
+-- the bounds of the next byte leave room for one
 abbrev Open : Step → Type 0
 Open (Next n lo hi) = lo ≤ hi
 Open Stop = Unit {0}
@@ -33,12 +33,7 @@ fill (suc n) lo hi h =
     let i : In lo hi lo = record { low = omega arith; high = h } in
     (lo ∷ r .0, byte i (r .1))
 
-filled : (n lo hi i : ℕ) → lo ≤ hi → (u : List ℕ) × (scanFrom n lo hi i u ≡ Whole)
-filled n lo hi i h =
-    let r = fill n lo hi h in
-    (r .0 ++ [], rest-whole [] (r .1) (text-goes none) i)
-
--- the scan from place i on is broken at k, d bytes further: some bytes in place of those from there on make it whole, and none after the byte there
+-- the scan from place i on is broken at k, d bytes further: with some bytes for those from there on it is whole, and with none after the byte there
 record Broke (n lo hi i : ℕ) (s : List ℕ) (k : ℕ) : Type 0 where
   d : ℕ
   place : i + d ≡ k
@@ -46,21 +41,27 @@ record Broke (n lo hi i : ℕ) (s : List ℕ) (k : ℕ) : Type 0 where
   continues : (u : List ℕ) × (scanFrom n lo hi i (take d s ++ u) ≡ Whole)
   stops : d < length s → (u : List ℕ) → scanFrom n lo hi i (take (suc d) s ++ u) ≡ Broken k
 
-same : {i k : ℕ} → Broken i ≡ Broken k → i ≡ k
-same e = cc
+-- broken at i itself
+broke-here : (n lo hi i k : ℕ) (s : List ℕ) → lo ≤ hi → Broken i ≡ Broken k
+    → (0 < length s → (u : List ℕ) → scanFrom n lo hi i (take 1 s ++ u) ≡ Broken k) → Broke n lo hi i s k
+broke-here n lo hi i k s ok e h =
+    let p : i ≡ k = cc in
+    let r = fill n lo hi ok in
+    record {
+      d = 0;
+      place = omega arith;
+      within = omega arith;
+      continues = (r .0 ++ [], rest-whole [] (r .1) (text-passed none) i);
+      stops = h;
+    }
 
 -- one byte more, by what the scan says after it
-module _ (n lo hi i k b : ℕ) (s : List ℕ) (ok : lo ≤ hi) (go : (l a z : ℕ) → a ≤ z → scanFrom l a z (suc i) s ≡ Broken k → Broke l a z (suc i) s k) where
-  broke-onward : (st : Step) → afterOf n lo hi b ≡ st → Open st → onward st i (λ l a z. scanFrom l a z (suc i) s) ≡ Broken k → Broke n lo hi i (b ∷ s) k
+module _ (n lo hi i k b : ℕ) (s : List ℕ) (ok : lo ≤ hi)
+    (go : (l a z : ℕ) → a ≤ z → scanFrom l a z (suc i) s ≡ Broken k → Broke l a z (suc i) s k) where
+  broke-onward : (st : Step) → afterOf n lo hi b ≡ st → Open st
+      → onward st i (λ l a z. scanFrom l a z (suc i) s) ≡ Broken k → Broke n lo hi i (b ∷ s) k
   unfolding scanFrom
-  broke-onward Stop q o e =
-      record {
-        d = 0;
-        place = omega (arith, same e);
-        within = omega arith;
-        continues = filled n lo hi i ok;
-        stops = λ h u. rw q e;
-      }
+  broke-onward Stop q o e = broke-here n lo hi i k (b ∷ s) ok e (λ h u. rw q e)
   broke-onward (Next l a z) q o e =
       let p = go l a z o e in
       record {
@@ -74,14 +75,7 @@ module _ (n lo hi i k b : ℕ) (s : List ℕ) (ok : lo ≤ hi) (go : (l a z : �
 broke : (s : List ℕ) (n lo hi i k : ℕ) → lo ≤ hi → scanFrom n lo hi i s ≡ Broken k → Broke n lo hi i s k
 unfolding scanFrom
 broke [] zero lo hi i k ok e = absurd (never e)
-broke [] (suc n) lo hi i k ok e =
-    record {
-      d = 0;
-      place = omega (arith, same e);
-      within = omega arith;
-      continues = filled (suc n) lo hi i ok;
-      stops = λ h. absurd (omega arith);
-    }
+broke [] (suc n) lo hi i k ok e = broke-here (suc n) lo hi i k [] ok e (λ h. absurd (omega arith))
 broke (b ∷ s) n lo hi i k ok e =
     broke-onward n lo hi i k b s ok (λ l a z o. broke s l a z (suc i) k o) (afterOf n lo hi b) refl (opens n lo hi b) e
 

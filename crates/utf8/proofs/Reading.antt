@@ -2,7 +2,7 @@
 use Prim.Native.Nat.{ℕ}
 use mathlib.Core.Path.{_≡_, refl, sym, _∙_, ap}
 use mathlib.Core.List.{List}
-use mathlib.Core.Bool.{Bool, true, false}
+use mathlib.Core.Bool.{true, false}
 use native.Mathlib.Omega.{arith}
 use Rattle.utf8.specs.declared.Found.{Found}
 use Rattle.utf8.specs.declared.Found.the-variants.{Whole, Broken}
@@ -32,7 +32,13 @@ is-text s e = go (scan s) refl e
     go Whole p q = whole-text s p
     go (Broken k) p q = absurd (let z : _≡_ {A = ℕ} 0 1 = cc in omega arith)
 
--- the test, from the answer of `text`
+-- ---- the test, from an answer of `text`
 pub reads-is : {s : List ℕ} {r : Found} → Reads s r → isText s ≡ isWhole r
 unfolding isText
 reads-is h = ap isWhole (sym (reads-scan h))
+
+pub whole-is : {s : List ℕ} {r : Found} → Reads s r → r ≡ Whole → isText s ≡ true
+whole-is h e = reads-is h ∙ ap isWhole e
+
+pub broken-is : {s : List ℕ} {r : Found} {k : ℕ} → Reads s r → r ≡ Broken k → isText s ≡ false
+broken-is h e = reads-is h ∙ ap isWhole e

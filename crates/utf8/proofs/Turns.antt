@@ -11,13 +11,12 @@ use lib.ListN.{length, getD, take, drop, length-drop, drop-of-length-le, take-ap
 use lib.Seq.{drop-cons, drop-drop, length-take-le}
 use borrow.Author.Count.{below-more}
 use borrow.Author.Tests.{ltb-true, ltb-false}
-use Rattle.utf8.specs.declared.Step.{Step}
 use Rattle.utf8.specs.declared.Step.the-variants.{Next, Stop}
 use Rattle.utf8.specs.declared.Found.{Found}
 use Rattle.utf8.specs.declared.Found.the-variants.{Whole, Broken}
 use Rattle.utf8.specs.Grammar.{In}
 use Rattle.utf8.specs.Scan.{leadOf, afterOf, onward, ended, scanFrom, scan}
-use Rattle.utf8.specs.Steps.{AtMost, scanAt, Passes, Rest, there, breaks}
+use Rattle.utf8.specs.Steps.{AtMost, scanAt, Passes, Ends, ends, breaks}
 use Rattle.utf8.proofs.Table.{in-among, out-among, hit}
 use Rattle.utf8.proofs.Whole.{never}
 
@@ -91,16 +90,20 @@ pub record Came (s : List ℕ) (i₀ left₀ lo₀ hi₀ i left lo hi : ℕ) : T
   pub same : scanAt s i₀ left₀ lo₀ hi₀ ≡ scanAt s i left lo hi
 
 module _ {s : List ℕ} {i₀ left₀ lo₀ hi₀ i left lo hi : ℕ} (c : Came s i₀ left₀ lo₀ hi₀ i left lo hi) where
-  pub came-whole : left ≡ 0 → Rest s i₀ left₀ lo₀ hi₀ Whole
+  pub came-whole : left ≡ 0 → Ends s i₀ left₀ lo₀ hi₀ Whole
   came-whole e =
       let q : i ≡ i₀ + left₀ = omega (arith, c .count) in
-      there (record { onward = omega arith; within = omega (arith, c .within); same = c .same ∙ rw (q, e) (fresh lo hi (i₀ + left₀) (drop (i₀ + left₀) s)) })
+      ends (record {
+        after = omega arith;
+        within = omega (arith, c .within);
+        same = c .same ∙ rw (q, e) (fresh lo hi (i₀ + left₀) (drop (i₀ + left₀) s));
+      })
 
   module _ (more : 0 < left) where
-    pub came-end : length s ≤ i → Rest s i₀ left₀ lo₀ hi₀ (Broken i)
+    pub came-end : length s ≤ i → Ends s i₀ left₀ lo₀ hi₀ (Broken i)
     came-end h = breaks (c .same ∙ at-end s i left lo hi h ∙ ended-within left i more)
 
-    pub came-out : i < length s → (lo ≤ getD s i 0 → hi < getD s i 0) → Rest s i₀ left₀ lo₀ hi₀ (Broken i)
+    pub came-out : i < length s → (lo ≤ getD s i 0 → hi < getD s i 0) → Ends s i₀ left₀ lo₀ hi₀ (Broken i)
     came-out h o = breaks {k = i} (c .same ∙ rw (turn s i left lo hi h, after-out left lo hi (getD s i 0) more o))
 
     pub came-in : i < length s → In lo hi (getD s i 0) → Came s i₀ left₀ lo₀ hi₀ (i + 1) (left - 1) 0x80 0xBF
@@ -114,22 +117,23 @@ module _ {s : List ℕ} {i₀ left₀ lo₀ hi₀ i left lo hi : ℕ} (c : Came 
 -- ---- the loop over the characters
 module _ {s : List ℕ} where
   pub passes-here : (i : ℕ) → i ≤ length s → Passes s i 0 0x80 0xBF i
-  passes-here i h = record { onward = omega arith; within = h; same = refl }
+  passes-here i h = record { after = omega arith; within = h; same = refl }
 
   pub passes-then : {i left lo hi j k : ℕ} → Passes s i left lo hi j → Passes s j 0 0x80 0xBF k → Passes s i left lo hi k
-  passes-then p q = record { onward = omega (arith, p .onward, q .onward); within = q .within; same = p .same ∙ q .same }
+  passes-then p q = record { after = omega (arith, p .after, q .after); within = q .within; same = p .same ∙ q .same }
 
-  pub passes-first : {i left lo hi j : ℕ} → i < length s → leadOf (getD s i 0) ≡ Next left lo hi → Passes s (i + 1) left lo hi j → Passes s i 0 0x80 0xBF j
+  pub passes-first : {i left lo hi j : ℕ} → i < length s → leadOf (getD s i 0) ≡ Next left lo hi → Passes s (i + 1) left lo hi j
+      → Passes s i 0 0x80 0xBF j
   passes-first {i} {left} {lo} {hi} h e p =
-      record { onward = omega (arith, p .onward); within = p .within; same = first-next s i h left lo hi e ∙ p .same }
+      record { after = omega (arith, p .after); within = p .within; same = first-next s i h left lo hi e ∙ p .same }
 
-  pub rest-passes : {i left lo hi : ℕ} {r : Found} → Rest s i left lo hi r → r ≡ Whole → Passes s i left lo hi (i + left)
-  rest-passes (there p) e = p
-  rest-passes (breaks q) e = absurd (never (sym e))
+  pub ends-passes : {i left lo hi : ℕ} {r : Found} → Ends s i left lo hi r → r ≡ Whole → Passes s i left lo hi (i + left)
+  ends-passes (ends p) e = p
+  ends-passes (breaks q) e = absurd (never (sym e))
 
-  pub rest-breaks : {i left lo hi k : ℕ} {r : Found} → Rest s i left lo hi r → r ≡ Broken k → scanAt s i left lo hi ≡ Broken k
-  rest-breaks (there p) e = absurd (never e)
-  rest-breaks (breaks q) e = q ∙ e
+  pub ends-breaks : {i left lo hi k : ℕ} {r : Found} → Ends s i left lo hi r → r ≡ Broken k → scanAt s i left lo hi ≡ Broken k
+  ends-breaks (ends p) e = absurd (never e)
+  ends-breaks (breaks q) e = q ∙ e
 
   module _ {i : ℕ} (p : Passes s 0 0 0x80 0xBF i) where
     scan-at : scan s ≡ scanAt s i 0 0x80 0xBF
@@ -142,7 +146,8 @@ module _ {s : List ℕ} where
     pub walk-stop : i < length s → leadOf (getD s i 0) ≡ Stop → Broken i ≡ scan s
     walk-stop h e = sym (scan-at ∙ first-stop s i h e)
 
-    pub walk-broken : {left lo hi k : ℕ} → i < length s → leadOf (getD s i 0) ≡ Next left lo hi → scanAt s (i + 1) left lo hi ≡ Broken k → Broken k ≡ scan s
+    pub walk-broken : {left lo hi k : ℕ} → i < length s → leadOf (getD s i 0) ≡ Next left lo hi
+        → scanAt s (i + 1) left lo hi ≡ Broken k → Broken k ≡ scan s
     walk-broken {left} {lo} {hi} h e b = sym (scan-at ∙ first-next s i h left lo hi e ∙ b)
 
 -- ---- a run of plain bytes
@@ -159,7 +164,7 @@ run-passes s i j top a z h m =
     let l : j - i ≤ length (drop i s) = rw length-drop (omega arith) in
     let e = run (take (j - i) (drop i s)) (drop (j - i) (drop i s)) i top h m in
     record {
-      onward = a;
+      after = a;
       within = z;
       same = rw (take-append-drop, length-take-le (j - i) (drop i s) l, drop-drop, q) at e;
     }

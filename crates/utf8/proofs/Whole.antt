@@ -5,7 +5,6 @@ use mathlib.Core.List.{List, [], _∷_, _++_}
 use native.Mathlib.Omega.{arith}
 use Rattle.utf8.specs.declared.Step.{Step}
 use Rattle.utf8.specs.declared.Step.the-variants.{Next, Stop}
-use Rattle.utf8.specs.declared.Found.{Found}
 use Rattle.utf8.specs.declared.Found.the-variants.{Whole, Broken}
 use Rattle.utf8.specs.Grammar.{In, Char, utf8-1, utf8-2, utf8-3a, utf8-3b, utf8-3c, utf8-3d, utf8-4a, utf8-4b, utf8-4c, Text, none, more}
 use Rattle.utf8.specs.Scan.{leadOf, afterOf, onward, scanFrom, scan}
@@ -31,6 +30,7 @@ abbrev Makes : ℕ → Step → Type 0
 Makes b (Next n lo hi) = All n lo hi (λ t. Char (b ∷ t))
 Makes b Stop = Unit {0}
 
+-- a pair: rows below one another, where brackets would nest
 infixr 5 _also_
 _also_ : {A B : Type 0} → A → B → A × B
 x also y = (x, y)
@@ -49,6 +49,7 @@ makes b =
     also (λ h _ i _ j _ k. utf8-4c h i j k)
     also tt)
 
+-- a first byte of the table, and what it lets follow
 data Led : List ℕ → Type 0 where
   leads : {a n lo hi : ℕ} {t : List ℕ} → leadOf a ≡ Next n lo hi → Rest n lo hi t → Led (a ∷ t)
 
@@ -71,13 +72,14 @@ never e = let z : _≡_ {A = ℕ} 0 1 = cc in omega arith
 data Goes (n lo hi : ℕ) : List ℕ → Type 0 where
   goes : {h t : List ℕ} → Rest n lo hi h → Text t → Goes n lo hi (h ++ t)
 
+-- a first byte before that, and a later one
 begun : {lo hi b n a z : ℕ} {s : List ℕ} → All n a z (λ t. Char (b ∷ t)) → Goes n a z s → Goes 0 lo hi (b ∷ s)
 begun {b = x} m (goes r t) = goes done (more (one-of (λ h. Char (x ∷ h)) r m) t)
 
 grown : {n lo hi b : ℕ} {s : List ℕ} → In lo hi b → Goes n 0x80 0xBF s → Goes (suc n) lo hi (b ∷ s)
 grown h (goes r t) = goes (byte h r) t
 
--- b before what it lets follow
+-- one byte before what it lets follow, by what the scan says after it
 module _ (lo hi b : ℕ) (s : List ℕ) where
   Grows : ℕ → Step → Type 0
   Grows n (Next l a z) = Goes l a z s → Goes n lo hi (b ∷ s)
@@ -93,7 +95,8 @@ module _ (lo hi b : ℕ) (s : List ℕ) where
   grows zero = first (leadOf b) (makes b)
   grows (suc n) = picked lo hi b (Grows (suc n)) grown tt
 
-  whole-onward : (n i : ℕ) (go : (l a z : ℕ) → scanFrom l a z (suc i) s ≡ Whole → Goes l a z s) (st : Step) → Grows n st → onward st i (λ l a z. scanFrom l a z (suc i) s) ≡ Whole → Goes n lo hi (b ∷ s)
+  whole-onward : (n i : ℕ) (go : (l a z : ℕ) → scanFrom l a z (suc i) s ≡ Whole → Goes l a z s) (st : Step) → Grows n st
+      → onward st i (λ l a z. scanFrom l a z (suc i) s) ≡ Whole → Goes n lo hi (b ∷ s)
   unfolding Grows
   whole-onward n i go (Next l a z) g e = g (go l a z e)
   whole-onward n i go Stop g e = absurd (never (sym e))
@@ -105,27 +108,31 @@ whole-goes [] (suc n) lo hi i e = absurd (never (sym e))
 whole-goes (b ∷ s) n lo hi i e =
     whole-onward lo hi b s n i (λ l a z. whole-goes s l a z (suc i)) (afterOf n lo hi b) (grows lo hi b s n) e
 
-ends : {lo hi : ℕ} {s : List ℕ} → Goes 0 lo hi s → Text s
-ends (goes done t) = t
+goes-text : {lo hi : ℕ} {s : List ℕ} → Goes 0 lo hi s → Text s
+goes-text (goes done t) = t
 
 pub whole-text : (s : List ℕ) → scan s ≡ Whole → Text s
 unfolding scan
-whole-text s e = ends (whole-goes s 0 0x80 0xBF 0 e)
+whole-text s e = goes-text (whole-goes s 0 0x80 0xBF 0 e)
 
 -- ---- made by the grammar, so whole
-pub rest-whole : {n lo hi : ℕ} {t : List ℕ} (u : List ℕ) → Rest n lo hi t → ((j lo′ hi′ : ℕ) → scanFrom 0 lo′ hi′ j u ≡ Whole) → (i : ℕ) → scanFrom n lo hi i (t ++ u) ≡ Whole
+-- the scan finds u whole from anywhere where a character begins
+abbrev pub Passed : List ℕ → Type 0
+Passed u = (i lo hi : ℕ) → scanFrom 0 lo hi i u ≡ Whole
+
+pub rest-whole : {n lo hi : ℕ} {t : List ℕ} (u : List ℕ) → Rest n lo hi t → Passed u → (i : ℕ) → scanFrom n lo hi i (t ++ u) ≡ Whole
 unfolding scanFrom afterOf
 rest-whole u done k i = k i _ _
 rest-whole u (byte h r) k i = rw (in-among h) (rest-whole u r k (suc i))
 
-pub text-goes : {s : List ℕ} → Text s → (i lo hi : ℕ) → scanFrom 0 lo hi i s ≡ Whole
+pub text-passed : {s : List ℕ} → Text s → Passed s
 unfolding scanFrom afterOf
-text-goes none i lo hi = refl
-text-goes (more {t = u} c t) i lo hi = go (led c) (λ j a z. text-goes t j a z)
+text-passed none i lo hi = refl
+text-passed (more {t = u} c t) i lo hi = go (led c) (λ j a z. text-passed t j a z)
   where
-    go : {c : List ℕ} → Led c → ((j lo′ hi′ : ℕ) → scanFrom 0 lo′ hi′ j u ≡ Whole) → scanFrom 0 lo hi i (c ++ u) ≡ Whole
+    go : {c : List ℕ} → Led c → Passed u → scanFrom 0 lo hi i (c ++ u) ≡ Whole
     go (leads q r) k = rw q (rest-whole u r k (suc i))
 
 pub text-whole : {s : List ℕ} → Text s → scan s ≡ Whole
 unfolding scan
-text-whole t = text-goes t 0 0x80 0xBF
+text-whole t = text-passed t 0 0x80 0xBF

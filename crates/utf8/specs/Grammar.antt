@@ -1,4 +1,5 @@
--- UTF-8 as the grammar of RFC 3629, section 4, one constructor for each alternative in the RFC's order, and the place at which bytes cease to follow it. Assumes nothing.
+-- UTF-8 as the grammar of RFC 3629, section 4, one constructor for each alternative in the RFC's order;
+-- and the place at which bytes cease to follow it. Assumes nothing.
 use Prim.Native.Nat.{ℕ, _+_, _≤_, _<_}
 use mathlib.Core.List.{List, [], _∷_, _++_}
 use lib.ListN.{length, take}
@@ -40,15 +41,15 @@ pub record Begins (p : List ℕ) : Type 0 where
   pub rest : List ℕ
   pub text : Text (p ++ rest)
 
--- s is no text, and k is the first place at which none continues: some text begins with the first k bytes, and none with the byte at k as well.
--- Where s ends before its last character does, there is no such byte, and k is the length.
+-- s is no text, and k is the first place at which none continues: some text begins with the first k bytes, and none with those
+-- and the byte at k. Where s ends within a character there is no such byte, and k is the length.
 pub record Breaks (s : List ℕ) (k : ℕ) : Type 0 where
   pub wrong : Text s → ⊥
   pub within : k ≤ length s
   pub continues : Begins (take k s)
   pub stops : k < length s → Begins (take (k + 1) s) → ⊥
 
--- The right answer for s: whole for a text, else where it breaks.
+-- The right answer for s: whole if it is a text, else broken where it breaks.
 pub data Reads (s : List ℕ) : Found → Type 0 where
   whole : Text s → Reads s Whole
   broken : {k : ℕ} → Breaks s k → Reads s (Broken k)

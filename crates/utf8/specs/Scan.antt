@@ -1,4 +1,5 @@
--- The grammar as a scan that can be run: after each byte, how many bytes of the character are to come and between what the next one lies. Assumes nothing.
+-- The grammar as a scan that can be run: after each byte, how many bytes of its character are to come and between what the
+-- next one lies. Assumes nothing.
 use Prim.Native.Nat.{ℕ, zero, suc}
 use mathlib.Core.List.{List, [], _∷_}
 use mathlib.Core.Bool.{Bool, true, false, cond, _&&_}
@@ -14,6 +15,7 @@ pub record Row : Type 0 where
   pub to : ℕ
   pub next : Step
 
+-- A row on one line.
 abbrev row : ℕ → ℕ → Step → Row
 row a z n = record { from = a; to = z; next = n }
 
@@ -40,33 +42,35 @@ abbrev pub lookup : List Row → ℕ → Step
 lookup [] b = Stop
 lookup (r ∷ rs) b = cond (among (r .from) (r .to) b) (r .next) (lookup rs b)
 
--- What a first byte lets follow.
+-- What b lets follow as the first byte of a character.
 unfoldable pub leadOf : ℕ → Step
 leadOf b = lookup rows b
 
--- One byte more: the first of a character, or one that has to lie between lo and hi.
+-- What b lets follow where so many bytes of a character are to come, the next of them between lo and hi.
 unfoldable pub afterOf : ℕ → ℕ → ℕ → ℕ → Step
 afterOf zero lo hi b = leadOf b
 afterOf (suc n) lo hi b = cond (among lo hi b) (Next n 0x80 0xBF) Stop
 
--- The end of the bytes at place i: within a character they are broken there.
+-- The bytes end at place i: within a character they break there.
 abbrev pub ended : ℕ → ℕ → Found
 ended zero i = Whole
 ended (suc n) i = Broken i
 
+-- The byte at place i lets something follow, and the scan goes on with that; or the bytes break there.
 abbrev pub onward : Step → ℕ → (ℕ → ℕ → ℕ → Found) → Found
 onward (Next left lo hi) i go = go left lo hi
 onward Stop i go = Broken i
 
--- The bytes from place i on, with so many of a character to come.
+-- The bytes from place i on, where so many of a character are to come.
 unfoldable pub scanFrom : ℕ → ℕ → ℕ → ℕ → List ℕ → Found
 scanFrom left lo hi i [] = ended left i
 scanFrom left lo hi i (b ∷ s) = onward (afterOf left lo hi b) i (λ l a z. scanFrom l a z (suc i) s)
 
--- A whole text, or the first place at which none continues.
+-- Whole, or broken at the first place at which no text continues.
 unfoldable pub scan : List ℕ → Found
 scan s = scanFrom 0 0x80 0xBF 0 s
 
+-- The answer is that the bytes are a text.
 abbrev pub isWhole : Found → Bool
 isWhole Whole = true
 isWhole (Broken k) = false

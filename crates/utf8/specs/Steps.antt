@@ -1,4 +1,4 @@
--- What the private functions of this crate say to each other; no caller needs it. Assumes nothing.
+-- What the private functions promise each other. Assumes nothing.
 use Prim.Native.Nat.{ℕ, _+_, _≤_}
 use mathlib.Core.Path.{_≡_}
 use mathlib.Core.List.{List}
@@ -11,17 +11,17 @@ use Rattle.utf8.specs.Scan.{scanFrom}
 abbrev pub AtMost : List ℕ → ℕ → Type 0
 AtMost s top = (k : ℕ) → getD s k 0 ≤ top
 
--- The scan of s from place i on, so many bytes of a character to come.
+-- The scan of s from place i on, where so many bytes of a character are to come.
 abbrev pub scanAt : List ℕ → ℕ → ℕ → ℕ → ℕ → Found
 scanAt s i left lo hi = scanFrom left lo hi i (drop i s)
 
--- The scan of s that stands at place i, so many bytes of a character to come, may go on at place j, where a character begins.
+-- That scan may as well go on at place j, where a character begins.
 pub record Passes (s : List ℕ) (i left lo hi j : ℕ) : Type 0 where
-  pub onward : i ≤ j
+  pub after : i ≤ j
   pub within : j ≤ length s
   pub same : scanAt s i left lo hi ≡ scanAt s j 0 0x80 0xBF
 
--- What becomes of the bytes of a character that are to come at place i: they are there, or the text breaks.
-pub data Rest (s : List ℕ) (i left lo hi : ℕ) : Found → Type 0 where
-  there : Passes s i left lo hi (i + left) → Rest s i left lo hi Whole
-  breaks : {k : ℕ} → scanAt s i left lo hi ≡ Broken k → Rest s i left lo hi (Broken k)
+-- The bytes that are to come at place i are all there, or the text breaks among them.
+pub data Ends (s : List ℕ) (i left lo hi : ℕ) : Found → Type 0 where
+  ends : Passes s i left lo hi (i + left) → Ends s i left lo hi Whole
+  breaks : {k : ℕ} → scanAt s i left lo hi ≡ Broken k → Ends s i left lo hi (Broken k)

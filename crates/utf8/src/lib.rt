@@ -1,24 +1,24 @@
-// UTF-8 as in RFC 3629, section 4: whether bytes are a text, and else the first place at which none continues.
+// UTF-8 as in RFC 3629: whether bytes are a text, and if not, the first place at which no text continues.
 ghost use mathlib.Core.Path.{_≡_};
 ghost use Prim.Native.Nat.{_≤_};
 ghost use lib.ListN.{length};
 ghost use Rattle.utf8.specs.Grammar.{Reads};
 ghost use Rattle.utf8.specs.Scan.{leadOf, scan};
-ghost use Rattle.utf8.specs.Steps.{AtMost, Passes, Rest};
+ghost use Rattle.utf8.specs.Steps.{AtMost, Passes, Ends};
 
-// The whole is a text, or the first place at which none continues (the length, where the last character is cut).
+// A text; or the first place at which none continues, which is the length where the last character is cut short.
 pub enum Found {
     Whole,
     Broken(usize),
 }
 
-// After a byte: how many bytes of its character are to come, and between what the next lies.
+// After a byte: how many bytes of its character are to come, and between what the next one lies.
 enum Step {
     Next(usize, u8, u8),
     Stop,
 }
 
-// The highest byte. One pass without a way out, so that it is done many bytes at a time.
+// The highest byte. The loop has no other way out, so that it compiles to vector instructions.
 fn highest(s: &[u8]) -> u8
     ensures { λ r. ⌜ AtMost (now (s .entry)) r ⌝ }
 {
@@ -34,28 +34,28 @@ fn highest(s: &[u8]) -> u8
     top
 }
 
-// What a first byte lets follow, by the alternatives of the RFC in its order.
+// What a first byte lets follow: the alternatives of the RFC, section 4, in its order.
 fn lead(b: u8) -> Step
     ensures { λ r. ⌜ r ≡ leadOf b ⌝ }
 {
     match b {
         0x00..=0x7F => Step::Next(0, 0x80, 0xBF),
         0xC2..=0xDF => Step::Next(1, 0x80, 0xBF),
-        0xE0..=0xE0 => Step::Next(2, 0xA0, 0xBF),
+        0xE0 => Step::Next(2, 0xA0, 0xBF),
         0xE1..=0xEC => Step::Next(2, 0x80, 0xBF),
-        0xED..=0xED => Step::Next(2, 0x80, 0x9F),
+        0xED => Step::Next(2, 0x80, 0x9F),
         0xEE..=0xEF => Step::Next(2, 0x80, 0xBF),
-        0xF0..=0xF0 => Step::Next(3, 0x90, 0xBF),
+        0xF0 => Step::Next(3, 0x90, 0xBF),
         0xF1..=0xF3 => Step::Next(3, 0x80, 0xBF),
-        0xF4..=0xF4 => Step::Next(3, 0x80, 0x8F),
+        0xF4 => Step::Next(3, 0x80, 0x8F),
         _ => Step::Stop,
     }
 }
 
-// The bytes of a character that are to come, the next of them between lo and hi.
+// Whether the bytes of a character that are to come at i are there, the next of them between lo and hi.
 fn rest(s: &[u8], mut i: usize, mut left: usize, mut lo: u8, mut hi: u8) -> Found
     requires { ⌜ i ≤ length (now s) ⌝ }
-    ensures { λ r. ⌜ Rest (now (s .entry)) i left lo hi r ⌝ }
+    ensures { λ r. ⌜ Ends (now (s .entry)) i left lo hi r ⌝ }
 {
     while 0 < left {
         if s.len() <= i {
@@ -76,14 +76,14 @@ fn rest(s: &[u8], mut i: usize, mut left: usize, mut lo: u8, mut hi: u8) -> Foun
     Found::Whole
 }
 
-// Past the blocks of 16 bytes from i on that have no byte above 0x7F, where a character begins at i.
-fn plain(s: &[u8], i: usize) -> usize
+// Past the blocks of 32 plain bytes (those below 0x80) from i on. A block is two vector registers, tested at once.
+fn blocks(s: &[u8], i: usize) -> usize
     requires { ⌜ i ≤ length (now s) ⌝ }
     ensures { λ r. ⌜ Passes (now (s .entry)) i 0 0x80 0xBF r ⌝ }
 {
     let mut at = i;
-    while 16 <= s.len() - at {
-        let end = at + 16;
+    while 32 <= s.len() - at {
+        let end = at + 32;
         if 0x80 <= highest(&s[at..end]) {
             return at;
         }
@@ -92,20 +92,36 @@ fn plain(s: &[u8], i: usize) -> usize
     at
 }
 
-// Character by character.
+// Past the plain bytes from i on: whole blocks first, then byte by byte.
+fn plain(s: &[u8], i: usize) -> usize
+    requires { ⌜ i ≤ length (now s) ⌝ }
+    ensures { λ r. ⌜ Passes (now (s .entry)) i 0 0x80 0xBF r ⌝ }
+{
+    let mut at = blocks(s, i);
+    while at < s.len() {
+        if 0x80 <= s[at] {
+            return at;
+        }
+        at += 1;
+    }
+    at
+}
+
+// Character by character, but for runs of plain bytes, which are characters by themselves.
 fn walk(s: &[u8]) -> Found
     ensures { λ r. ⌜ r ≡ scan (now (s .entry)) ⌝ }
 {
     let mut i = 0;
     while i < s.len() {
         let b = s[i];
+        let next = i + 1;
         if b < 0x80 {
-            i = plain(s, i + 1);
+            i = plain(s, next);
         } else {
             match lead(b) {
-                Step::Next(left, lo, hi) => match rest(s, i + 1, left, lo, hi) {
+                Step::Next(left, lo, hi) => match rest(s, next, left, lo, hi) {
                     Found::Whole => {
-                        i = i + 1 + left;
+                        i = next + left;
                     }
                     Found::Broken(k) => {
                         return Found::Broken(k);
@@ -120,7 +136,7 @@ fn walk(s: &[u8]) -> Found
     Found::Whole
 }
 
-// Whether s is a text, and if not, where it breaks. Most texts are plain, and one fast pass says so.
+// Whether s is a text, and if not, where it breaks. Most texts are all plain bytes, which one fast pass finds out.
 pub fn text(s: &[u8]) -> Found
     ensures { λ r. ⌜ Reads (now (s .entry)) r ⌝ }
 {

@@ -5,6 +5,7 @@ use mathlib.Core.Bool.{Bool}
 use mathlib.Core.List.{List}
 use Prim.Native.Nat.{ℕ, _+_, _-_}
 use lib.Dec.{leb}
+use lib.ListN.{drop}
 use Rattle.answer.proofs.Once.{equal-once}
 use Rattle.wire.specs.Numbers.{leAt}
 use Rattle.wire.specs.Parts.{put}
@@ -14,6 +15,9 @@ fits-once len at n e f = equal-once e f
 
 pub left-once : (len at : ℕ) {r s : ℕ} → r ≡ len - at → s ≡ len - at → r ≡ s
 left-once len at e f = equal-once e f
+
+pub tail-once : (s : List ℕ) (at : ℕ) {r p : List ℕ} → r ≡ drop at s → p ≡ drop at s → r ≡ p
+tail-once s at e f = equal-once e f
 
 -- `u8_at` to `u64_at`
 pub load-once : (n : ℕ) (s : List ℕ) (at : ℕ) {x y : ℕ} → x ≡ leAt n s at → y ≡ leAt n s at → x ≡ y

@@ -86,8 +86,12 @@ pub none : (old : List ℕ) → Wrote [] old old 0
 none old = record { count = refl; bytes = refl }
 
 -- the tail of a list, as it is lent and as it comes back
-tail-whole : (at : ℕ) (l : List ℕ) → take (length l - at) (drop at l) ≡ drop at l
+pub tail-whole : (at : ℕ) (l : List ℕ) → take (length l - at) (drop at l) ≡ drop at l
 tail-whole at l = take-all (length l - at) (drop at l) (rw length-drop (le-refl _))
+
+-- where it starts past the end, it is empty
+pub tail-past : (at : ℕ) (l : List ℕ) → length l < at → take (length l - length l) (drop (length l) l) ≡ drop at l
+tail-past at l h = tail-whole (length l) l ∙ drop-of-length-le l {i = length l} (le-refl _) ∙ sym (drop-of-length-le l {i = at} (omega arith))
 
 tail-none : (at : ℕ) (l : List ℕ) → drop (length l - at) (drop at l) ≡ []
 tail-none at l = drop-of-length-le (drop at l) {i = length l - at} (rw length-drop (le-refl _))

@@ -3,7 +3,7 @@
 ghost use mathlib.Core.Path.{_≡_};
 ghost use Prim.Native.Nat.{_+_, _-_, _≤_, _<_};
 ghost use lib.Dec.{leb};
-ghost use lib.ListN.{length};
+ghost use lib.ListN.{length, drop};
 ghost use Rattle.wire.specs.Numbers.{leAt, bytesOf};
 ghost use Rattle.wire.specs.Parts.{splice, put};
 
@@ -25,6 +25,17 @@ pub fn left(len: usize, at: usize) -> usize
         return 0;
     }
     len - at
+}
+
+// The bytes from `at` on; none where it lies past the end.
+pub fn tail(s: &[u8], at: usize) -> &[u8]
+    ensures { λ r. ⌜ now r ≡ drop at (now (s .entry)) ⌝ }
+{
+    let n = s.len();
+    if n < at {
+        return &s[n..];
+    }
+    &s[at..]
 }
 
 // ---- reading

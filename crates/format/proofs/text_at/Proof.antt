@@ -3,7 +3,9 @@ use Rattle.utf8.specs.Scan.{isWhole}
 use Rattle.utf8.proofs.Reading.{reads-is}
 use native.Mathlib.Omega.{arith}
 use Rattle.format.specs.Format.{atMost, any, utf8}
-use Rattle.format.proofs.Exits.{sized-inside, sized-stop, text-done, text-fault}
+use Prim.Native.Nat.{_+_}
+use Rattle.format.proofs.Placed.{sized-at}
+use Rattle.format.proofs.Exits.{sized-inside, asked-stop, text-done, text-fault}
 use borrow.Author.Needs.{needs}
 use Rattle.format.proofs.text_at.Statement.{statement}
 use Rattle.format.proofs.text_at.Tie as tie
@@ -39,7 +41,7 @@ enum-told-2 : tie.Need-enum-told-2
 enum-told-2 c = search needs
 
 returns : tie.Need-returns
-returns c = let k = c .before .before .before in let a = k .before .before .args in sized-stop (a .s .now) (a .at) 4 (atMost (a .most)) utf8 (rw (c .before .number .given .1) at (k .part-at .ensures))
+returns c = let k = c .before .before .before in let a = k .before .before .args in asked-stop utf8 (a .s .now) (a .at + 4) (sized-at 4 (atMost (a .most)) utf8 (a .s .now) (a .at)) (rw (c .before .number .given .1) at (k .part-at .ensures))
 
 returns-2 : tie.Need-returns-2
 returns-2 c = let k = c .before .before .before .before .before .before .before in let a = k .before .before .args in text-done (a .s .now) (a .at) (a .most) (rw (c .before .before .before .before .before .e .given .1) at (k .part-at .ensures)) (reads-is (c .before .before .text .ensures) ∙ ap isWhole (c .enum-told .given .1))

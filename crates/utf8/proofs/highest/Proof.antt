@@ -28,7 +28,9 @@ loop-less c = omega arith
 loop-again : tie.Need-loop-again Inv-loop μ-loop
 loop-again c =
     let l = c .before .before .before .loop .inv in
-    ⊎-elim (λ w. topped-more l (omega arith) (omega arith) (omega arith)) (λ w. topped-more l (omega arith) (omega arith) (omega arith)) (c .if1 .came)
+    ⊎-elim (λ w. topped-more l (omega arith) (omega arith) (omega arith))
+    (λ w. topped-more l (omega arith) (omega arith) (omega arith))
+    (c .if1 .came)
 
 returns : tie.Need-returns Inv-loop μ-loop
 returns c = topped-all (c .before .loop .inv) (omega arith)

@@ -4,8 +4,6 @@ use native.Mathlib.Omega.{arith}
 use Rattle.utf8.proofs.Turns.{Came, came-whole, came-end, came-out, came-in}
 use Rattle.utf8.proofs.rest.Statement.{statement}
 use Rattle.utf8.proofs.rest.Tie as tie
-use Rattle.utf8.proofs.rest.Reads as reads
-use Rattle.utf8.proofs.rest.Lts as lts
 
 abbrev Inv-loop : tie.InvT-loop
 Inv-loop s i₀ left₀ lo₀ hi₀ i left lo hi = Came s i₀ left₀ lo₀ hi₀ i left lo hi
@@ -38,7 +36,9 @@ loop-less : tie.Need-loop-less Inv-loop μ-loop
 loop-less c = omega arith
 
 loop-again : tie.Need-loop-again Inv-loop μ-loop
-loop-again c = came-in (c .before .before .before .before .before .loop .inv) (omega arith) (omega arith) (record { low = omega arith; high = omega arith })
+loop-again c =
+    came-in (c .before .before .before .before .before .loop .inv) (omega arith) (omega arith)
+    (record { low = omega arith; high = omega arith })
 
 returns-4 : tie.Need-returns-4 Inv-loop μ-loop
 returns-4 c = came-whole (c .before .loop .inv) (omega arith)

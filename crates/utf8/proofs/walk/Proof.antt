@@ -1,4 +1,4 @@
--- `utf8::walk` meets its contract. The loop's invariant: the scan goes on from here, where a character begins. Assumes nothing.
+-- `utf8::walk` meets its contract. The loop's invariant: the scan may as well go on from here, where a character begins. Assumes nothing.
 use Prim.Native.Nat.{_-_}
 use mathlib.Core.Path.{sym, _∙_}
 use native.Mathlib.Omega.{arith}
@@ -6,14 +6,9 @@ use borrow.Author.Needs.{needs}
 use lib.ListN.{length}
 use Rattle.utf8.specs.Steps.{Passes}
 use Rattle.utf8.proofs.Table.{hit}
-use Rattle.utf8.proofs.Turns.{passes-here, passes-then, passes-first, rest-passes, rest-breaks, walk-whole, walk-stop, walk-broken}
+use Rattle.utf8.proofs.Turns.{passes-here, passes-then, passes-first, ends-passes, ends-breaks, walk-whole, walk-stop, walk-broken}
 use Rattle.utf8.proofs.walk.Statement.{statement}
 use Rattle.utf8.proofs.walk.Tie as tie
-use Rattle.utf8.proofs.walk.Reads as reads
-use Rattle.utf8.proofs.walk.Lts as lts
-use Rattle.utf8.proofs.lead.Reads as lead-reads
-use Rattle.utf8.proofs.plain.Reads as plain-reads
-use Rattle.utf8.proofs.rest.Reads as rest-reads
 
 abbrev Inv-loop : tie.InvT-loop
 Inv-loop s i₀ i = Passes s 0 0 0x80 0xBF i
@@ -22,13 +17,13 @@ abbrev μ-loop : tie.MeasureT-loop
 μ-loop s i₀ i = length s - i
 
 loop-holds : tie.Need-loop-holds Inv-loop μ-loop
-loop-holds c = passes-here _ (omega arith)
+loop-holds c = passes-here 0 (omega arith)
 
 shared-slice-read-b : tie.Need-shared-slice-read-b Inv-loop μ-loop
-shared-slice-read-b c = search needs
+shared-slice-read-b c = omega arith
 
-add-plain : tie.Need-add-plain Inv-loop μ-loop
-add-plain c = search needs
+add-next : tie.Need-add-next Inv-loop μ-loop
+add-next c = omega arith
 
 plain-requires : tie.Need-plain-requires Inv-loop μ-loop
 plain-requires c κs = search needs
@@ -37,16 +32,15 @@ loop-less : tie.Need-loop-less Inv-loop μ-loop
 loop-less c = omega (arith, c .plain .ensures)
 
 loop-again : tie.Need-loop-again Inv-loop μ-loop
-loop-again c = passes-then (c .before .before .before .before .loop .inv) (passes-first (omega arith) (hit 0 _ (omega arith)) (c .plain .ensures))
+loop-again c =
+    passes-then (c .before .before .before .before .loop .inv)
+    (passes-first (omega arith) (hit 0 _ (omega arith)) (c .plain .ensures))
 
 lead-requires : tie.Need-lead-requires Inv-loop μ-loop
 lead-requires c κs = search needs
 
 enum-known-left : tie.Need-enum-known-left Inv-loop μ-loop
 enum-known-left c = search needs
-
-add-rest : tie.Need-add-rest Inv-loop μ-loop
-add-rest c = search needs
 
 rest-requires : tie.Need-rest-requires Inv-loop μ-loop
 rest-requires c κs = search needs
@@ -55,28 +49,37 @@ enum-told : tie.Need-enum-told Inv-loop μ-loop
 enum-told c = search needs
 
 add-i : tie.Need-add-i Inv-loop μ-loop
-add-i c = omega (arith, rest-passes (c .before .before .rest .ensures) (c .enum-told .given .1))
-
-add-i-2 : tie.Need-add-i-2 Inv-loop μ-loop
-add-i-2 c = omega (arith, rest-passes (c .before .before .rest .ensures) (c .enum-told .given .1))
+add-i c = omega (arith, ends-passes (c .before .before .rest .ensures) (c .enum-told .given .1))
 
 loop-less-2 : tie.Need-loop-less-2 Inv-loop μ-loop
-loop-less-2 c = omega (arith, rest-passes (c .before .before .rest .ensures) (c .enum-told .given .1))
+loop-less-2 c = omega (arith, ends-passes (c .before .before .rest .ensures) (c .enum-told .given .1))
 
 loop-again-2 : tie.Need-loop-again-2 Inv-loop μ-loop
-loop-again-2 c = passes-then (c .before .before .before .before .before .before .before .before .before .before .loop .inv) (passes-first (omega arith) (sym (c .before .before .before .before .before .before .lead .ensures) ∙ c .before .before .before .before .left .given .1) (rest-passes (c .before .before .rest .ensures) (c .enum-told .given .1)))
+loop-again-2 c =
+    let m = c .before .before .before .before in
+    let l = m .before .before in
+    passes-then (l .before .before .before .before .loop .inv)
+    (passes-first (omega arith) (sym (l .lead .ensures) ∙ m .left .given .1)
+    (ends-passes (c .before .before .rest .ensures) (c .enum-told .given .1)))
 
 enum-known-k : tie.Need-enum-known-k Inv-loop μ-loop
 enum-known-k c = search needs
 
 returns : tie.Need-returns Inv-loop μ-loop
-returns c = walk-broken (c .before .before .before .before .before .before .before .before .before .before .before .loop .inv) (omega arith) (sym (c .before .before .before .before .before .before .before .lead .ensures) ∙ c .before .before .before .before .before .left .given .1) (rest-breaks (c .before .before .before .rest .ensures) (c .before .k .given .1))
+returns c =
+    let m = c .before .before .before .before .before in
+    let l = m .before .before in
+    walk-broken (l .before .before .before .before .loop .inv) (omega arith) (sym (l .lead .ensures) ∙ m .left .given .1)
+    (ends-breaks (c .before .before .before .rest .ensures) (c .before .k .given .1))
 
 enum-told-2 : tie.Need-enum-told-2 Inv-loop μ-loop
 enum-told-2 c = search needs
 
 returns-2 : tie.Need-returns-2 Inv-loop μ-loop
-returns-2 c = walk-stop (c .before .before .before .before .before .before .loop .inv) (omega arith) (sym (c .before .before .lead .ensures) ∙ c .enum-told2 .given .1)
+returns-2 c =
+    let l = c .before .before in
+    walk-stop (l .before .before .before .before .loop .inv) (omega arith)
+    (sym (l .lead .ensures) ∙ c .enum-told2 .given .1)
 
 returns-3 : tie.Need-returns-3 Inv-loop μ-loop
 returns-3 c = walk-whole (c .before .loop .inv) (omega arith)
@@ -89,17 +92,15 @@ walk-spec =
     μ-loop
     loop-holds
     shared-slice-read-b
-    add-plain
+    add-next
     plain-requires
     loop-less
     loop-again
     lead-requires
     enum-known-left
-    add-rest
     rest-requires
     enum-told
     add-i
-    add-i-2
     loop-less-2
     loop-again-2
     enum-known-k

@@ -1,0 +1,52 @@
+-- The heads of entries: what is asked of them before KEY, and a length without a bound.
+-- Assumes nothing.
+use mathlib.Core.Path.{_≡_, refl, sym, _∙_, ap}
+use mathlib.Core.List.{List, [], _∷_}
+use mathlib.Core.Bool.{Bool, true, false, _&&_}
+use Prim.Native.Nat.{ℕ, _+_, _-_, _/_, _%_, _≤_, _<_, zero-le}
+use native.Mathlib.Omega.{arith}
+use lib.ListN.{length, take, drop, length-drop}
+use lib.Dec.{leb, eqb}
+use borrow.Author.Tests.{le-leb, lt-leb, leb-true, eq-eqb, ne-eqb}
+use Rattle.answer.specs.Numbers.{SHAPE, RESERVED, ADDRESS}
+use Rattle.answer.specs.Outcome.{Outcome, taken, refused, checked, Checks}
+use Rattle.answer.specs.Calls.{asked}
+use Rattle.answer.proofs.Within.{Within, checked-within}
+use Rattle.wire.specs.Numbers.{Bytes, leAt}
+use Rattle.wire.proofs.Numbers.{leAt-here, leAt-bound}
+use Rattle.format.specs.Format.{any, sized, blob, read}
+use Rattle.format.specs.Places.{readAt}
+use Rattle.entries.specs.Kinds.{Description, leadChecks, deviceOf, functionOf, controllerChecks, unbounded}
+
+-- ---- a controller's address and reserved number, by the exits of the code
+
+module _ (b : List ℕ) {a : ℕ} (p : a ≡ leAt 2 b 0) where
+  pub head-device : 31 < a / 8 % 32 → refused ADDRESS 0 ≡ asked (controllerChecks b)
+  head-device h = rw (← p, lt-leb (deviceOf a) 31 h)
+
+  pub head-function : a / 8 % 32 ≤ 31 → 7 < a % 8 → refused ADDRESS 0 ≡ asked (controllerChecks b)
+  head-function h k = rw (← p, le-leb (deviceOf a) 31 h, lt-leb (functionOf a) 7 k)
+
+  module _ (h : a / 8 % 32 ≤ 31) (k : a % 8 ≤ 7) {r : ℕ} (q : r ≡ leAt 2 b 2) where
+    pub head-reserved : (r ≡ 0 → ⊥) → refused RESERVED 2 ≡ asked (controllerChecks b)
+    head-reserved l = rw (← p, ← q, le-leb (deviceOf a) 31 h, le-leb (functionOf a) 7 k, ne-eqb r 0 l)
+
+    pub head-fine : r ≡ 0 → taken tt ≡ asked (controllerChecks b)
+    head-fine l = rw (← p, ← q, le-leb (deviceOf a) 31 h, le-leb (functionOf a) 7 k, eq-eqb r 0 l)
+
+-- ---- a length without a bound is one with the greatest that it can say
+
+pub unbounded-at : (s : List ℕ) (at : ℕ) → Bytes s → readAt (blob 4 4294967295) s at ≡ readAt (sized 4 unbounded any) s at
+unfolding read
+unbounded-at s at b =
+    let h : leAt 4 (drop at s) 0 ≤ 4294967295 = rw leAt-here (omega (arith, leAt-bound 4 s at b)) in
+    rw (le-leb (leAt 4 (drop at s) 0) 4294967295 h)
+
+-- ---- the fixed part, and then what the kind asks
+
+module _ (d : Description) (b : List ℕ) where
+  pub lead-short : length b < d .fixed → refused SHAPE 0 ≡ asked (leadChecks d b)
+  lead-short h = rw (lt-leb (d .fixed) (length b) h)
+
+  pub lead-next : d .fixed ≤ length b → {r : Outcome (Unit {0})} → r ≡ asked (d .early b) → r ≡ asked (leadChecks d b)
+  lead-next h k = rw (le-leb (d .fixed) (length b) h) k

@@ -1,0 +1,5 @@
+pub mod States
+pub mod Heads
+pub mod Lawful
+pub mod Once
+pub mod Examples

@@ -1,0 +1,60 @@
+use Rattle.format.proofs.Exits.{sized-short, sized-bad, sized-cut, sized-whole}
+use Rattle.entries.specs.States.{cpuLength, cpuLengthChecks}
+use Rattle.format.specs.Format.{any}
+use Rattle.answer.specs.Numbers.{SHAPE}
+use borrow.Author.Tests.{not-true, not-false}
+use mathlib.Core.List.{[]}
+use mathlib.Core.Path.{refl, sym, _∙_}
+use native.Mathlib.Omega.{arith}
+use borrow.Author.Needs.{needs}
+use Rattle.entries.proofs.held_state.Statement.{statement}
+use Rattle.entries.proofs.held_state.Tie as tie
+
+left-requires : tie.Need-left-requires
+left-requires c κs = search needs
+
+returns : tie.Need-returns
+returns c = let a = c .before .before .before .args in sized-short (a .s .now) (a .at) 4 (cpuLengthChecks (a .version)) any (omega arith)
+
+u32-at-requires : tie.Need-u32-at-requires
+u32-at-requires c κs = search needs
+
+cast-n : tie.Need-cast-n
+cast-n c = search needs
+
+cpu-length-requires : tie.Need-cpu-length-requires
+cpu-length-requires c κs = search needs
+
+returns-2 : tie.Need-returns-2
+returns-2 c = let a = c .before .before .before .before .before .before .args in sized-bad (a .s .now) (a .at) 4 _ (cpuLengthChecks (a .version)) (c .before .before .u32-at .ensures) (omega arith) SHAPE _ [] refl (sym (c .before .cpu-length .ensures) ∙ not-true _ (c .if2 .taken))
+
+add-b : tie.Need-add-b
+add-b c = search needs
+
+sub-if3 : tie.Need-sub-if3
+sub-if3 c = search needs
+
+returns-3 : tie.Need-returns-3
+returns-3 c = let a = c .before .before .before .before .before .before .before .args in sized-cut (a .s .now) (a .at) 4 _ (cpuLengthChecks (a .version)) (c .before .before .before .u32-at .ensures) (omega arith) (sym (c .before .before .cpu-length .ensures) ∙ not-false _ (c .before .if2 .left), tt) (omega arith)
+
+add-t6 : tie.Need-add-t6
+add-t6 c = search needs
+
+returns-4 : tie.Need-returns-4
+returns-4 c = let a = c .before .before .before .before .before .before .before .args in sized-whole (a .s .now) (a .at) 4 _ (cpuLengthChecks (a .version)) (c .before .before .before .u32-at .ensures) (omega arith) (sym (c .before .before .cpu-length .ensures) ∙ not-false _ (c .before .if2 .left), tt) (omega arith)
+
+pub held-state-spec : {M : Type 1} → statement M
+held-state-spec =
+    tie.close
+    (tie.spec
+    left-requires
+    returns
+    u32-at-requires
+    cast-n
+    cpu-length-requires
+    returns-2
+    add-b
+    sub-if3
+    returns-3
+    add-t6
+    returns-4)

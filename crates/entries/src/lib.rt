@@ -1,0 +1,342 @@
+// The entries of lists: the kinds, and for each kind the readers of an entry at a place.
+// Each takes every slice and every place. Bytes past the end read as 0, and an entry that is not whole is refused.
+use answer::ADDRESS;
+use answer::Piece;
+use answer::RESERVED;
+use answer::SHAPE;
+use answer::Test;
+use answer::VALUE;
+use format::blob_at;
+use format::block_at;
+use format::part_at;
+use format::text_at;
+use wire::tail;
+use wire::u8_at;
+use wire::u16_at;
+use wire::u32_at;
+ghost use mathlib.Core.Path.{_≡_};
+ghost use Prim.Native.Nat.{_+_};
+ghost use lib.ListN.{drop};
+ghost use Rattle.answer.specs.Outcome.{moved};
+ghost use Rattle.answer.specs.Calls.{pieceOf, testOf, asked};
+ghost use Rattle.format.specs.Format.{any, sized, pair, blob, text, values};
+ghost use Rattle.format.specs.Places.{readAt};
+ghost use Rattle.entries.specs.States.{cpuLength, cpuLengthChecks, cpuState, cpuWhole, registers, extension, mmuLength};
+ghost use Rattle.entries.specs.Kinds.{leadChecks, deviceKey, idKey, addressKey, controllerChecks, controllerHead, devices, disks, cpus, controllers};
+ghost use Rattle.entries.specs.Code.{describe};
+
+// The kinds of entry; CPUs and MMUs by the version of their section.
+pub enum Kind {
+    Devices,
+    Disks,
+    Cpus(u16),
+    Mmus(u16),
+    Controllers,
+}
+
+// The bound of the count.
+pub fn most_of(kind: Kind) -> u32
+    ensures { λ r. ⌜ r ≡ describe kind .most ⌝ }
+{
+    match kind {
+        Kind::Devices => 4096,
+        Kind::Disks => 256,
+        Kind::Cpus(_) => 256,
+        Kind::Mmus(_) => 256,
+        Kind::Controllers => 256,
+    }
+}
+
+// ---- states
+
+fn cpu_length(version: u16, n: usize) -> bool
+    ensures { λ r. ⌜ r ≡ cpuLength version n ⌝ }
+{
+    if version == 1 {
+        return n == 412;
+    }
+    if n == 1183 {
+        return true;
+    }
+    n == 1191
+}
+
+fn registers_in(state: &[u8]) -> Test
+    ensures { λ r. ⌜ testOf r ≡ values registers (now (state .entry)) ⌝ }
+{
+    if 3 < u8_at(state, 144) {
+        return Test::Fault(VALUE, 144);
+    }
+    if 1 < u8_at(state, 145) {
+        return Test::Fault(VALUE, 145);
+    }
+    if 7 < u8_at(state, 260) {
+        return Test::Fault(VALUE, 260);
+    }
+    Test::Fine
+}
+
+fn extension_in(state: &[u8]) -> Test
+    ensures { λ r. ⌜ testOf r ≡ values extension (now (state .entry)) ⌝ }
+{
+    let n = u32_at(state, 1183);
+    if n < 4 {
+        return Test::Fault(VALUE, 1183);
+    }
+    if 4 < n {
+        return Test::Fault(VALUE, 1183);
+    }
+    if 1 < u8_at(state, 1187) {
+        return Test::Fault(VALUE, 1187);
+    }
+    if 1 < u8_at(state, 1188) {
+        return Test::Fault(VALUE, 1188);
+    }
+    if 1 < u8_at(state, 1189) {
+        return Test::Fault(VALUE, 1189);
+    }
+    Test::Fine
+}
+
+// The listed numbers of a state whose length is right.
+fn numbers_in(version: u16, state: &[u8]) -> Test
+    ensures { λ r. ⌜ testOf r ≡ cpuState version (now (state .entry)) ⌝ }
+{
+    if version == 1 {
+        return Test::Fine;
+    }
+    match registers_in(state) {
+        Test::Fault(number, place) => Test::Fault(number, place),
+        Test::Fine => {
+            if state.len() == 1191 {
+                return extension_in(state);
+            }
+            Test::Fine
+        }
+    }
+}
+
+// A whole CPU state: its length, then its values.
+pub fn cpu_state(version: u16, state: &[u8]) -> Test
+    ensures { λ r. ⌜ testOf r ≡ cpuWhole version (now (state .entry)) ⌝ }
+{
+    if cpu_length(version, state.len()) {
+        return numbers_in(version, state);
+    }
+    Test::Fault(SHAPE, 0)
+}
+
+pub fn mmu_length(version: u16) -> usize
+    ensures { λ r. ⌜ r ≡ mmuLength version ⌝ }
+{
+    if version == 1 { 68 } else { 264 }
+}
+
+// ---- before KEY
+
+fn fixed_of(kind: Kind) -> usize
+    ensures { λ r. ⌜ r ≡ describe kind .fixed ⌝ }
+{
+    match kind {
+        Kind::Devices => 16,
+        Kind::Disks => 4,
+        Kind::Cpus(_) => 8,
+        Kind::Mmus(v) => 4 + mmu_length(v),
+        Kind::Controllers => 12,
+    }
+}
+
+// ADDRESS, then RESERVED, of the controller that begins the bytes.
+fn controller_lead(b: &[u8]) -> Test
+    ensures { λ r. ⌜ testOf r ≡ asked (controllerChecks (now (b .entry))) ⌝ }
+{
+    let address = u16_at(b, 0);
+    if 31 < address / 8 % 32 {
+        return Test::Fault(ADDRESS, 0);
+    }
+    if 7 < address % 8 {
+        return Test::Fault(ADDRESS, 0);
+    }
+    if u16_at(b, 2) != 0 {
+        return Test::Fault(RESERVED, 2);
+    }
+    Test::Fine
+}
+
+fn early_of(kind: Kind, b: &[u8]) -> Test
+    ensures { λ r. ⌜ testOf r ≡ asked (describe kind .early (now (b .entry))) ⌝ }
+{
+    match kind {
+        Kind::Devices => Test::Fine,
+        Kind::Disks => Test::Fine,
+        Kind::Cpus(_) => Test::Fine,
+        Kind::Mmus(_) => Test::Fine,
+        Kind::Controllers => controller_lead(b),
+    }
+}
+
+// What is asked before KEY of the entry that begins the bytes: its fixed part, then what its kind asks.
+pub fn lead_of(kind: Kind, b: &[u8]) -> Test
+    ensures { λ r. ⌜ testOf r ≡ asked (leadChecks (describe kind) (now (b .entry))) ⌝ }
+{
+    if b.len() < fixed_of(kind) {
+        return Test::Fault(SHAPE, 0);
+    }
+    early_of(kind, b)
+}
+
+// The same at a place.
+pub fn lead_at(kind: Kind, s: &[u8], at: usize) -> Test
+    ensures { λ r. ⌜ testOf r ≡ moved at (asked (leadChecks (describe kind) (drop at (now (s .entry))))) ⌝ }
+{
+    match lead_of(kind, tail(s, at)) {
+        Test::Fault(number, place) => Test::Fault(number, at + place),
+        Test::Fine => Test::Fine,
+    }
+}
+
+// ---- keys
+
+fn device_key(b: &[u8]) -> u64
+    ensures { λ r. ⌜ r ≡ deviceKey (now (b .entry)) ⌝ }
+{
+    let id = u32_at(b, 0) as u64;
+    let version = u16_at(b, 4) as u64;
+    let flags = u16_at(b, 6) as u64;
+    (id * 65536 + version) * 65536 + flags
+}
+
+// The key of the entry that begins the bytes: a number, so that 256 comes after 1.
+pub fn key_of(kind: Kind, b: &[u8]) -> u64
+    ensures { λ r. ⌜ r ≡ describe kind .key (now (b .entry)) ⌝ }
+{
+    match kind {
+        Kind::Devices => device_key(b),
+        Kind::Disks => u32_at(b, 0) as u64,
+        Kind::Cpus(_) => u32_at(b, 0) as u64,
+        Kind::Mmus(_) => u32_at(b, 0) as u64,
+        Kind::Controllers => u16_at(b, 0) as u64,
+    }
+}
+
+// The key of the entry at a place.
+pub fn key_at(kind: Kind, s: &[u8], at: usize) -> u64
+    ensures { λ r. ⌜ r ≡ describe kind .key (drop at (now (s .entry))) ⌝ }
+{
+    key_of(kind, tail(s, at))
+}
+
+// ---- whole entries
+
+fn device_at(s: &[u8], at: usize) -> Piece
+    ensures { λ r. ⌜ pieceOf r ≡ readAt (devices .form) (now (s .entry)) at ⌝ }
+{
+    match block_at(s, at, 8) {
+        Piece::Stop(number, place) => Piece::Stop(number, place),
+        Piece::Ends(e) => blob_at(s, e, 67108864),
+    }
+}
+
+fn texts_at(s: &[u8], at: usize) -> Piece
+    ensures { λ r. ⌜ pieceOf r ≡ readAt (pair (text 65536) (text 65536)) (now (s .entry)) at ⌝ }
+{
+    match text_at(s, at, 65536) {
+        Piece::Stop(number, place) => Piece::Stop(number, place),
+        Piece::Ends(e) => text_at(s, e, 65536),
+    }
+}
+
+fn disk_at(s: &[u8], at: usize) -> Piece
+    ensures { λ r. ⌜ pieceOf r ≡ readAt (disks .form) (now (s .entry)) at ⌝ }
+{
+    match block_at(s, at, 4) {
+        Piece::Stop(number, place) => Piece::Stop(number, place),
+        Piece::Ends(e) => texts_at(s, e),
+    }
+}
+
+// A state's length, and as many bytes.
+fn held_state(version: u16, s: &[u8], at: usize) -> Piece
+    ensures { λ r. ⌜ pieceOf r ≡ readAt (sized 4 (cpuLengthChecks version) any) (now (s .entry)) at ⌝ }
+{
+    if wire::left(s.len(), at) < 4 {
+        return Piece::Stop(SHAPE, at);
+    }
+    let n = u32_at(s, at) as usize;
+    if !cpu_length(version, n) {
+        return Piece::Stop(SHAPE, at);
+    }
+    let b = at + 4;
+    if s.len() - b < n {
+        return Piece::Stop(SHAPE, b);
+    }
+    Piece::Ends(b + n)
+}
+
+fn state_at(version: u16, s: &[u8], at: usize) -> Piece
+    ensures { λ r. ⌜ pieceOf r ≡ readAt (sized 4 (cpuLengthChecks version) (cpuState version)) (now (s .entry)) at ⌝ }
+{
+    match held_state(version, s, at) {
+        Piece::Stop(number, place) => Piece::Stop(number, place),
+        Piece::Ends(e) => {
+            let b = at + 4;
+            match numbers_in(version, &s[b..e]) {
+                Test::Fault(number, place) => Piece::Stop(number, b + place),
+                Test::Fine => Piece::Ends(e),
+            }
+        }
+    }
+}
+
+fn cpu_rest_at(version: u16, s: &[u8], at: usize) -> Piece
+    ensures { λ r. ⌜ pieceOf r ≡ readAt (pair (sized 4 (cpuLengthChecks version) (cpuState version)) (blob 8 67108864)) (now (s .entry)) at ⌝ }
+{
+    match state_at(version, s, at) {
+        Piece::Stop(number, place) => Piece::Stop(number, place),
+        Piece::Ends(e) => blob_at(s, e, 67108864),
+    }
+}
+
+fn cpu_at(version: u16, s: &[u8], at: usize) -> Piece
+    ensures { λ r. ⌜ pieceOf r ≡ readAt (cpus version .form) (now (s .entry)) at ⌝ }
+{
+    match block_at(s, at, 4) {
+        Piece::Stop(number, place) => Piece::Stop(number, place),
+        Piece::Ends(e) => cpu_rest_at(version, s, e),
+    }
+}
+
+// The address, the reserved number and the tag.
+fn controller_head_at(s: &[u8], at: usize) -> Piece
+    ensures { λ r. ⌜ pieceOf r ≡ readAt controllerHead (now (s .entry)) at ⌝ }
+{
+    match block_at(s, at, 8) {
+        Piece::Stop(number, place) => Piece::Stop(number, place),
+        Piece::Ends(e) => match controller_lead(&s[at..e]) {
+            Test::Fault(number, place) => Piece::Stop(number, at + place),
+            Test::Fine => Piece::Ends(e),
+        },
+    }
+}
+
+fn controller_at(s: &[u8], at: usize) -> Piece
+    ensures { λ r. ⌜ pieceOf r ≡ readAt (controllers .form) (now (s .entry)) at ⌝ }
+{
+    match controller_head_at(s, at) {
+        Piece::Stop(number, place) => Piece::Stop(number, place),
+        Piece::Ends(e) => part_at(s, e, 4294967295),
+    }
+}
+
+// Where the entry at a place ends, or its first fault after KEY.
+pub fn entry_at(kind: Kind, s: &[u8], at: usize) -> Piece
+    ensures { λ r. ⌜ pieceOf r ≡ readAt (describe kind .form) (now (s .entry)) at ⌝ }
+{
+    match kind {
+        Kind::Devices => device_at(s, at),
+        Kind::Disks => disk_at(s, at),
+        Kind::Cpus(v) => cpu_at(v, s, at),
+        Kind::Mmus(v) => block_at(s, at, 4 + mmu_length(v)),
+        Kind::Controllers => controller_at(s, at),
+    }
+}
