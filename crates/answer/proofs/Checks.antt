@@ -5,7 +5,7 @@ use mathlib.Core.List.{[], _∷_, _++_}
 use mathlib.Core.Bool.{Bool, true, false}
 use Prim.Native.Nat.{ℕ, _+_}
 use native.Mathlib.Omega.{arith}
-use Rattle.answer.specs.Outcome.{Outcome, taken, refused, Checks, checked, Pass, moved}
+use Rattle.answer.specs.Outcome.{Outcome, taken, refused, Checks, checked, Pass, after, moved}
 
 -- ---- rows that all pass
 
@@ -44,6 +44,16 @@ checked-refused {A} (c ∷ l) a n p e = go (c .0) refl e (checked-refused l a n 
         → (checked l a ≡ refused n p → Refused a n p l) → Refused a n p (c ∷ l)
     go true q e r = later q (r e)
     go false q e r = let i : c .1 ≡ n = cc in let j : c .2 ≡ p = cc in rw (← i, ← j) (row q)
+
+-- ---- what comes behind
+
+pub checked-after : {A B : Type 0} (l : Checks) (a : Outcome A) (f : A → Outcome B) → after (checked l a) f ≡ checked l (after a f)
+checked-after [] a f = refl
+checked-after (c ∷ l) a f = go (c .0) (checked-after l a f)
+  where
+    go : (b : Bool) → after (checked l a) f ≡ checked l (after a f) → after (checked ((b, c .1, c .2) ∷ l) a) f ≡ checked ((b, c .1, c .2) ∷ l) (after a f)
+    go true h = h
+    go false h = refl
 
 -- ---- rows joined
 

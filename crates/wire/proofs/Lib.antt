@@ -1,5 +1,7 @@
 pub mod Differences
 pub mod Numbers
 pub mod Parts
+pub mod Records
+pub mod Calls
 pub mod Once
 pub mod Examples

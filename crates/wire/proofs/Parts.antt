@@ -124,6 +124,13 @@ module _ {w old l : List ℕ} {at : ℕ} (so : Wrote w old l at) where
   pub wrote-length : length w ≤ length old → length l ≡ length old
   wrote-length h = rw (so .bytes, length-append, length-drop) (omega arith)
 
+-- bytes written over the start are put there
+pub wrote-start : {bs old new : List ℕ} {n : ℕ} → Wrote bs old new n → length bs ≤ length old → new ≡ put 0 bs old
+unfolding splice
+wrote-start {bs} {old} so h =
+    let g : 0 + length bs ≡ length bs = omega arith in
+    so .bytes ∙ sym (put-fits 0 bs old (omega arith) ∙ ap (λ (k : ℕ). bs ++ drop k old) g)
+
 -- ---- a part by part copy
 
 start : (l bs : List ℕ) (at n : ℕ) → at ≤ length l → length bs ≡ n → Wrote (take at l ++ bs) l (splice at bs l) (at + n)

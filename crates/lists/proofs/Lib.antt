@@ -1,0 +1,13 @@
+pub mod Walks
+pub mod Taken
+pub mod Ordered
+pub mod Finds
+pub mod Written
+pub mod Within
+pub mod Exits
+pub mod Search
+pub mod Shift
+pub mod Loop
+pub mod Callers
+pub mod Once
+pub mod Examples

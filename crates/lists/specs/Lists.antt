@@ -1,0 +1,74 @@
+-- A list: a count, and as many entries, nothing after the last. One reader and one writer for every kind of entry.
+-- Places count from the list's start.
+-- Assumes nothing.
+use mathlib.Core.Path.{_≡_}
+use mathlib.Core.List.{List, [], _∷_, _++_}
+use mathlib.Core.Bool.{Bool, not}
+use Prim.Native.Nat.{ℕ, zero, suc, _≤_}
+use lib.ListN.{length, drop}
+use lib.Dec.{leb}
+use Rattle.answer.specs.Numbers.{SHAPE, LIMIT, KEY, SIZE}
+use Rattle.answer.specs.Outcome.{Outcome, taken, refused, Checks, checked, after, shift, fitting}
+use Rattle.wire.specs.Numbers.{leAt, bytesOf}
+use Rattle.format.specs.Format.{read, Is}
+use Rattle.order.specs.Keyed.{insert, has, Apart, Every}
+use Rattle.order.specs.Entries.{join, split}
+use Rattle.entries.specs.Kinds.{Description, leadChecks}
+
+-- the key of the entry that starts at a place
+abbrev pub keyAt : Description → List ℕ → ℕ → ℕ
+keyAt d s at = d .key (drop at s)
+
+-- what is asked of the entry that begins b before its lengths are read, where its key came before or not
+abbrev pub entryChecks : Description → Bool → List ℕ → Checks
+entryChecks d again b = leadChecks d b ++ ((not again, KEY, 0) ∷ [])
+
+-- an entry after those that start at seen: where it ends, or its first fault
+unfoldable pub entryAt : Description → List ℕ → ℕ → List ℕ → Outcome ℕ
+entryAt d s at seen = shift at (checked (entryChecks d (has (keyAt d s) (keyAt d s at) seen) (drop at s)) (read (d .form) (drop at s)))
+
+-- bytes left over after the last field, from at on
+abbrev pub leftOver : List ℕ → ℕ → Checks
+leftOver s at = (leb (length s) at, SHAPE, at) ∷ []
+
+-- n entries from at on, after those that start at seen; then nothing is left over. The answer: where entries start, in the order of their keys
+unfoldable pub walk : Description → List ℕ → ℕ → ℕ → List ℕ → Outcome (List ℕ)
+walk d s zero at seen = checked (leftOver s at) (taken seen)
+walk d s (suc n) at seen = after (entryAt d s at seen) (λ e. walk d s n e (insert (keyAt d s) at seen))
+
+abbrev pub countChecks : Description → List ℕ → Checks
+countChecks d s = (leb 4 (length s), SHAPE, 0) ∷ (leb (leAt 4 s 0) (d .most), LIMIT, 0) ∷ []
+
+-- the list that s is: where its entries start, in the order of their keys
+unfoldable pub listAt : Description → List ℕ → Outcome (List ℕ)
+listAt d s = checked (countChecks d s) (walk d s (leAt 4 s 0) 4 [])
+
+-- the length of the entry that begins b
+abbrev pub widthOf : Description → List ℕ → ℕ
+widthOf d b = elim (read (d .form) b) [ taken w ↦ w | refused n p ↦ 0 ]
+
+-- the entries of a list, in the order in which they stand there
+abbrev pub entries : Description → List ℕ → List (List ℕ)
+entries d s = split (widthOf d) (leAt 4 s 0) (drop 4 s)
+
+-- entries as a list
+abbrev pub listBytes : List (List ℕ) → List ℕ
+listBytes l = bytesOf 4 (length l) ++ join l
+
+-- s is a list, with no word of how it is read: a count within its bound, as many entries one after another, no key twice
+pub record IsList (d : Description) (s : List ℕ) : Type 0 where
+  pub count : 4 ≤ length s
+  pub few : leAt 4 s 0 ≤ d .most
+  pub items : List (List ℕ)
+  pub number : leAt 4 s 0 ≡ length items
+  pub cut : drop 4 s ≡ join items
+  pub are : Every (Is (d .form)) items
+  pub apart : Apart (d .key) items
+
+-- a list's slice is at most as long as a file may be
+abbrev pub partChecks : List ℕ → Checks
+partChecks s = (leb (length s) 1073741824, SIZE, 0) ∷ []
+
+-- the call that indexes a list: the starts, for a buffer that holds so many
+abbrev pub indexOf : Description → ℕ → List ℕ → Outcome (List ℕ)
+indexOf d have s = checked (partChecks s) (after (listAt d s) (fitting have))

@@ -1,0 +1,28 @@
+-- What the calls promise: a list indexed, and a place found in an index.
+-- Assumes nothing.
+use mathlib.Core.Path.{_≡_}
+use mathlib.Core.Bool.{true, false}
+use mathlib.Core.List.{List, [], _∷_}
+use Prim.Native.Nat.{ℕ, _+_}
+use lib.Dec.{leb, eqb}
+use lib.ListN.{length}
+use Rattle.answer.specs.declared.Piece.{Piece}
+use Rattle.answer.specs.Outcome.{Outcome, taken, after}
+use Rattle.answer.specs.Calls.{pieceOf, memory}
+use Rattle.lists.specs.declared.Found.{Found}
+use Rattle.lists.specs.declared.Found.the-variants.{There, Free}
+
+-- the promise of the call that indexes a list: how many starts, and the starts in the lent memory that held `old`
+pub record Indexed (o : Outcome (List ℕ)) (old : List ℕ) (r : Piece) (new : List ℕ) : Type 0 where
+  pub answers : pieceOf r ≡ after o (λ l. taken (length l))
+  pub leaves : new ≡ memory o old
+
+-- the same place, counted from i elements earlier
+abbrev pub later : ℕ → Found → Found
+later i There = There
+later i (Free p) = Free (i + p)
+
+-- where an entry with the key k goes: before the first whose key is not below k, unless that one has the key itself
+unfoldable pub findIn : {E : Type 0} → (E → ℕ) → ℕ → List E → Found
+findIn key k [] = Free 0
+findIn key k (y ∷ l) = elim (eqb k (key y)) [ true ↦ There | false ↦ elim (leb k (key y)) [ true ↦ Free 0 | false ↦ later 1 (findIn key k l) ] ]

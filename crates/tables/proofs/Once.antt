@@ -1,0 +1,19 @@
+-- Each promise fixes its answer and every byte of lent memory: any two that it allows are equal.
+-- Assumes nothing.
+use mathlib.Core.Path.{_≡_}
+use mathlib.Core.List.{List}
+use Prim.Native.Nat.{ℕ}
+use Rattle.answer.specs.declared.Answer.{Answer}
+use Rattle.answer.specs.Calls.{Writes}
+use Rattle.answer.proofs.Once.{writes-once}
+use Rattle.wire.specs.Parts.{put}
+use Rattle.wire.proofs.Once.{store-once}
+use Rattle.tables.specs.declared.Table.{Table}
+use Rattle.tables.specs.Tables.{framedRow, tableOf}
+
+pub write-once : (t : Table) (have base : ℕ) (s : List ℕ) {old new now : List ℕ} {r p : Answer}
+    → Writes (tableOf t have base s) old r new → Writes (tableOf t have base s) old p now → (r ≡ p) × (new ≡ now)
+write-once t have base s a b = writes-once a b
+
+pub section-once : (at : ℕ) (e old : List ℕ) {new now : List ℕ} → new ≡ put 0 (framedRow at e) old → now ≡ put 0 (framedRow at e) old → new ≡ now
+section-once at e old a b = store-once 0 (framedRow at e) old a b

@@ -1,0 +1,92 @@
+-- The records of a table: each has 24 bytes, and they follow one another.
+-- Assumes nothing.
+use mathlib.Core.Path.{_≡_, refl, sym, _∙_, ap}
+use mathlib.Core.List.{List, [], _∷_, _++_, append-nil}
+use Prim.Native.Nat.{ℕ, suc, _+_, _-_, _*_, _≤_, _<_}
+use native.Mathlib.Numerals.{add-one}
+use native.Mathlib.Omega.{arith}
+use lib.ListN.{length, take, drop, getD, length-append}
+use lib.Seq.{take-suc}
+use borrow.Author.Tests.{le-leb, lt-leb}
+use Rattle.answer.specs.Numbers.{ROOM}
+use Rattle.answer.specs.Outcome.{Outcome, taken, refused, after, fitting}
+use Rattle.answer.proofs.Outcomes.{taken-is}
+use Rattle.answer.proofs.Checks.{checked-pass}
+use Rattle.wire.specs.Parts.{Wrote}
+use Rattle.wire.proofs.Numbers.{length-bytesOf}
+use Rattle.wire.proofs.Parts.{wrote-tail}
+use Rattle.order.specs.Keyed.{flat}
+use Rattle.order.proofs.Folds.{flat-append}
+use Rattle.entries.specs.Kinds.{Description}
+use Rattle.entries.specs.declared.Kind.{Kind}
+use Rattle.entries.specs.Code.{describe}
+use Rattle.entries.proofs.Lawful.{lawful}
+use Rattle.lists.specs.Lists.{partChecks, listAt, indexOf}
+use Rattle.lists.specs.Promises.{Indexed}
+use Rattle.lists.proofs.Taken.{list-sound}
+use Rattle.lists.proofs.Ordered.{index-length}
+use Rattle.lists.proofs.Callers.{indexed-stop, indexed-done, listOf, list-then, index-roomy}
+use Rattle.answer.specs.declared.Piece.the-variants.{Stop, Ends}
+use Rattle.tables.specs.declared.Table.{Table}
+use Rattle.tables.specs.declared.Table.the-variants.{Devices, Disks, Controllers}
+use Rattle.tables.specs.Tables.{described, rowOf, rowsAt, tableOf}
+
+pub length-row : (t : Table) (p : ℕ) (e : List ℕ) → length (rowOf t p e) ≡ 24
+length-row Devices p e = simp (length-append, length-bytesOf)
+length-row Disks p e = simp (length-append, length-bytesOf)
+length-row Controllers p e = simp (length-append, length-bytesOf)
+
+module _ (t : Table) (base : ℕ) (s : List ℕ) where
+  pub length-rows : (l : List ℕ) → length (rowsAt t base s l) ≡ 24 * length l
+  length-rows [] = refl
+  length-rows (y ∷ l) = omega (arith, length-append (rowOf t (base + y) (drop y s)) (rowsAt t base s l), length-row t (base + y) (drop y s), length-rows l)
+
+  -- one turn of the loop: a record written into the tail
+  pub rows-turn : (l : List ℕ) (i : ℕ) → i < length l → {old mid new : List ℕ} {at : ℕ} → Wrote (rowsAt t base s (take i l)) old mid at
+      → Wrote (rowOf t (base + getD l i 0) (drop (getD l i 0) s)) (take (length mid - at) (drop at mid)) new 24
+      → Wrote (rowsAt t base s (take (i + 1) l)) old (take at mid ++ (new ++ drop (length mid - at) (drop at mid))) (at + 24)
+  rows-turn l i h so e =
+      let row : ℕ → List ℕ = λ y. rowOf t (base + y) (drop y s) in
+      let split : rowsAt t base s (take (i + 1) l) ≡ rowsAt t base s (take i l) ++ rowOf t (base + getD l i 0) (drop (getD l i 0) s) =
+      ap (flat row) (ap (λ (n : ℕ). take n l) (add-one i) ∙ take-suc l i 0 h) ∙ flat-append row (take i l) (getD l i 0 ∷ []) ∙ ap (λ (x : List ℕ). rowsAt t base s (take i l) ++ x) (append-nil (row (getD l i 0))) in
+      rw split (wrote-tail so e)
+
+-- ---- the exits of the call
+
+module _ (t : Table) (k : Kind) (q : describe k ≡ described t) (have base : ℕ) (s : List ℕ) where
+  -- what the records of the starts make of the room
+  abbrev rowsOf : List ℕ → Outcome (List ℕ)
+  rowsOf l = fitting have (rowsAt t base s l)
+
+  -- the call by the index of its list
+  by-index : tableOf t have base s ≡ after (indexOf (describe k) 4096 s) rowsOf
+  by-index =
+      list-then (described t) s rowsOf
+      ∙ ap (λ (d : Description). after (listOf d s) rowsOf) (sym q)
+      ∙ ap (λ (o : Outcome (List ℕ)). after o rowsOf) (sym (index-roomy (lawful k) 4096 s (lawful k .bounded)))
+
+  pub table-stop : {old new : List ℕ} {n p : ℕ} → Indexed (indexOf (describe k) 4096 s) old (Stop n p) new → tableOf t have base s ≡ refused n p
+  table-stop h = by-index ∙ ap (λ (o : Outcome (List ℕ)). after o rowsOf) (indexed-stop (indexOf (describe k) 4096 s) h .0)
+
+  module _ {old new : List ℕ} {n : ℕ} (h : Indexed (indexOf (describe k) 4096 s) old (Ends n) new) where
+    done : indexOf (describe k) 4096 s ≡ taken (take n new)
+    done = indexed-done (indexOf (describe k) 4096 s) h
+
+    -- as many starts as it says, and no more than there may be
+    pub table-count : (length (take n new) ≡ n) × (n ≤ 4096)
+    table-count =
+        let c : n ≡ length (take n new) = taken-is (h .answers ∙ ap (λ (o : Outcome (List ℕ)). after o (λ l. taken (length l))) done) in
+        let l : listAt (describe k) s ≡ taken (take n new) = checked-pass (partChecks s) (listAt (describe k) s) (take n new) (sym (index-roomy (lawful k) 4096 s (lawful k .bounded)) ∙ done) .1 in
+        (sym c, omega (arith, index-length (lawful k) s l, list-sound (lawful k) s l .few, lawful k .bounded))
+
+    need : length (rowsAt t base s (take n new)) ≡ 24 * n
+    need = length-rows t base s (take n new) ∙ ap (λ (m : ℕ). 24 * m) (table-count .0)
+
+    found : tableOf t have base s ≡ rowsOf (take n new)
+    found = by-index ∙ ap (λ (o : Outcome (List ℕ)). after o rowsOf) done
+
+    pub table-short : have < 24 * n → tableOf t have base s ≡ refused ROOM (24 * n)
+    table-short k = found ∙ rw (need, lt-leb (24 * n) have k)
+
+    pub table-done : 24 * n ≤ have → tableOf t have base s ≡ taken (rowsAt t base s (take n new))
+    table-done k = found ∙ rw (need, le-leb (24 * n) have k)
