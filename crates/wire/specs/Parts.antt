@@ -1,10 +1,10 @@
 -- Bytes written into lent memory.
 -- Assumes nothing.
 use mathlib.Core.Path.{_≡_}
-use mathlib.Core.Bool.{Bool, cond}
-use mathlib.Core.List.{List, _++_}
+use mathlib.Core.Bool.{Bool, true, false, _&&_, cond}
+use mathlib.Core.List.{List, [], _∷_, _++_}
 use Prim.Native.Nat.{ℕ, _+_}
-use lib.Dec.{leb}
+use lib.Dec.{leb, eqb}
 use lib.ListN.{length, take, drop}
 
 -- old with bs written over it from a place on
@@ -19,3 +19,10 @@ put at bs old = cond (leb (at + length bs) (length old)) (splice at bs old) old
 pub record Wrote (bs old new : List ℕ) (n : ℕ) : Type 0 where
   pub count : n ≡ length bs
   pub bytes : new ≡ bs ++ drop (length bs) old
+
+-- the same bytes
+abbrev pub same : List ℕ → List ℕ → Bool
+same [] [] = true
+same [] (y ∷ m) = false
+same (x ∷ l) [] = false
+same (x ∷ l) (y ∷ m) = eqb x y && same l m

@@ -1,0 +1,77 @@
+-- Adding a device or a disk to a file: the canonical form of the file's content and the new entry.
+-- Assumes nothing.
+use mathlib.Core.List.{List, [], _∷_, _++_}
+use mathlib.Core.Bool.{Bool, not, _&&_}
+use Prim.Native.Nat.{ℕ, _<_}
+use lib.ListN.{length}
+use lib.Dec.{leb}
+use Rattle.answer.specs.Numbers.{SIZE, MANY, LIMIT, TEXT, HAVE}
+use Rattle.answer.specs.Outcome.{Outcome, Checks, checked, after, fitting}
+use Rattle.wire.specs.Numbers.{bytesOf}
+use Rattle.utf8.specs.Scan.{isText}
+use Rattle.order.specs.Keyed.{insert, has}
+use Rattle.entries.specs.Kinds.{Description, devices, disks}
+use Rattle.lists.specs.Lists.{listBytes}
+use Rattle.aerosnap.specs.File.{fileMost, sectionsMost, devicesMost}
+use Rattle.aerosnap.specs.Content.{framed, Content, secs, render, contentAt}
+
+-- What is added: a device by its id, version, flags and payload, or a disk by its id, base image and overlay image.
+pub data Item : Type 0 where
+  device : ℕ → ℕ → ℕ → List ℕ → Item
+  disk : ℕ → List ℕ → List ℕ → Item
+
+-- its numbers are a u32 and u16s, as the parameters of a call are
+abbrev pub Wide : Item → Type 0
+Wide (device id v f p) = (id < 4294967296) × (v < 65536) × (f < 65536)
+Wide (disk id x y) = id < 4294967296
+
+-- a text behind its u32 length
+abbrev pub sizedText : List ℕ → List ℕ
+sizedText t = bytesOf 4 (length t) ++ t
+
+-- its entry
+abbrev pub entryOf : Item → List ℕ
+entryOf (device id v f p) = framed id v f p
+entryOf (disk id x y) = bytesOf 4 id ++ (sizedText x ++ sizedText y)
+
+-- the kind of that entry
+abbrev pub kindOf : Item → Description
+kindOf (device id v f p) = devices
+kindOf (disk id x y) = disks
+
+-- the entries of that kind in a content
+abbrev pub listIn : Item → Content → List (List ℕ)
+listIn (device id v f p) c = c .devices
+listIn (disk id x y) c = c .disks
+
+-- the content with one entry more
+abbrev pub put : Item → Content → Content
+put (device id v f p) c = record { devices = insert (devices .key) (framed id v f p) (c .devices); disks = c .disks; rest = c .rest }
+put (disk id x y) c = record { devices = c .devices; disks = insert (disks .key) (entryOf (disk id x y)) (c .disks); rest = c .rest }
+
+-- what is asked of the item alone: its lengths, then its texts
+abbrev pub ownChecks : Item → Checks
+ownChecks (device id v f p) = (leb (length p) 67108864, LIMIT, 0) ∷ []
+ownChecks (disk id x y) = (leb (length x) 65536 && leb (length y) 65536, LIMIT, 0) ∷ (isText x && isText y, TEXT, 0) ∷ []
+
+-- its key is there
+abbrev pub there : Item → Content → Bool
+there x c = has (kindOf x .key) (kindOf x .key (entryOf x)) (listIn x c)
+
+-- what is asked of adding it to c, where that gives u: key, count and DEVICES bound, sections of the result, its size
+abbrev pub addChecks : Item → Content → Content → Checks
+addChecks x c u =
+    (not (there x c), HAVE, 0)
+    ∷ (leb (length (listIn x u)) (kindOf x .most), LIMIT, 0)
+    ∷ (leb (length (listBytes (u .devices))) devicesMost, LIMIT, 0)
+    ∷ (leb (length (secs u)) sectionsMost, MANY, 0)
+    ∷ (leb (length (render u)) fileMost, SIZE, 0)
+    ∷ []
+
+-- an item added to a content, for an output of so many bytes
+unfoldable pub addTo : ℕ → Content → Item → Outcome (List ℕ)
+addTo have c x = checked (ownChecks x ++ addChecks x c (put x c)) (fitting have (render (put x c)))
+
+-- an item added to a file: the file's faults, then the add's
+unfoldable pub addItem : ℕ → List ℕ → Item → Outcome (List ℕ)
+addItem have s x = after (contentAt s) (λ c. addTo have c x)

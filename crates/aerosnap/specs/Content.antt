@@ -1,0 +1,85 @@
+-- The content of a file, and the file that is written of it: the canonical form.
+-- Assumes nothing.
+use mathlib.Core.List.{List, [], _∷_, _++_}
+use mathlib.Core.Bool.{Bool, not, _&&_, cond}
+use Prim.Native.Nat.{ℕ}
+use lib.ListN.{length, drop}
+use lib.Dec.{eqb}
+use Rattle.answer.specs.Outcome.{Outcome, taken, after, fitting}
+use Rattle.wire.specs.Numbers.{bytesOf}
+use Rattle.order.specs.Keyed.{flat, keep, sort}
+use Rattle.order.specs.Entries.{join}
+use Rattle.entries.specs.Kinds.{Description, devices, disks}
+use Rattle.lists.specs.Lists.{entries, listBytes}
+use Rattle.aerosnap.specs.Known.{DEVICES, DISKS, known}
+use Rattle.aerosnap.specs.Payloads.{Body, meta, cpu, mmu, list, opaque, bodyOf}
+use Rattle.aerosnap.specs.File.{header, idOf, versionOf, fileOf}
+
+-- a section, or a device's entry: u32 id, u16 version, u16 flags, u64 length, payload
+abbrev pub framed : ℕ → ℕ → ℕ → List ℕ → List ℕ
+framed id v f p = bytesOf 4 id ++ (bytesOf 2 v ++ (bytesOf 2 f ++ (bytesOf 8 (length p) ++ p)))
+
+-- the section of a list; a list with no entries counts as absent, its version too, and isn't written
+abbrev pub listed : ℕ → ℕ → List (List ℕ) → List (List ℕ)
+listed id v [] = []
+listed id v (e ∷ l) = framed id v 0 (listBytes (e ∷ l)) ∷ []
+
+-- a section as it is written: lists in ascending key order, everything else copied
+abbrev pub tidied : Body → List ℕ → List (List ℕ)
+tidied meta e = e ∷ []
+tidied (cpu v) e = e ∷ []
+tidied (mmu v) e = e ∷ []
+tidied (list d) e = listed (idOf e) (versionOf e) (sort (d .key) (entries d (drop 16 e)))
+tidied opaque e = e ∷ []
+
+abbrev pub tidy : List ℕ → List (List ℕ)
+tidy e = tidied (bodyOf (idOf e) (versionOf e)) e
+
+-- known sections come in ascending id, then the others in the order found
+abbrev pub rank : List ℕ → ℕ
+rank e = cond (known (idOf e)) (idOf e) 9
+
+abbrev pub isId : ℕ → List ℕ → Bool
+isId i e = eqb (idOf e) i
+
+-- a section that holds neither devices nor disks
+abbrev pub isOther : List ℕ → Bool
+isOther e = not (isId DEVICES e) && not (isId DISKS e)
+
+-- the entries of the list with an id
+abbrev pub entriesIn : ℕ → Description → List (List ℕ) → List (List ℕ)
+entriesIn i d l = flat (λ e. entries d (drop 16 e)) (keep (isId i) l)
+
+-- The content: the devices and the disks in ascending key order, and the other sections as they are written.
+pub record Content : Type 0 where
+  pub devices : List (List ℕ)
+  pub disks : List (List ℕ)
+  pub rest : List (List ℕ)
+
+-- the content of a file's sections
+abbrev pub contentOf : List (List ℕ) → Content
+contentOf l = record {
+  devices = sort (devices .key) (entriesIn DEVICES devices l);
+  disks = sort (disks .key) (entriesIn DISKS disks l);
+  rest = sort rank (flat tidy (keep isOther l));
+}
+
+-- the sections that are written of it
+abbrev pub written : Content → List (List ℕ)
+written c = listed DEVICES 1 (c .devices) ++ (listed DISKS 1 (c .disks) ++ c .rest)
+
+-- the same in their order
+abbrev pub secs : Content → List (List ℕ)
+secs c = sort rank (written c)
+
+-- the bytes of the canonical form
+abbrev pub render : Content → List ℕ
+render c = header ++ join (secs c)
+
+-- the content of a file, or its first fault
+abbrev pub contentAt : List ℕ → Outcome Content
+contentAt s = after (fileOf s) (λ l. taken (contentOf l))
+
+-- the canonical form of a file, for an output of so many bytes
+unfoldable pub canonical : ℕ → List ℕ → Outcome (List ℕ)
+canonical have s = after (contentAt s) (λ c. fitting have (render c))

@@ -1,0 +1,42 @@
+-- The tables of a file: its sections in file order, its devices and its disks in key order.
+-- Assumes nothing.
+use mathlib.Core.List.{List, [], _∷_}
+use mathlib.Core.Bool.{cond}
+use Prim.Native.Nat.{ℕ, _+_}
+use lib.ListN.{length, drop}
+use Rattle.answer.specs.Outcome.{Outcome, taken, refused, after, fitting}
+use Rattle.order.specs.Keyed.{flat}
+use Rattle.lists.specs.Lists.{listAt}
+use Rattle.tables.specs.Tables.{described, framedRow, rowsAt}
+use Rattle.tables.specs.declared.Table.{Table}
+use Rattle.tables.specs.declared.Table.the-variants.{Devices, Disks}
+use Rattle.aerosnap.specs.Known.{DEVICES, DISKS}
+use Rattle.aerosnap.specs.File.{fileOf}
+use Rattle.aerosnap.specs.Content.{isId}
+
+-- sections and where they start, the first of them at a place
+unfoldable pub placed : ℕ → List (List ℕ) → List (ℕ × List ℕ)
+placed at [] = []
+placed at (e ∷ l) = (at, e) ∷ placed (at + length e) l
+
+-- where the entries of a list that was taken start, in the order of their keys
+abbrev pub startsOf : Outcome (List ℕ) → List ℕ
+startsOf (taken l) = l
+startsOf (refused n p) = []
+
+-- the records of a section's entries, if it is the one with that id
+abbrev pub listRows : Table → ℕ → ℕ × List ℕ → List ℕ
+listRows t i q = cond (isId i (q .1)) (rowsAt t (q .0 + 16) (drop 16 (q .1)) (startsOf (listAt (described t) (drop 16 (q .1))))) []
+
+-- the records of each section, for an output of so many bytes; the whole input is checked first
+abbrev pub table : (ℕ × List ℕ → List ℕ) → ℕ → List ℕ → Outcome (List ℕ)
+table rows have s = after (fileOf s) (λ l. fitting have (flat rows (placed 16 l)))
+
+abbrev pub sectionTable : ℕ → List ℕ → Outcome (List ℕ)
+sectionTable = table (λ q. framedRow (q .0) (q .1))
+
+abbrev pub deviceTable : ℕ → List ℕ → Outcome (List ℕ)
+deviceTable = table (listRows Devices DEVICES)
+
+abbrev pub diskTable : ℕ → List ℕ → Outcome (List ℕ)
+diskTable = table (listRows Disks DISKS)

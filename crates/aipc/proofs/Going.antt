@@ -1,0 +1,54 @@
+-- What code learns from a piece or a test: its checks stop there, or all of them pass and it goes on.
+-- Assumes nothing.
+use mathlib.Core.Path.{_≡_, refl, sym, _∙_, ap}
+use mathlib.Core.List.{[], _∷_}
+use mathlib.Core.Bool.{Bool, true, false}
+use Prim.Native.Nat.{ℕ}
+use Rattle.answer.specs.declared.Piece.{Piece}
+use Rattle.answer.specs.declared.Piece.the-variants.{Stop, Ends}
+use Rattle.answer.specs.declared.Test.{Test}
+use Rattle.answer.specs.declared.Test.the-variants.{Fault, Fine}
+use Rattle.answer.specs.Outcome.{Outcome, taken, refused, Checks, checked, Pass, after}
+use Rattle.answer.specs.Calls.{pieceOf, testOf, asked}
+use Rattle.answer.proofs.Checks.{pass-checked, checked-pass}
+use Rattle.answer.proofs.Outcomes.{taken-is, taken-refused}
+
+-- a refusal does not depend on what stands behind the checks, if that is taken
+pub stops : {A B : Type 0} (l : Checks) (a : A) (x : Outcome B) {n p : ℕ} → checked l (taken a) ≡ refused n p → checked l x ≡ refused n p
+stops [] a x e = absurd (taken-refused e)
+stops {A} {B} (c ∷ l) a x {n} {p} e = go (c .0) refl e (stops l a x)
+  where
+    go : (b : Bool) → c .0 ≡ b → checked ((b, c .1, c .2) ∷ l) (taken a) ≡ refused n p → (checked l (taken a) ≡ refused n p → checked l x ≡ refused n p)
+        → checked ((b, c .1, c .2) ∷ l) x ≡ refused n p
+    go true q e r = r e
+    go false q e r = cc
+
+-- what goes on after checks stands behind them
+pub after-checked : {A B : Type 0} (l : Checks) (a : A) (f : A → Outcome B) → after (checked l (taken a)) f ≡ checked l (f a)
+after-checked [] a f = refl
+after-checked {A} {B} (c ∷ l) a f = go (c .0) (after-checked l a f)
+  where
+    go : (b : Bool) → after (checked l (taken a)) f ≡ checked l (f a) → after (checked ((b, c .1, c .2) ∷ l) (taken a)) f ≡ checked ((b, c .1, c .2) ∷ l) (f a)
+    go true h = h
+    go false h = refl
+
+module _ (p : Piece) (l : Checks) (a : ℕ) (is : pieceOf p ≡ checked l (taken a)) where
+  pub piece-stops : {B : Type 0} (x : Outcome B) {n q : ℕ} → p ≡ Stop n q → refused n q ≡ checked l x
+  piece-stops x e = sym (stops l a x (sym is ∙ ap pieceOf e))
+
+  pub piece-passes : {n : ℕ} → p ≡ Ends n → Pass l × (a ≡ n)
+  piece-passes e = let h = checked-pass l (taken a) _ (sym is ∙ ap pieceOf e) in (h .0, taken-is (h .1))
+
+  -- what is done at the end that was found is what stands behind the checks
+  pub piece-goes : {B : Type 0} (g : ℕ → Outcome B) {n : ℕ} → p ≡ Ends n → g n ≡ checked l (g a)
+  piece-goes g e = let h = piece-passes e in ap g (sym (h .1)) ∙ sym (pass-checked l (g a) (h .0))
+
+module _ (t : Test) (l : Checks) (is : testOf t ≡ asked l) where
+  pub test-stops : {B : Type 0} (x : Outcome B) {n q : ℕ} → t ≡ Fault n q → refused n q ≡ checked l x
+  test-stops x e = sym (stops l tt x (sym is ∙ ap testOf e))
+
+  pub test-passes : t ≡ Fine → Pass l
+  test-passes e = checked-pass l (taken tt) tt (sym is ∙ ap testOf e) .0
+
+  pub test-goes : {B : Type 0} (x : Outcome B) → t ≡ Fine → x ≡ checked l x
+  test-goes x e = sym (pass-checked l x (test-passes e))

@@ -1,0 +1,24 @@
+-- `aipc::is_text` meets its contract. Assumes nothing.
+use mathlib.Core.Path.{sym}
+use Rattle.utf8.proofs.Reading.{whole-is, broken-is}
+use borrow.Author.Needs.{needs}
+use Rattle.aipc.proofs.is_text.Statement.{statement}
+use Rattle.aipc.proofs.is_text.Tie as tie
+
+text-requires : tie.Need-text-requires
+text-requires c κs = tt
+
+enum-told : tie.Need-enum-told
+enum-told c = search needs
+
+enum-told-2 : tie.Need-enum-told-2
+enum-told-2 c = search needs
+
+returns : tie.Need-returns
+returns c = sym (whole-is (c .before .before .text .ensures) (c .enum-told .given .1))
+
+returns-2 : tie.Need-returns-2
+returns-2 c = sym (broken-is (c .before .before .text .ensures) (c .enum-told2 .given .1))
+
+pub is-text-spec : {M : Type 1} → statement M
+is-text-spec = tie.close (tie.spec text-requires enum-told enum-told-2 returns returns-2)

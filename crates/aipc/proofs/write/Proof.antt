@@ -1,0 +1,46 @@
+-- `aipc::write` meets its contract. Assumes nothing.
+use Rattle.aipc.proofs.Writes.{write-refused, write-taken}
+use borrow.Author.Needs.{needs}
+use Rattle.aipc.proofs.write.Statement.{statement}
+use Rattle.aipc.proofs.write.Tie as tie
+
+form-of-requires : tie.Need-form-of-requires
+form-of-requires c κs = tt
+
+write-test-requires : tie.Need-write-test-requires
+write-test-requires c κs = tt
+
+enum-known-number : tie.Need-enum-known-number
+enum-known-number c = search needs
+
+enum-told : tie.Need-enum-told
+enum-told c = search needs
+
+put-form-requires : tie.Need-put-form-requires
+put-form-requires c κs = tt
+
+size-requires : tie.Need-size-requires
+size-requires c κs = tt
+
+returns : tie.Need-returns
+returns c = write-refused _ _ _ _ (c .before .before .before .before .form-of .ensures) _ (c .before .before .before .write-test .ensures) (c .before .number .given .1)
+
+same-length : tie.Need-same-length
+same-length c = search needs
+
+returns-2 : tie.Need-returns-2
+returns-2 c = write-taken _ _ _ _ (c .before .before .before .before .before .before .before .before .form-of .ensures) _ (c .before .before .before .before .before .before .before .write-test .ensures) (c .before .before .before .before .before .enum-told .given .1) (c .size .ensures) (c .before .before .before .put-form .ensures)
+
+pub write-spec : {M : Type 1} → statement M
+write-spec =
+    tie.close
+    (tie.spec
+    form-of-requires
+    write-test-requires
+    enum-known-number
+    enum-told
+    put-form-requires
+    size-requires
+    returns
+    same-length
+    returns-2)

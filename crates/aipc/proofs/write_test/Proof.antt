@@ -1,0 +1,45 @@
+-- `aipc::write_test` meets its contract. Assumes nothing.
+use Rattle.aipc.proofs.Writes.{writing-checks}
+use Rattle.aipc.proofs.Going.{test-stops, test-goes}
+use Rattle.messages.specs.Writing.{formBytes}
+use lib.ListN.{length}
+use Rattle.aipc.specs.Steps.{faults, limits}
+use Rattle.answer.specs.Outcome.{taken}
+use Rattle.answer.specs.Calls.{asked}
+use mathlib.Core.Path.{sym, _∙_}
+use borrow.Author.Needs.{needs}
+use Rattle.aipc.proofs.write_test.Statement.{statement}
+use Rattle.aipc.proofs.write_test.Tie as tie
+
+faults-requires : tie.Need-faults-requires
+faults-requires c κs = tt
+
+enum-known-number : tie.Need-enum-known-number
+enum-known-number c = search needs
+
+enum-told : tie.Need-enum-told
+enum-told c = search needs
+
+size-requires : tie.Need-size-requires
+size-requires c κs = tt
+
+limits-requires : tie.Need-limits-requires
+limits-requires c κs = tt
+
+returns : tie.Need-returns
+returns c = let a = c .before .before .before .before .before .args in test-stops _ (faults (a .f) (a .bytes .now)) (c .before .before .before .faults .ensures) _ (c .before .number .given .1) ∙ sym (writing-checks (a .f) (a .bytes .now) (a .have) (taken tt))
+
+returns-2 : tie.Need-returns-2
+returns-2 c = let a = c .before .before .before .before .before .before .args in c .limits .ensures ∙ rw (c .before .size .ensures) (test-goes _ (faults (a .f) (a .bytes .now)) (c .before .before .before .before .faults .ensures) (asked (limits (length (formBytes (a .f) (a .bytes .now))) (a .have))) (c .before .before .enum-told .given .1)) ∙ sym (writing-checks (a .f) (a .bytes .now) (a .have) (taken tt))
+
+pub write-test-spec : {M : Type 1} → statement M
+write-test-spec =
+    tie.close
+    (tie.spec
+    faults-requires
+    enum-known-number
+    enum-told
+    size-requires
+    limits-requires
+    returns
+    returns-2)

@@ -1,0 +1,2 @@
+-- Steps: what the private functions say to each other.
+pub mod Steps

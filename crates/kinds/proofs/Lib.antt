@@ -1,0 +1,2 @@
+-- Once: the promise of `form_of` fixes its answer.
+pub mod Once

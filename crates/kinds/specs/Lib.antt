@@ -1,0 +1,2 @@
+-- Kinds: the table of kinds.
+pub mod Kinds

@@ -1,0 +1,305 @@
+-- `messages::said` goes through the table. Assumes nothing.
+use mathlib.Core.Path.{sym}
+use Rattle.kinds.specs.Kinds.{paper}
+use Rattle.messages.specs.Fields.{messageAt, numbersAt}
+use Rattle.messages.proofs.Tags.{missing, unknown}
+use Rattle.messages.proofs.said.Statement.{statement}
+use Rattle.messages.proofs.said.Tie as tie
+
+u16-at-requires : tie.Need-u16-at-requires
+u16-at-requires c κs = tt
+
+u32-at-requires : tie.Need-u32-at-requires
+u32-at-requires c κs = tt
+
+u32-at-requires-2 : tie.Need-u32-at-requires-2
+u32-at-requires-2 c κs = tt
+
+u64-at-requires : tie.Need-u64-at-requires
+u64-at-requires c κs = tt
+
+u32-at-requires-3 : tie.Need-u32-at-requires-3
+u32-at-requires-3 c κs = tt
+
+u32-at-requires-4 : tie.Need-u32-at-requires-4
+u32-at-requires-4 c κs = tt
+
+u64-at-requires-2 : tie.Need-u64-at-requires-2
+u64-at-requires-2 c κs = tt
+
+u32-at-requires-5 : tie.Need-u32-at-requires-5
+u32-at-requires-5 c κs = tt
+
+u16-at-requires-2 : tie.Need-u16-at-requires-2
+u16-at-requires-2 c κs = tt
+
+u32-at-requires-6 : tie.Need-u32-at-requires-6
+u32-at-requires-6 c κs = tt
+
+u32-at-requires-7 : tie.Need-u32-at-requires-7
+u32-at-requires-7 c κs = tt
+
+u16-at-requires-3 : tie.Need-u16-at-requires-3
+u16-at-requires-3 c κs = tt
+
+u32-at-requires-8 : tie.Need-u32-at-requires-8
+u32-at-requires-8 c κs = tt
+
+u32-at-requires-9 : tie.Need-u32-at-requires-9
+u32-at-requires-9 c κs = tt
+
+u32-at-requires-10 : tie.Need-u32-at-requires-10
+u32-at-requires-10 c κs = tt
+
+u64-at-requires-3 : tie.Need-u64-at-requires-3
+u64-at-requires-3 c κs = tt
+
+u32-at-requires-11 : tie.Need-u32-at-requires-11
+u32-at-requires-11 c κs = tt
+
+u64-at-requires-4 : tie.Need-u64-at-requires-4
+u64-at-requires-4 c κs = tt
+
+u32-at-requires-12 : tie.Need-u32-at-requires-12
+u32-at-requires-12 c κs = tt
+
+u64-at-requires-5 : tie.Need-u64-at-requires-5
+u64-at-requires-5 c κs = tt
+
+u32-at-requires-13 : tie.Need-u32-at-requires-13
+u32-at-requires-13 c κs = tt
+
+u64-at-requires-6 : tie.Need-u64-at-requires-6
+u64-at-requires-6 c κs = tt
+
+u32-at-requires-14 : tie.Need-u32-at-requires-14
+u32-at-requires-14 c κs = tt
+
+u32-at-requires-15 : tie.Need-u32-at-requires-15
+u32-at-requires-15 c κs = tt
+
+u32-at-requires-16 : tie.Need-u32-at-requires-16
+u32-at-requires-16 c κs = tt
+
+u32-at-requires-17 : tie.Need-u32-at-requires-17
+u32-at-requires-17 c κs = tt
+
+u32-at-requires-18 : tie.Need-u32-at-requires-18
+u32-at-requires-18 c κs = tt
+
+u32-at-requires-19 : tie.Need-u32-at-requires-19
+u32-at-requires-19 c κs = tt
+
+u32-at-requires-20 : tie.Need-u32-at-requires-20
+u32-at-requires-20 c κs = tt
+
+u8-at-requires : tie.Need-u8-at-requires
+u8-at-requires c κs = tt
+
+u32-at-requires-21 : tie.Need-u32-at-requires-21
+u32-at-requires-21 c κs = tt
+
+error-at-requires : tie.Need-error-at-requires
+error-at-requires c κs = tt
+
+u32-at-requires-22 : tie.Need-u32-at-requires-22
+u32-at-requires-22 c κs = tt
+
+u8-at-requires-2 : tie.Need-u8-at-requires-2
+u8-at-requires-2 c κs = tt
+
+u32-at-requires-23 : tie.Need-u32-at-requires-23
+u32-at-requires-23 c κs = tt
+
+error-at-requires-2 : tie.Need-error-at-requires-2
+error-at-requires-2 c κs = tt
+
+u64-at-requires-7 : tie.Need-u64-at-requires-7
+u64-at-requires-7 c κs = tt
+
+u8-at-requires-3 : tie.Need-u8-at-requires-3
+u8-at-requires-3 c κs = tt
+
+u8-at-requires-4 : tie.Need-u8-at-requires-4
+u8-at-requires-4 c κs = tt
+
+u8-at-requires-5 : tie.Need-u8-at-requires-5
+u8-at-requires-5 c κs = tt
+
+u8-at-requires-6 : tie.Need-u8-at-requires-6
+u8-at-requires-6 c κs = tt
+
+u16-at-requires-4 : tie.Need-u16-at-requires-4
+u16-at-requires-4 c κs = tt
+
+returns : tie.Need-returns
+unfolding messageAt numbersAt paper
+returns c = rw (← c .before .before .u16-at .ensures, c .before .match .keys1) (cc)
+
+returns-2 : tie.Need-returns-2
+unfolding messageAt numbersAt paper
+returns-2 c = rw (← c .before .u16-at .ensures, c .match .keys2)
+
+returns-3 : tie.Need-returns-3
+unfolding messageAt numbersAt paper
+returns-3 c = rw (← c .before .before .before .before .u16-at .ensures, c .before .before .before .match .keys3) (cc)
+
+returns-4 : tie.Need-returns-4
+unfolding messageAt numbersAt paper
+returns-4 c = rw (← c .before .before .before .u16-at .ensures, c .before .before .match .keys4) (cc)
+
+returns-5 : tie.Need-returns-5
+unfolding messageAt numbersAt paper
+returns-5 c = rw (← c .before .before .before .before .u16-at .ensures, c .before .before .before .match .keys5) (cc)
+
+returns-6 : tie.Need-returns-6
+unfolding messageAt numbersAt paper
+returns-6 c = rw (← c .before .before .before .before .before .u16-at .ensures, c .before .before .before .before .match .keys6) (cc)
+
+returns-7 : tie.Need-returns-7
+unfolding messageAt numbersAt paper
+returns-7 c = rw (← c .before .before .before .before .before .u16-at .ensures, c .before .before .before .before .match .keys7) (cc)
+
+returns-8 : tie.Need-returns-8
+unfolding messageAt numbersAt paper
+returns-8 c = rw (← c .before .before .before .before .before .u16-at .ensures, c .before .before .before .before .match .keys8) (cc)
+
+returns-9 : tie.Need-returns-9
+unfolding messageAt numbersAt paper
+returns-9 c = rw (← c .before .before .u16-at .ensures, c .before .match .keys9) (cc)
+
+returns-10 : tie.Need-returns-10
+unfolding messageAt numbersAt paper
+returns-10 c = rw (← c .before .before .u16-at .ensures, c .before .match .keys10) (cc)
+
+returns-11 : tie.Need-returns-11
+unfolding messageAt numbersAt paper
+returns-11 c = rw (← c .before .before .before .u16-at .ensures, c .before .before .match .keys11) (cc)
+
+returns-12 : tie.Need-returns-12
+unfolding messageAt numbersAt paper
+returns-12 c = rw (← c .before .before .u16-at .ensures, c .before .match .keys12) (cc)
+
+returns-13 : tie.Need-returns-13
+unfolding messageAt numbersAt paper
+returns-13 c = rw (← c .before .before .u16-at .ensures, c .before .match .keys13) (cc)
+
+returns-14 : tie.Need-returns-14
+unfolding messageAt numbersAt paper
+returns-14 c = rw (← c .before .before .before .before .before .u16-at .ensures, c .before .before .before .before .match .keys14) (cc)
+
+returns-15 : tie.Need-returns-15
+unfolding messageAt numbersAt paper
+returns-15 c = rw (← c .before .before .before .before .before .u16-at .ensures, c .before .before .before .before .match .keys15) (cc)
+
+returns-16 : tie.Need-returns-16
+unfolding messageAt numbersAt paper
+returns-16 c = rw (← c .before .before .u16-at .ensures, c .before .match .keys16) (cc)
+
+returns-17 : tie.Need-returns-17
+unfolding messageAt numbersAt paper
+returns-17 c = rw (← c .before .before .u16-at .ensures, c .before .match .keys17) (cc)
+
+returns-18 : tie.Need-returns-18
+unfolding messageAt numbersAt paper
+returns-18 c = rw (← c .before .before .u16-at .ensures, c .before .match .keys18) (cc)
+
+returns-19 : tie.Need-returns-19
+unfolding messageAt numbersAt paper
+returns-19 c = rw (← c .before .before .u16-at .ensures, c .before .match .keys19) (cc)
+
+returns-20 : tie.Need-returns-20
+unfolding messageAt numbersAt paper
+returns-20 c = rw (← c .before .u16-at .ensures, c .match .keys20)
+
+returns-21 : tie.Need-returns-21
+unfolding messageAt numbersAt paper
+returns-21 c = rw (← c .before .before .u16-at .ensures, c .before .match .keys21) (cc)
+
+returns-22 : tie.Need-returns-22
+unfolding messageAt numbersAt paper
+returns-22 c = rw (← c .before .before .u16-at .ensures, c .before .match .keys22) (cc)
+
+returns-23 : tie.Need-returns-23
+unfolding messageAt numbersAt paper
+returns-23 c = rw (← c .before .u16-at .ensures, c .match .keys23)
+
+returns-24 : tie.Need-returns-24
+unfolding messageAt numbersAt paper
+returns-24 c = rw (← c .before .u16-at .ensures, c .match .keys24)
+
+returns-25 : tie.Need-returns-25
+unfolding paper
+returns-25 c = sym (unknown _ _ (c .before .u16-at .ensures) (missing _ (c .match .rest)))
+
+pub said-spec : {M : Type 1} → statement M
+said-spec =
+    tie.close
+    (tie.spec
+    u16-at-requires
+    u32-at-requires
+    u32-at-requires-2
+    u64-at-requires
+    u32-at-requires-3
+    u32-at-requires-4
+    u64-at-requires-2
+    u32-at-requires-5
+    u16-at-requires-2
+    u32-at-requires-6
+    u32-at-requires-7
+    u16-at-requires-3
+    u32-at-requires-8
+    u32-at-requires-9
+    u32-at-requires-10
+    u64-at-requires-3
+    u32-at-requires-11
+    u64-at-requires-4
+    u32-at-requires-12
+    u64-at-requires-5
+    u32-at-requires-13
+    u64-at-requires-6
+    u32-at-requires-14
+    u32-at-requires-15
+    u32-at-requires-16
+    u32-at-requires-17
+    u32-at-requires-18
+    u32-at-requires-19
+    u32-at-requires-20
+    u8-at-requires
+    u32-at-requires-21
+    error-at-requires
+    u32-at-requires-22
+    u8-at-requires-2
+    u32-at-requires-23
+    error-at-requires-2
+    u64-at-requires-7
+    u8-at-requires-3
+    u8-at-requires-4
+    u8-at-requires-5
+    u8-at-requires-6
+    u16-at-requires-4
+    returns
+    returns-2
+    returns-3
+    returns-4
+    returns-5
+    returns-6
+    returns-7
+    returns-8
+    returns-9
+    returns-10
+    returns-11
+    returns-12
+    returns-13
+    returns-14
+    returns-15
+    returns-16
+    returns-17
+    returns-18
+    returns-19
+    returns-20
+    returns-21
+    returns-22
+    returns-23
+    returns-24
+    returns-25)

@@ -1,0 +1,28 @@
+use Rattle.format.specs.Format.{option, pair, bytes, text}
+use Rattle.format.proofs.Exits.{pair-stop, pair-next}
+use borrow.Author.Needs.{needs}
+use Rattle.payloads.proofs.since_at.Statement.{statement}
+use Rattle.payloads.proofs.since_at.Tie as tie
+
+parent-at-requires : tie.Need-parent-at-requires
+parent-at-requires c κs = search needs
+
+enum-known-number : tie.Need-enum-known-number
+enum-known-number c = search needs
+
+enum-known-e : tie.Need-enum-known-e
+enum-known-e c = search needs
+
+time-at-requires : tie.Need-time-at-requires
+time-at-requires c κs = search needs
+
+returns : tie.Need-returns
+returns c = let k = c .before .before .before in let a = k .before .before .args in pair-stop (a .s .now) (a .at) (option (bytes 8)) (pair (bytes 8) (option (text 4096))) (rw (c .before .number .given .1) at (k .parent-at .ensures))
+
+returns-2 : tie.Need-returns-2
+returns-2 c = let k = c .before .before .before .before in let a = k .before .before .args in pair-next (a .s .now) (a .at) (option (bytes 8)) (pair (bytes 8) (option (text 4096))) (rw (c .before .before .e .given .1) at (k .parent-at .ensures)) (c .time-at .ensures)
+
+pub since-at-spec : {M : Type 1} → statement M
+since-at-spec =
+    tie.close
+    (tie.spec parent-at-requires enum-known-number enum-known-e time-at-requires returns returns-2)

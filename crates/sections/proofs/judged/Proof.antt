@@ -1,0 +1,71 @@
+use Rattle.sections.proofs.Rules.{ruled-not, part-length}
+use Rattle.aerosnap.specs.Known as spec
+use borrow.Author.Tests.{not-true, not-false}
+use native.Mathlib.Nat.{add-sub-cancel-left}
+use Prim.Native.Nat.{_+_}
+use mathlib.Core.Path.{sym, _∙_, ap}
+use native.Mathlib.Omega.{arith}
+use borrow.Author.Needs.{needs}
+use Rattle.sections.proofs.judged.Statement.{statement}
+use Rattle.sections.proofs.judged.Tie as tie
+
+u32-at-requires : tie.Need-u32-at-requires
+u32-at-requires c κs = search needs
+
+known-requires : tie.Need-known-requires
+known-requires c κs = search needs
+
+returns : tie.Need-returns
+returns c = λ l n m. ruled-not l (c .before .before .before .before .args .at) _ _ _ _ (ap spec.known (sym (c .before .before .u32-at .ensures)) ∙ sym (c .before .known .ensures) ∙ not-true _ (c .if1 .taken))
+
+add-u16-at : tie.Need-add-u16-at
+add-u16-at c = search needs
+
+u16-at-requires : tie.Need-u16-at-requires
+u16-at-requires c κs = search needs
+
+add-u16-at-2 : tie.Need-add-u16-at-2
+add-u16-at-2 c = search needs
+
+u16-at-requires-2 : tie.Need-u16-at-requires-2
+u16-at-requires-2 c κs = search needs
+
+add-b : tie.Need-add-b
+add-b c = search needs
+
+add-e : tie.Need-add-e
+add-e c = search needs
+
+sub-ruled : tie.Need-sub-ruled
+sub-ruled c = search needs
+
+part-ruled-start : tie.Need-part-ruled-start
+part-ruled-start c = search needs
+
+part-ruled-end : tie.Need-part-ruled-end
+part-ruled-end c = search needs
+
+ruled-requires : tie.Need-ruled-requires
+ruled-requires c κs = let a = c .before .before .before .before .before .before .before .args in (sym (c .before .before .before .before .known .ensures) ∙ not-false _ (c .before .before .before .if1 .left), omega (arith, part-length (a .s .now) (a .at + 16) (a .m) (omega arith)))
+
+returns-2 : tie.Need-returns-2
+returns-2 c = λ l n m. rw (← c .before .before .before .before .before .before .u32-at .ensures, ← c .before .before .before .u16-at .ensures, ← c .before .before .u16-at2 .ensures) (rw add-sub-cancel-left at (c .ruled .ensures l n m))
+
+pub judged-spec : {M : Type 1} → statement M
+judged-spec =
+    tie.close
+    (tie.spec
+    u32-at-requires
+    known-requires
+    returns
+    add-u16-at
+    u16-at-requires
+    add-u16-at-2
+    u16-at-requires-2
+    add-b
+    add-e
+    sub-ruled
+    part-ruled-start
+    part-ruled-end
+    ruled-requires
+    returns-2)

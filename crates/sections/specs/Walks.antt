@@ -1,0 +1,28 @@
+-- The walk over the sections, as the code keeps it.
+-- Assumes nothing.
+use mathlib.Core.Path.{_≡_}
+use mathlib.Core.List.{List, []}
+use Prim.Native.Nat.{ℕ, _+_, _≤_}
+use lib.ListN.{length, drop, getD}
+use lib.Dec.{eqb}
+use Rattle.answer.specs.Outcome.{Outcome, taken, after}
+use Rattle.order.specs.Keyed.{has}
+use Rattle.aerosnap.specs.File.{sectionsMost, slotOf, sectionOf, sections}
+
+-- the marks say which slots are taken by the n sections before
+pub record Marks (m : List ℕ) (before : List (List ℕ)) (n : ℕ) : Type 0 where
+  pub long : length m ≡ 9
+  pub count : n ≡ length before
+  pub says : (i : ℕ) → 1 ≤ i → i ≤ 8 → has slotOf i before ≡ eqb (getD m i 0) 1
+
+-- the section at a place of s, after those before it: where it ends
+unfoldable pub sectionAt : List (List ℕ) → List ℕ → ℕ → Outcome ℕ
+sectionAt before s at = after (sectionOf before at (drop at s)) (λ w. taken (at + w))
+
+-- how many sections were found
+abbrev pub counted : Outcome (List (List ℕ)) → Outcome ℕ
+counted r = after r (λ l. taken (length l))
+
+-- the sections behind the header
+abbrev pub walkedFrom : List ℕ → Outcome (List (List ℕ))
+walkedFrom s = sections sectionsMost [] 16 (drop 16 s)
