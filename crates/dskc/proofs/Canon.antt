@@ -1,0 +1,72 @@
+-- The canonical form of a wrapper that is taken: its bytes, its length, and how they are written.
+-- Assumes nothing.
+use mathlib.Core.Path.{_≡_, refl, sym, _∙_, ap}
+use mathlib.Core.List.{List, [], _∷_, _++_}
+use Prim.Native.Nat.{ℕ, _+_, _-_, _≤_, _<_}
+use native.Mathlib.Omega.{arith}
+use lib.ListN.{length, take, drop, length-append, length-drop}
+use borrow.Author.Tests.{leb-true, le-leb, lt-leb}
+use Rattle.answer.specs.declared.Answer.{Answer}
+use Rattle.answer.specs.Numbers.{ROOM}
+use Rattle.answer.specs.Outcome.{Outcome, taken, refused, checked, after, done, fitting}
+use Rattle.answer.specs.Calls.{memory, Writes}
+use Rattle.answer.proofs.Outcomes.{done-taken}
+use Rattle.wire.specs.Parts.{Wrote}
+use Rattle.wire.proofs.Parts.{wrote-tail, length-tail}
+use Rattle.order.specs.Keyed.{sort}
+use Rattle.entries.specs.Kinds.{controllers}
+use Rattle.entries.specs.declared.Kind.the-variants as kind
+use Rattle.entries.proofs.Lawful.{lawful}
+use Rattle.lists.specs.Lists.{partChecks, listAt, listBytes}
+use Rattle.lists.proofs.Written.{sorted-length}
+use Rattle.writer.specs.Writer.{sortedOf}
+use Rattle.dskc.specs.Wrapper.{header, headerChecks, wrapperOf, wrapperBytes, controllersOf, canonicalCall}
+use Rattle.dskc.proofs.Reading.{whole, list-whole}
+
+-- the controllers in address order, as the list behind the header
+abbrev pub listed : List ℕ → List ℕ
+listed s = listBytes (sort (controllers .key) (controllersOf s))
+
+module _ (s : List ℕ) (h : taken tt ≡ done (wrapperOf s)) where
+  long : 16 ≤ length s
+  long = let t = done-taken (wrapperOf s) (sym h) in leb-true 16 (length s) (whole s (t .1) .0 .1 .0)
+
+  listed-length : length (listed s) ≡ length (drop 16 s)
+  listed-length = let t = done-taken (wrapperOf s) (sym h) in sorted-length (lawful kind.Controllers) (drop 16 s) (whole s (t .1) .1)
+
+  pub canon-length : (16 ≤ length s) × (length (wrapperBytes (sort (controllers .key) (controllersOf s))) ≡ length s)
+  canon-length = (long, omega (arith, long, length-append header (listed s), listed-length, length-drop 16 s))
+
+  module _ (have : ℕ) where
+    by-room : canonicalCall have s ≡ fitting have (header ++ listed s)
+    by-room =
+        let t = done-taken (wrapperOf s) (sym h) in
+        ap (λ (o : Outcome (List ℕ)). after o (λ _. fitting have (header ++ listed s))) (t .1)
+
+    pub canon-short : have < length s → canonicalCall have s ≡ refused ROOM (length s)
+    canon-short k = by-room ∙ rw (canon-length .1, lt-leb (length s) have k)
+
+    pub canon-done : length s ≤ have → canonicalCall have s ≡ taken (header ++ listed s)
+    canon-done k = by-room ∙ rw (canon-length .1, le-leb (length s) have k)
+
+  -- the list's writer, in a tail that is long enough
+  pub list-written : {b old new : List ℕ} {r : Answer} → b ≡ drop 16 s → length b ≤ length old → Writes (sortedOf controllers (length old) b) old r new → Wrote (listed s) old new (length b)
+  list-written {b} {old} {new} e k w =
+      let t = done-taken (wrapperOf s) (sym h) in
+      let p = whole s (t .1) in
+      let f : sortedOf controllers (length old) (drop 16 s) ≡ taken (listed s) =
+      list-whole s (p .0) (after (listAt controllers (drop 16 s)) (λ _. fitting (length old) (listed s)))
+      ∙ ap (λ (o : Outcome (List ℕ)). after o (λ _. fitting (length old) (listed s))) (p .1)
+      ∙ rw (listed-length, le-leb (length (drop 16 s)) (length old) (omega (arith, ap length e))) in
+      let g : sortedOf controllers (length old) b ≡ taken (listed s) = ap (sortedOf controllers (length old)) e ∙ f in
+      record { count = ap length e ∙ sym listed-length; bytes = w .leaves ∙ ap (λ (o : Outcome (List ℕ)). memory o old) g }
+
+  -- the header, and the list in the tail behind it
+  pub canon-written : {b old mid new : List ℕ} {r : Answer} → b ≡ drop 16 s → length s ≤ length old → length mid ≡ length old → Wrote header old mid 16
+      → Writes (sortedOf controllers (length (take (length mid - 16) (drop 16 mid))) b) (take (length mid - 16) (drop 16 mid)) r new
+      → Wrote (header ++ listed s) old (take 16 mid ++ (new ++ drop (length mid - 16) (drop 16 mid))) (length s)
+  canon-written {b} {old} {mid} e k l so w =
+      let n : length b ≡ length s - 16 = ap length e ∙ length-drop 16 s in
+      let m : length b ≤ length (take (length mid - 16) (drop 16 mid)) = rw length-tail (omega (arith, long)) in
+      let all = wrote-tail so (list-written e m w) in
+      record { count = omega (arith, all .count, long); bytes = all .bytes }

@@ -1,0 +1,101 @@
+-- A wrapper by its header and its list, and the exits of the calls that read it.
+-- Assumes nothing.
+use mathlib.Core.Path.{_≡_, refl, sym, _∙_, ap}
+use mathlib.Core.Bool.{Bool, true, false}
+use mathlib.Core.List.{List, [], _∷_}
+use Prim.Native.Nat.{ℕ, _+_, _≤_}
+use native.Mathlib.Nat.{le-refl}
+use native.Mathlib.Omega.{arith}
+use lib.ListN.{length, drop, length-drop}
+use borrow.Author.Tests.{leb-true, le-leb}
+use Rattle.answer.specs.declared.Answer.{Answer}
+use Rattle.answer.specs.declared.Piece.the-variants.{Stop, Ends}
+use Rattle.answer.specs.declared.Test.{Test}
+use Rattle.answer.specs.declared.Test.the-variants.{Fault, Fine}
+use Rattle.answer.specs.Outcome.{Outcome, taken, refused, Checks, checked, Pass, after, moved, done, fitting}
+use Rattle.answer.specs.Calls.{asked, testOf, verdict}
+use Rattle.answer.proofs.Checks.{checked-pass, pass-checked}
+use Rattle.answer.proofs.Outcomes.{taken-refused, moved-taken, done-taken}
+use Rattle.answer.proofs.Within.{Within}
+use Rattle.entries.specs.Kinds.{controllers}
+use Rattle.entries.specs.declared.Kind.the-variants as kind
+use Rattle.entries.proofs.Lawful.{lawful}
+use Rattle.lists.specs.Lists.{listAt, partChecks, indexOf}
+use Rattle.lists.specs.Promises.{Indexed}
+use Rattle.lists.proofs.Callers.{indexed-stop, indexed-done, listOf, index-roomy}
+use Rattle.lists.proofs.Within.{list-within}
+use Rattle.tables.specs.declared.Table.the-variants.{Controllers}
+use Rattle.tables.specs.Tables.{rowsAt, tableOf}
+use Rattle.dskc.specs.Wrapper.{wrapperMost, headerChecks, wrapperOf, controllersCall}
+
+-- the first check that fails answers, whatever comes behind the checks
+pub asked-stop : {A : Type 0} (l : Checks) (next : Outcome A) {n p : ℕ} → refused n p ≡ asked l → checked l next ≡ refused n p
+asked-stop [] next h = absurd (taken-refused (sym h))
+asked-stop {A} (c ∷ l) next {n} {p} h = go (c .0) h (asked-stop l next)
+  where
+    go : (b : Bool) → refused n p ≡ asked ((b, c .1, c .2) ∷ l) → (refused n p ≡ asked l → checked l next ≡ refused n p) → checked ((b, c .1, c .2) ∷ l) next ≡ refused n p
+    go true h r = r h
+    go false h r = cc
+
+pub asked-pass : (l : Checks) → taken tt ≡ asked l → Pass l
+asked-pass l h = checked-pass l (taken tt) tt (sym h) .0
+
+module _ (s : List ℕ) where
+  pub header-stop : {n p : ℕ} → refused n p ≡ asked (headerChecks s) → refused n p ≡ done (wrapperOf s)
+  unfolding wrapperOf
+  header-stop h = sym (ap done (asked-stop (headerChecks s) (moved 16 (listAt controllers (drop 16 s))) h))
+
+  -- a header that passes
+  module _ (g : Pass (headerChecks s)) where
+    pub behind : wrapperOf s ≡ moved 16 (listAt controllers (drop 16 s))
+    unfolding wrapperOf
+    behind = pass-checked (headerChecks s) (moved 16 (listAt controllers (drop 16 s))) g
+
+    small : Pass (partChecks (drop 16 s))
+    small = (le-leb (length (drop 16 s)) 1073741824 (omega (arith, leb-true (length s) wrapperMost (g .0), length-drop 16 s)), tt)
+
+    pub list-whole : {A : Type 0} (next : Outcome A) → checked (partChecks (drop 16 s)) next ≡ next
+    list-whole next = pass-checked (partChecks (drop 16 s)) next small
+
+    by-index : indexOf controllers 256 (drop 16 s) ≡ listAt controllers (drop 16 s)
+    by-index = index-roomy (lawful kind.Controllers) 256 (drop 16 s) (le-refl 256) ∙ list-whole (listAt controllers (drop 16 s))
+
+    module _ {b old new : List ℕ} (e : b ≡ drop 16 s) where
+      found : {r : _} → Indexed (indexOf controllers 256 b) old r new → Indexed (listAt controllers (drop 16 s)) old r new
+      found i = rw (e, by-index) at i
+
+      pub list-stop : {n p : ℕ} → Indexed (indexOf controllers 256 b) old (Stop n p) new → (refused n (16 + p) ≡ done (wrapperOf s)) × (16 + p ≤ length s)
+      list-stop i =
+          let f = indexed-stop (listAt controllers (drop 16 s)) (found i) .0 in
+          let w = rw f at (list-within (lawful kind.Controllers) (drop 16 s)) in
+          (sym (ap done (behind ∙ ap (moved 16) f)), omega (arith, leb-true 16 (length s) (g .1 .0), length-drop 16 s, w))
+
+      pub list-done : {n : ℕ} → Indexed (indexOf controllers 256 b) old (Ends n) new → taken tt ≡ done (wrapperOf s)
+      list-done i = sym (ap done (behind ∙ ap (moved 16) (indexed-done (listAt controllers (drop 16 s)) (found i))))
+
+-- a call that writes nothing
+pub verdict-done : {A : Type 0} (o : Outcome A) (t : Test) → testOf t ≡ done o → verdict (testOf t) ≡ verdict o
+verdict-done (taken a) t h = ap verdict h
+verdict-done (refused n p) t h = ap verdict h
+
+-- taken or refused, from the first fault
+pub done-stop : {A : Type 0} (o : Outcome A) {n p : ℕ} → refused n p ≡ done o → o ≡ refused n p
+done-stop (taken a) h = absurd (taken-refused (sym h))
+done-stop (refused m q) h = cc
+
+-- a wrapper that is taken has a header that passes, and a list that is taken
+pub whole : (s : List ℕ) {l : List ℕ} → wrapperOf s ≡ taken l → Pass (headerChecks s) × (listAt controllers (drop 16 s) ≡ taken l)
+unfolding wrapperOf
+whole s {l} h =
+    let p = checked-pass (headerChecks s) (moved 16 (listAt controllers (drop 16 s))) l h in
+    (p .0, moved-taken 16 (listAt controllers (drop 16 s)) (p .1))
+
+-- the table of its list is its table
+pub table-same : (have : ℕ) (s : List ℕ) → taken tt ≡ done (wrapperOf s) → tableOf Controllers have 16 (drop 16 s) ≡ controllersCall have s
+table-same have s h =
+    let t = done-taken (wrapperOf s) (sym h) in
+    let w = whole s (t .1) in
+    list-whole s (w .0) (after (listAt controllers (drop 16 s)) rows) ∙ ap (λ (o : Outcome (List ℕ)). after o rows) (w .1 ∙ sym (t .1))
+  where
+    rows : List ℕ → Outcome (List ℕ)
+    rows l = fitting have (rowsAt Controllers 16 (drop 16 s) l)

@@ -1,0 +1,38 @@
+use Rattle.wire.proofs.Records.{stored-record}
+use Rattle.wire.specs.Numbers.{bytesOf}
+use mathlib.Core.List.{[], _∷_, append-nil}
+use mathlib.Core.Path.{refl}
+use native.Mathlib.Omega.{arith}
+use borrow.Author.Needs.{needs}
+use Rattle.dskc.proofs.put_header.Statement.{statement}
+use Rattle.dskc.proofs.put_header.Tie as tie
+
+put-u32-requires : tie.Need-put-u32-requires
+put-u32-requires c κs = search needs
+
+put-u32-requires-2 : tie.Need-put-u32-requires-2
+put-u32-requires-2 c κs = search needs
+
+put-u32-requires-3 : tie.Need-put-u32-requires-3
+put-u32-requires-3 c κs = search needs
+
+put-u32-requires-4 : tie.Need-put-u32-requires-4
+put-u32-requires-4 c κs = search needs
+
+same-length : tie.Need-same-length
+same-length c = search needs
+
+returns : tie.Need-returns
+unfolding bytesOf
+returns c = stored-record ((4, 0x4F524541) ∷ (4, 1) ∷ (4, 0x434B5344) ∷ (4, 1) ∷ []) (c .before .before .before .before .before .before .before .before .before .before .before .before .before .before .before .before .before .args .out .now) _ (omega arith) (_, c .before .before .before .before .before .before .before .before .before .before .before .before .before .before .put-u32 .ensures, (_, c .before .before .before .before .before .before .before .before .before .before .put-u322 .ensures, (_, c .before .before .before .before .before .before .put-u323 .ensures, (_, c .before .before .put-u324 .ensures, refl))))
+
+pub put-header-spec : {M : Type 1} → statement M
+put-header-spec =
+    tie.close
+    (tie.spec
+    put-u32-requires
+    put-u32-requires-2
+    put-u32-requires-3
+    put-u32-requires-4
+    same-length
+    returns)

@@ -1,0 +1,138 @@
+// The disk-controller wrapper: checked, listed, and written in address order.
+use answer::Answer;
+use answer::MAGIC;
+use answer::Piece;
+use answer::ROOM;
+use answer::SHORT;
+use answer::SIZE;
+use answer::TAKEN;
+use answer::Test;
+use answer::VERSION;
+use entries::Kind;
+use tables::Table;
+use wire::u16_at;
+use wire::u32_at;
+ghost use mathlib.Core.Path.{_≡_};
+ghost use mathlib.Core.Bool.{_&&_};
+ghost use Prim.Native.Nat.{_+_, _≤_};
+ghost use lib.Dec.{eqb};
+ghost use lib.ListN.{length};
+ghost use Rattle.answer.specs.Outcome.{done};
+ghost use Rattle.answer.specs.Calls.{testOf, asked, verdict, Writes};
+ghost use Rattle.wire.specs.Numbers.{leAt};
+ghost use Rattle.wire.specs.Parts.{Wrote};
+ghost use Rattle.dskc.specs.Wrapper.{headerChecks, wrapperOf, controllersCall, canonicalCall};
+ghost use Rattle.dskc.specs.Wrapper as wrapper;
+
+// The letters, as the number that they are in the file.
+const AERO: u32 = 0x4F524541;
+
+const DSKC: u32 = 0x434B5344;
+
+// u16 1, u16 0.
+fn pair_at(s: &[u8], at: usize) -> bool
+    requires { ⌜ at ≤ 12 ⌝ }
+    ensures { λ r. ⌜ r ≡ (eqb (leAt 2 (now (s .entry)) at) 1 && eqb (leAt 2 (now (s .entry)) (at + 2)) 0) ⌝ }
+{
+    if u16_at(s, at) == 1 {
+        return u16_at(s, at + 2) == 0;
+    }
+    false
+}
+
+fn header(s: &[u8]) -> Test
+    ensures { λ r. ⌜ testOf r ≡ asked (headerChecks (now (s .entry))) ⌝ }
+{
+    if 67108864 < s.len() {
+        return Test::Fault(SIZE, 0);
+    }
+    if s.len() < 16 {
+        return Test::Fault(SHORT, 0);
+    }
+    if u32_at(s, 0) != AERO {
+        return Test::Fault(MAGIC, 0);
+    }
+    if !pair_at(s, 4) {
+        return Test::Fault(VERSION, 4);
+    }
+    if u32_at(s, 8) != DSKC {
+        return Test::Fault(MAGIC, 8);
+    }
+    if !pair_at(s, 12) {
+        return Test::Fault(VERSION, 12);
+    }
+    Test::Fine
+}
+
+// The first fault of a wrapper, if any.
+fn faults(s: &[u8]) -> Test
+    ensures { λ r. ⌜ testOf r ≡ done (wrapperOf (now (s .entry))) ⌝ }
+{
+    match header(s) {
+        Test::Fault(number, place) => Test::Fault(number, place),
+        Test::Fine => {
+            let mut starts = [0u32; 256];
+            match lists::index(Kind::Controllers, wire::tail(s, 16), &mut starts) {
+                Piece::Stop(number, place) => Test::Fault(number, 16 + place),
+                Piece::Ends(_) => Test::Fine,
+            }
+        }
+    }
+}
+
+pub fn check(wrapper: &[u8]) -> Answer
+    ensures { λ r. ⌜ r ≡ verdict (wrapperOf (now (wrapper .entry))) ⌝ }
+{
+    answer::answered(faults(wrapper))
+}
+
+// The table of controllers in address order.
+pub fn controllers(wrapper: &[u8], table: &mut [u8]) -> Answer
+    ensures { λ r. ⌜ Writes (controllersCall (length (now (table .entry))) (now (wrapper .entry))) (now (table .entry)) r (now (table .exit)) ⌝ }
+{
+    match faults(wrapper) {
+        Test::Fault(number, place) => Answer {
+            number,
+            place: place as u64,
+        },
+        Test::Fine => tables::write(Table::Controllers, wire::tail(wrapper, 16), 16, table),
+    }
+}
+
+// The header: the fixed letters and pairs.
+fn put_header(out: &mut [u8])
+    requires { ⌜ 16 ≤ length (now out) ⌝ }
+    ensures { λ _. ⌜ Wrote wrapper.header (now (out .entry)) (now (out .exit)) 16 ⌝ }
+{
+    wire::put_u32(out, 0, AERO);
+    wire::put_u32(out, 4, 1);
+    wire::put_u32(out, 8, DSKC);
+    wire::put_u32(out, 12, 1);
+}
+
+// The canonical wrapper: the header, and the controllers in address order, a count of 0 kept.
+pub fn canonical(wrapper: &[u8], out: &mut [u8]) -> Answer
+    ensures { λ r. ⌜ Writes (canonicalCall (length (now (out .entry))) (now (wrapper .entry))) (now (out .entry)) r (now (out .exit)) ⌝ }
+{
+    match faults(wrapper) {
+        Test::Fault(number, place) => Answer {
+            number,
+            place: place as u64,
+        },
+        Test::Fine => {
+            let need = wrapper.len();
+            if out.len() < need {
+                return Answer {
+                    number: ROOM,
+                    place: need as u64,
+                };
+            }
+            put_header(out);
+            writer::write(Kind::Controllers, wire::tail(wrapper, 16), &mut out[16..]);
+            Answer {
+                number: TAKEN,
+                place: need as u64,
+            }
+        }
+    }
+}

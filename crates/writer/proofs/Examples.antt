@@ -1,0 +1,52 @@
+-- Lists written by computation: the payload of P4 becomes that of P5, and an entry is added to it.
+-- Assumes nothing.
+use mathlib.Core.Path.{_≡_, refl}
+use mathlib.Core.List.{List, [], _∷_, _++_}
+use Prim.Native.Nat.{ℕ}
+use Rattle.answer.specs.Numbers.{KEY, HAVE, ROOM}
+use Rattle.answer.specs.Outcome.{taken, refused}
+use Rattle.wire.specs.Numbers.{le, leAt, bytesOf}
+use Rattle.format.specs.Format.{read}
+use Rattle.order.specs.Keyed.{insert, has}
+use Rattle.order.specs.Entries.{split}
+use Rattle.entries.specs.Kinds.{devices}
+use Rattle.lists.specs.Lists.{entryAt, walk, listAt}
+use Rattle.writer.specs.Writer.{sortedOf, withOf, together}
+
+-- device (id, 1, 0) with one or two payload bytes
+abbrev device : ℕ → ℕ → List ℕ → List ℕ
+device id n payload = together (id ∷ 0 ∷ 0 ∷ 0 ∷ 1 ∷ 0 ∷ 0 ∷ 0 ∷ []) (n ∷ 0 ∷ 0 ∷ 0 ∷ 0 ∷ 0 ∷ 0 ∷ 0 ∷ []) payload []
+
+-- entry (14, 1, 0) with `11`, entry (3, 1, 0) with `AB CD`, and one between them
+abbrev fourteen : List ℕ
+fourteen = device 14 1 (17 ∷ [])
+
+abbrev three : List ℕ
+three = device 3 2 (171 ∷ 205 ∷ [])
+
+abbrev nine : List ℕ
+nine = device 9 1 (7 ∷ [])
+
+abbrev counted : ℕ → List ℕ → List ℕ
+counted n entries = n ∷ 0 ∷ 0 ∷ 0 ∷ entries
+
+-- the payload of P4
+abbrev payload : List ℕ
+payload = counted 2 (fourteen ++ three)
+
+-- P5: (3, 1, 0) comes first; written again it is the same; 38 bytes are no room
+pub sorted : (sortedOf devices 39 payload ≡ taken (counted 2 (three ++ fourteen)))
+    × (sortedOf devices 39 (counted 2 (three ++ fourteen)) ≡ taken (counted 2 (three ++ fourteen)))
+    × (sortedOf devices 38 payload ≡ refused ROOM 39)
+    -- the list's own faults come first
+    × (sortedOf devices 0 (counted 2 (three ++ three)) ≡ refused KEY 22)
+unfolding listAt walk entryAt read leAt le bytesOf insert has split
+sorted = (refl, refl, refl, refl)
+
+-- (9, 1, 0) goes between; (3, 1, 0) is there, which comes before the room
+pub added : (withOf devices 100 payload nine ≡ taken (counted 3 (three ++ nine ++ fourteen)))
+    × (withOf devices 55 payload nine ≡ refused ROOM 56)
+    × (withOf devices 0 payload three ≡ refused HAVE 0)
+    × (withOf devices 100 (counted 0 []) nine ≡ taken (counted 1 nine))
+unfolding listAt walk entryAt read leAt le bytesOf insert has split
+added = (refl, refl, refl, refl)

@@ -1,0 +1,7 @@
+pub mod Runs
+pub mod Fronts
+pub mod Whole
+pub mod Asked
+pub mod Callers
+pub mod Once
+pub mod Examples

@@ -1,0 +1,57 @@
+use Rattle.writer.specs.Writer.{sortedBytes}
+use Rattle.writer.proofs.Whole.{room-short, listed-stands, listed-few, sorted-size, sorted-room, sorted-end, sorted-done}
+use Rattle.entries.specs.Code.{describe}
+use Rattle.entries.proofs.Lawful.{lawful}
+use native.Mathlib.Omega.{arith}
+use borrow.Author.Needs.{needs}
+use Rattle.writer.proofs.put_list.Statement.{statement}
+use Rattle.writer.proofs.put_list.Tie as tie
+
+returns : tie.Need-returns
+returns c = let t = c .before .before .before .before in let a = t .args in room-short (sortedBytes (describe (a .kind)) (a .s .now)) (a .out .now) (sorted-size (lawful (a .kind)) (t .pre)) (c .if1 .taken)
+
+cast-put-u32 : tie.Need-cast-put-u32
+cast-put-u32 c = let t = c .before .before .before .before .before in omega (arith, listed-few (lawful (t .args .kind)) (t .pre))
+
+put-u32-requires : tie.Need-put-u32-requires
+put-u32-requires c κs = search needs
+
+sub-put-run : tie.Need-sub-put-run
+sub-put-run c = let t = c .before .before .before .before .before .before .before .before in omega (arith, sorted-room (lawful (t .args .kind)) (t .pre) (t .args .out .now) (c .before .before .before .before .if1 .left) (c .before .before .put-u32 .ensures) .0)
+
+part-put-run-start : tie.Need-part-put-run-start
+part-put-run-start c = let t = c .before .before .before .before .before .before .before .before in omega (arith, sorted-room (lawful (t .args .kind)) (t .pre) (t .args .out .now) (c .before .before .before .before .if1 .left) (c .before .before .put-u32 .ensures) .0)
+
+part-put-run-end : tie.Need-part-put-run-end
+part-put-run-end c = search needs
+
+put-run-requires : tie.Need-put-run-requires
+put-run-requires c κs = let t = c .before .before .before .before .before .before .before .before .before in (listed-stands (lawful (t .args .kind)) (t .pre), sorted-room (lawful (t .args .kind)) (t .pre) (t .args .out .now) (c .before .before .before .before .before .if1 .left) (c .before .before .before .put-u32 .ensures) .1)
+
+add-t6 : tie.Need-add-t6
+add-t6 c =
+    let t = c .before .before .before .before .before .before .before .before .before .before .before .before in
+    omega (arith, t .pre .short, sorted-end (lawful (t .args .kind)) (t .pre) (t .args .out .now) (c .before .before .before .before .before .before .before .before .if1 .left) (c .before .before .before .before .before .before .put-u32 .ensures) (c .before .before .put-run .ensures))
+
+same-length : tie.Need-same-length
+same-length c = search needs
+
+returns-2 : tie.Need-returns-2
+returns-2 c =
+    let t = c .before .before .before .before .before .before .before .before .before .before .before .before in
+    sorted-done (lawful (t .args .kind)) (t .pre) (t .args .out .now) (c .before .before .before .before .before .before .before .before .if1 .left) (c .before .before .before .before .before .before .put-u32 .ensures) (c .before .before .put-run .ensures)
+
+pub put-list-spec : {M : Type 1} → statement M
+put-list-spec =
+    tie.close
+    (tie.spec
+    returns
+    cast-put-u32
+    put-u32-requires
+    sub-put-run
+    part-put-run-start
+    part-put-run-end
+    put-run-requires
+    add-t6
+    same-length
+    returns-2)
