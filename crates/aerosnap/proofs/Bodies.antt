@@ -10,7 +10,7 @@ use lib.Seq.{take-all}
 use lib.Dec.{eqb}
 use borrow.Author.Tests.{leb-true, le-leb, eqb-true, eq-eqb}
 use Rattle.answer.specs.Numbers.{SHAPE}
-use Rattle.answer.specs.Outcome.{taken, checked, after}
+use Rattle.answer.specs.Outcome.{taken}
 use Rattle.answer.specs.Calls.{asked}
 use Rattle.answer.proofs.Checks.{checked-pass}
 use Rattle.answer.proofs.Outcomes.{after-taken}

@@ -4,7 +4,7 @@ use mathlib.Core.Path.{_≡_, refl}
 use mathlib.Core.List.{List, [], _∷_, _++_}
 use Prim.Native.Nat.{ℕ}
 use lib.ListN.{length, set, replicate}
-use Rattle.answer.specs.Numbers.{RESERVED, SIZE, CUT, MANY, TWICE, SECVER, SHAPE, LIMIT, TEXT, VALUE, ROOM, HAVE}
+use Rattle.answer.specs.Numbers.{RESERVED, CUT, MANY, TWICE, SECVER, SHAPE, LIMIT, TEXT, VALUE, ROOM}
 use Rattle.answer.specs.Outcome.{Outcome, taken, refused, after}
 use Rattle.wire.specs.Numbers.{leAt, le, bytesOf}
 use Rattle.utf8.specs.Scan.{leadOf, afterOf, scanFrom, scan, isText}
@@ -12,67 +12,73 @@ use Rattle.format.specs.Format.{read, values}
 use Rattle.order.specs.Keyed.{insert, has}
 use Rattle.order.specs.Entries.{join, split}
 use Rattle.lists.specs.Lists.{entryAt, walk, listAt}
+use Rattle.aerosnap.specs.Known.{META, CPU, MMU, DEVICES, DISKS, RAM, CPUS, MMUS}
 use Rattle.aerosnap.specs.Payloads.{payload}
 use Rattle.aerosnap.specs.File.{header, ruled, sectionOf, sections, fileOf}
 use Rattle.aerosnap.specs.Content.{framed, canonical}
 use Rattle.aerosnap.specs.Tables.{placed, sectionTable, diskTable}
 use Rattle.aerosnap.specs.Adding.{device, disk, addTo, addItem}
 
+-- a section with flags 0
 abbrev section : ℕ → ℕ → List ℕ → List ℕ
 section id v p = framed id v 0 p
 
+-- a file of sections
 abbrev of : List (List ℕ) → List ℕ
 of l = header ++ join l
 
 abbrev zeros : ℕ → List ℕ
 zeros n = replicate n 0
 
--- what a file gives, without its sections
+-- how many sections a file has, or its first fault
 abbrev seen : List (List ℕ) → Outcome ℕ
 seen l = after (fileOf (of l)) (λ m. taken (length m))
 
--- META without parent and label, a state of version 2, and a CPU's entry
+-- META without parent, up to its label
 abbrev meta : List ℕ
 meta = zeros 8 ++ (0 ∷ zeros 8)
 
+-- an entry of CPUS with no blob
 abbrev cpu : ℕ → List ℕ → List ℕ
 cpu id state = bytesOf 4 id ++ (bytesOf 4 (length state) ++ (state ++ bytesOf 8 0))
 
 pub record Cases : Type 0 where
-  pub meta-fine : seen (section 1 1 (meta ++ (1 ∷ bytesOf 4 0)) ∷ []) ≡ taken 1
-  pub meta-flag : seen (section 1 1 (zeros 8 ++ (2 ∷ [])) ∷ []) ≡ refused VALUE 40
-  pub meta-cut : seen (section 1 1 (zeros 8 ++ (1 ∷ zeros 7)) ∷ []) ≡ refused SHAPE 41
-  pub meta-text : seen (section 1 1 (meta ++ (1 ∷ (bytesOf 4 1 ++ (255 ∷ [])))) ∷ []) ≡ refused TEXT 54
-  pub meta-long : seen (section 1 1 (meta ++ (1 ∷ bytesOf 4 4097)) ∷ []) ≡ refused LIMIT 50
-  pub meta-over : seen (section 1 1 (meta ++ (0 ∷ 7 ∷ [])) ∷ []) ≡ refused SHAPE 50
-  pub cpu-short : seen (section 2 1 (zeros 411) ∷ []) ≡ refused SHAPE 32
-  pub cpu-mode : seen (section 2 2 (set (zeros 1183) 144 4) ∷ []) ≡ refused VALUE 176
-  pub cpu-fine : seen (section 2 2 (set (zeros 1191) 1183 4) ∷ section 3 2 (zeros 264) ∷ []) ≡ taken 2
-  pub cpu-extension : seen (section 2 2 (zeros 1191) ∷ []) ≡ refused VALUE 1215
-  pub cpus-fine : seen (section 7 2 (bytesOf 4 1 ++ cpu 9 (zeros 1183)) ∷ section 8 1 (bytesOf 4 1 ++ (bytesOf 4 9 ++ zeros 68)) ∷ []) ≡ taken 2
-  pub cpus-length : seen (section 7 1 (bytesOf 4 1 ++ cpu 9 (zeros 413)) ∷ []) ≡ refused SHAPE 40
-  pub cpus-value : seen (section 7 2 (bytesOf 4 1 ++ cpu 9 (set (zeros 1183) 260 8)) ∷ []) ≡ refused VALUE 304
-  pub mmus-cut : seen (section 8 1 (bytesOf 4 1 ++ (bytesOf 4 9 ++ zeros 67)) ∷ []) ≡ refused SHAPE 36
-  pub twice : seen (section 2 1 (zeros 412) ∷ section 7 1 (bytesOf 4 0) ∷ []) ≡ refused TWICE 444
-  pub version : seen (section 4 2 [] ∷ []) ≡ refused SECVER 20
-  pub flags : seen (set (section 4 1 []) 6 1 ∷ []) ≡ refused RESERVED 22
+  pub meta-fine : seen (section META 1 (meta ++ (1 ∷ bytesOf 4 0)) ∷ []) ≡ taken 1
+  pub meta-flag : seen (section META 1 (zeros 8 ++ (2 ∷ [])) ∷ []) ≡ refused VALUE 40
+  pub meta-cut : seen (section META 1 (zeros 8 ++ (1 ∷ zeros 7)) ∷ []) ≡ refused SHAPE 41
+  pub meta-text : seen (section META 1 (meta ++ (1 ∷ (bytesOf 4 1 ++ (255 ∷ [])))) ∷ []) ≡ refused TEXT 54
+  pub meta-long : seen (section META 1 (meta ++ (1 ∷ bytesOf 4 4097)) ∷ []) ≡ refused LIMIT 50
+  pub meta-over : seen (section META 1 (meta ++ (0 ∷ 7 ∷ [])) ∷ []) ≡ refused SHAPE 50
+  pub cpu-short : seen (section CPU 1 (zeros 411) ∷ []) ≡ refused SHAPE 32
+  pub cpu-mode : seen (section CPU 2 (set (zeros 1183) 144 4) ∷ []) ≡ refused VALUE 176
+  pub cpu-fine : seen (section CPU 2 (set (zeros 1191) 1183 4) ∷ section MMU 2 (zeros 264) ∷ []) ≡ taken 2
+  pub cpu-extension : seen (section CPU 2 (zeros 1191) ∷ []) ≡ refused VALUE 1215
+  pub cpus-fine : seen (section CPUS 2 (bytesOf 4 1 ++ cpu 9 (zeros 1183)) ∷ section MMUS 1 (bytesOf 4 1 ++ (bytesOf 4 9 ++ zeros 68)) ∷ []) ≡ taken 2
+  pub cpus-length : seen (section CPUS 1 (bytesOf 4 1 ++ cpu 9 (zeros 413)) ∷ []) ≡ refused SHAPE 40
+  pub cpus-value : seen (section CPUS 2 (bytesOf 4 1 ++ cpu 9 (set (zeros 1183) 260 8)) ∷ []) ≡ refused VALUE 304
+  pub mmus-cut : seen (section MMUS 1 (bytesOf 4 1 ++ (bytesOf 4 9 ++ zeros 67)) ∷ []) ≡ refused SHAPE 36
+  pub twice : seen (section CPU 1 (zeros 412) ∷ section CPUS 1 (bytesOf 4 0) ∷ []) ≡ refused TWICE 444
+  pub version : seen (section DEVICES 2 [] ∷ []) ≡ refused SECVER 20
+  pub flags : seen (set (section DEVICES 1 []) 6 1 ∷ []) ≡ refused RESERVED 22
   pub unknown : seen (set (section 99 7 (1 ∷ [])) 6 1 ∷ section 99 7 [] ∷ section 0 0 [] ∷ []) ≡ taken 3
-  pub count-over : seen (section 5 1 (bytesOf 4 257) ∷ []) ≡ refused LIMIT 32
-  pub disk-text : seen (section 5 1 (bytesOf 4 1 ++ (bytesOf 4 7 ++ (bytesOf 4 0 ++ (bytesOf 4 1 ++ (128 ∷ []))))) ∷ []) ≡ refused TEXT 48
+  pub count-over : seen (section DISKS 1 (bytesOf 4 257) ∷ []) ≡ refused LIMIT 32
+  pub disk-text : seen (section DISKS 1 (bytesOf 4 1 ++ (bytesOf 4 7 ++ (bytesOf 4 0 ++ (bytesOf 4 1 ++ (128 ∷ []))))) ∷ []) ≡ refused TEXT 48
   pub full : seen (replicate 64 (section 9 0 [])) ≡ taken 64
   pub many : seen (replicate 65 (section 9 0 [])) ≡ refused MANY 1040
   pub many-cut : after (fileOf (of (replicate 64 (section 9 0 []) ++ (zeros 15 ∷ [])))) (λ m. taken (length m)) ≡ refused CUT 1040
-  pub order : canonical 500 (of (section 9 5 (1 ∷ []) ∷ section 6 1 (2 ∷ []) ∷ section 0 1 [] ∷ section 1 1 (meta ++ (0 ∷ [])) ∷ section 7 2 (bytesOf 4 0) ∷ []))
-      ≡ taken (of (section 1 1 (meta ++ (0 ∷ [])) ∷ section 6 1 (2 ∷ []) ∷ section 9 5 (1 ∷ []) ∷ section 0 1 [] ∷ []))
+  pub order : canonical 500 (of (section 9 5 (1 ∷ []) ∷ section RAM 1 (2 ∷ []) ∷ section 0 1 [] ∷ section META 1 (meta ++ (0 ∷ [])) ∷ section CPUS 2 (bytesOf 4 0) ∷ []))
+      ≡ taken (of (section META 1 (meta ++ (0 ∷ [])) ∷ section RAM 1 (2 ∷ []) ∷ section 9 5 (1 ∷ []) ∷ section 0 1 [] ∷ []))
+  pub keys : canonical 500 (of (section DEVICES 1 (bytesOf 4 3 ++ (framed 256 1 0 [] ++ (framed 1 2 0 [] ++ framed 1 1 7 []))) ∷ []))
+      ≡ taken (of (section DEVICES 1 (bytesOf 4 3 ++ (framed 1 1 7 [] ++ (framed 1 2 0 [] ++ framed 256 1 0 []))) ∷ []))
   pub room : canonical 15 header ≡ refused ROOM 16
-  pub add-disk : addItem 100 header (disk 7 (97 ∷ []) []) ≡ taken (of (section 5 1 (bytesOf 4 1 ++ (bytesOf 4 7 ++ (bytesOf 4 1 ++ (97 ∷ bytesOf 4 0)))) ∷ []))
+  pub add-disk : addItem 100 header (disk 7 (97 ∷ []) []) ≡ taken (of (section DISKS 1 (bytesOf 4 1 ++ (bytesOf 4 7 ++ (bytesOf 4 1 ++ (97 ∷ bytesOf 4 0)))) ∷ []))
   pub add-text : addItem 100 header (disk 7 (97 ∷ []) (192 ∷ 128 ∷ [])) ≡ refused TEXT 0
   pub add-many : addItem 9999 (of (replicate 64 (section 9 0 []))) (device 1 2 3 []) ≡ refused MANY 0
-  pub add-empty : after (addItem 9999 (of (section 4 1 (bytesOf 4 0) ∷ replicate 63 (section 9 0 []))) (device 256 2 3 [])) (λ b. taken (length b)) ≡ taken 1060
+  pub add-empty : after (addItem 9999 (of (section DEVICES 1 (bytesOf 4 0) ∷ replicate 63 (section 9 0 []))) (device 256 2 3 [])) (λ b. taken (length b)) ≡ taken 1060
   pub add-room : addItem 51 header (device 1 2 3 []) ≡ refused ROOM 52
-  pub disk-table : diskTable 24 (of (section 5 1 (bytesOf 4 1 ++ (bytesOf 4 7 ++ (bytesOf 4 1 ++ (97 ∷ bytesOf 4 0)))) ∷ []))
+  pub disk-table : diskTable 24 (of (section DISKS 1 (bytesOf 4 1 ++ (bytesOf 4 7 ++ (bytesOf 4 1 ++ (97 ∷ bytesOf 4 0)))) ∷ []))
       ≡ taken (bytesOf 4 7 ++ (bytesOf 4 1 ++ (bytesOf 8 44 ++ (bytesOf 4 0 ++ bytesOf 4 0))))
-  pub section-rows : sectionTable 48 (of (section 9 5 (1 ∷ []) ∷ section 4 1 (bytesOf 4 0) ∷ []))
+  pub section-rows : sectionTable 48 (of (section 9 5 (1 ∷ []) ∷ section DEVICES 1 (bytesOf 4 0) ∷ []))
       ≡ taken (bytesOf 4 9 ++ (bytesOf 2 5 ++ (bytesOf 2 0 ++ (bytesOf 8 32 ++ (bytesOf 8 1 ++ (bytesOf 4 4 ++ (bytesOf 2 1 ++ (bytesOf 2 0 ++ (bytesOf 8 49 ++ bytesOf 8 4)))))))))
 
 pub cases : Cases
@@ -102,6 +108,7 @@ cases = record {
   many = refl;
   many-cut = refl;
   order = refl;
+  keys = refl;
   room = refl;
   add-disk = refl;
   add-text = refl;

@@ -1,12 +1,12 @@
 -- The place of a file's first fault lies within the file.
 -- Assumes nothing.
-use mathlib.Core.Path.{_≡_, refl, ap}
+use mathlib.Core.Path.{_≡_, ap}
 use mathlib.Core.List.{List, [], _∷_, _++_}
 use mathlib.Core.Bool.{Bool, true, false}
 use Prim.Native.Nat.{ℕ, zero, suc, _+_, _-_, _≤_, zero-le}
 use native.Mathlib.Omega.{arith}
 use lib.ListN.{length, take, drop, length-append, length-drop}
-use lib.Seq.{length-take-le, drop-append-seam}
+use lib.Seq.{length-take-le}
 use borrow.Author.Tests.{leb-true}
 use Rattle.answer.specs.Outcome.{Outcome, taken, checked, after, moved}
 use Rattle.answer.proofs.Within.{Within, within-more, checked-within, after-within, moved-within}

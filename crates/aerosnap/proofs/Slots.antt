@@ -8,7 +8,7 @@ use Prim.Native.Nat.{ℕ, _≤_}
 use native.Mathlib.Omega.{arith}
 use lib.Dec.{leb, eqb}
 use borrow.Author.Tests.{leb-true, leb-false, eqb-true}
-use Rattle.order.specs.Keyed.{Every, Fresh, Apart, keep}
+use Rattle.order.specs.Keyed.{Fresh, Apart, keep}
 use Rattle.order.proofs.Folds.{every-imp, append-every}
 use Rattle.order.proofs.Perms.{apart-perm, perm-flat}
 use Rattle.order.proofs.Keeps.{only, flat-only, every-keep}

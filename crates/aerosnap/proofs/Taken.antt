@@ -3,7 +3,7 @@
 use mathlib.Core.Path.{_≡_, refl, sym, _∙_, ap}
 use mathlib.Core.Logic.{_↔_}
 use mathlib.Core.List.{List, [], _∷_, _++_}
-use mathlib.Core.Bool.{Bool, true, false, _&&_}
+use mathlib.Core.Bool.{true}
 use Prim.Native.Nat.{ℕ, _+_, _/_, _%_, _≤_, _<_}
 use native.Mathlib.Omega.{arith}
 use lib.ListN.{length, take, drop, length-drop, take-append-drop}
@@ -14,9 +14,9 @@ use Rattle.answer.specs.Outcome.{taken, Pass}
 use Rattle.answer.proofs.Checks.{checked-pass, pass-checked}
 use Rattle.answer.proofs.Outcomes.{taken-is}
 use Rattle.wire.specs.Numbers.{le, leAt, bytesOf}
+use Rattle.wire.proofs.Letters.{same-true}
 use Rattle.order.specs.Entries.{join}
 use Rattle.aerosnap.specs.File.{fileMost, sectionsMost, letters, header, headerChecks, sections, fileOf}
-use Rattle.wire.proofs.Letters.{same-true}
 use Rattle.aerosnap.specs.Rules.{Valid}
 use Rattle.aerosnap.proofs.Sections.{sections-complete, sections-sound}
 

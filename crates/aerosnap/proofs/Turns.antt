@@ -9,7 +9,6 @@ use lib.ListN.{length, take, drop, length-append, length-drop, drop-of-length-le
 use lib.Seq.{drop-drop, take-at, drop-at}
 use Rattle.answer.specs.Outcome.{Outcome, taken, refused, Checks, checked, after}
 use Rattle.answer.specs.Calls.{asked}
-use Rattle.answer.proofs.Checks.{pass-checked}
 use Rattle.order.specs.Entries.{join}
 use Rattle.aerosnap.specs.File.{sectionsMost, header, headerChecks, idOf, lengthOf, sectionOf, sections, fileOf}
 use Rattle.aerosnap.specs.Rules.{IsSection}
@@ -18,6 +17,8 @@ use Rattle.aerosnap.proofs.Sections.{id-front, length-front}
 -- the walk from a place of s on
 abbrev pub sectionsAt : ℕ → List (List ℕ) → List ℕ → ℕ → Outcome (List (List ℕ))
 sectionsAt n before s at = sections n before at (drop at s)
+
+-- ---- the walk at a place
 
 module _ (before : List (List ℕ)) (s : List ℕ) (at : ℕ) where
   pub walk-end : (n : ℕ) → length s ≤ at → sectionsAt n before s at ≡ taken before
@@ -44,19 +45,22 @@ module _ (before : List (List ℕ)) (s : List ℕ) (at : ℕ) where
       go [] h r = absurd (omega arith)
       go (c ∷ b) h r = rw r
 
+-- ---- checks that code asks in a function of their own
+
+pub checked-asked : {A : Type 0} (l : Checks) (a : Outcome A) → checked l a ≡ after (asked l) (λ _. a)
+checked-asked [] a = refl
+checked-asked (c ∷ l) a = go (c .0) (checked-asked l a)
+  where
+    go : (b : Bool) → checked l a ≡ after (asked l) (λ _. a) → checked ((b, c .1, c .2) ∷ l) a ≡ after (asked ((b, c .1, c .2) ∷ l)) (λ _. a)
+    go true h = h
+    go false h = refl
+
 -- a file is its header, and then its sections
 pub file-header : (s : List ℕ) → fileOf s ≡ after (asked (headerChecks s)) (λ _. sectionsAt sectionsMost [] s 16)
 unfolding fileOf
-file-header s = go (headerChecks s)
-  where
-    go : (l : Checks) → checked l (sectionsAt sectionsMost [] s 16) ≡ after (asked l) (λ _. sectionsAt sectionsMost [] s 16)
-    go [] = refl
-    go (c ∷ l) = row (c .0) (go l)
-      where
-        row : (b : Bool) → checked l (sectionsAt sectionsMost [] s 16) ≡ after (asked l) (λ _. sectionsAt sectionsMost [] s 16)
-            → checked ((b, c .1, c .2) ∷ l) (sectionsAt sectionsMost [] s 16) ≡ after (asked ((b, c .1, c .2) ∷ l)) (λ _. sectionsAt sectionsMost [] s 16)
-        row true h = h
-        row false h = refl
+file-header s = checked-asked (headerChecks s) (sectionsAt sectionsMost [] s 16)
+
+-- ---- where the sections of a file that is taken stand
 
 -- the section at a place where sections stand: its numbers, its bytes, and where the next one stands
 pub record Stands (s : List ℕ) (at : ℕ) (e : List ℕ) (l : List (List ℕ)) : Type 0 where

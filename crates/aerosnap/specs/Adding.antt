@@ -1,15 +1,16 @@
 -- Adding a device or a disk to a file: the canonical form of the file's content and the new entry.
 -- Assumes nothing.
+use mathlib.Core.Path.{_≡_}
 use mathlib.Core.List.{List, [], _∷_, _++_}
 use mathlib.Core.Bool.{Bool, not, _&&_}
 use Prim.Native.Nat.{ℕ, _<_}
 use lib.ListN.{length}
 use lib.Dec.{leb}
 use Rattle.answer.specs.Numbers.{SIZE, MANY, LIMIT, TEXT, HAVE}
-use Rattle.answer.specs.Outcome.{Outcome, Checks, checked, after, fitting}
+use Rattle.answer.specs.Outcome.{Outcome, taken, Checks, checked, after, fitting}
 use Rattle.wire.specs.Numbers.{bytesOf}
 use Rattle.utf8.specs.Scan.{isText}
-use Rattle.order.specs.Keyed.{insert, has}
+use Rattle.order.specs.Keyed.{insert, sort, has}
 use Rattle.entries.specs.Kinds.{Description, devices, disks}
 use Rattle.lists.specs.Lists.{listBytes}
 use Rattle.aerosnap.specs.File.{fileMost, sectionsMost, devicesMost}
@@ -75,3 +76,27 @@ addTo have c x = checked (ownChecks x ++ addChecks x c (put x c)) (fitting have 
 -- an item added to a file: the file's faults, then the add's
 unfoldable pub addItem : ℕ → List ℕ → Item → Outcome (List ℕ)
 addItem have s x = after (contentAt s) (λ c. addTo have c x)
+
+-- a call of add_device or add_disk on the file s, with an output of so many bytes: it is taken, and b is the file that it writes
+pub record Call (have : ℕ) (s : List ℕ) (x : Item) (b : List ℕ) : Type 0 where
+  pub wide : Wide x
+  pub accepts : addItem have s x ≡ taken b
+
+-- the entries of the devices among some items, and those of the disks
+abbrev pub deviceEntries : List Item → List (List ℕ)
+deviceEntries [] = []
+deviceEntries (device id v f p ∷ l) = entryOf (device id v f p) ∷ deviceEntries l
+deviceEntries (disk id x y ∷ l) = deviceEntries l
+
+abbrev pub diskEntries : List Item → List (List ℕ)
+diskEntries [] = []
+diskEntries (device id v f p ∷ l) = diskEntries l
+diskEntries (disk id x y ∷ l) = entryOf (disk id x y) ∷ diskEntries l
+
+-- the old content and some items
+abbrev pub grown : Content → List Item → Content
+grown c l = record {
+  devices = sort (devices .key) (deviceEntries l ++ c .devices);
+  disks = sort (disks .key) (diskEntries l ++ c .disks);
+  rest = c .rest;
+}

@@ -1,5 +1,6 @@
 -- The content of a file, and the file that is written of it: the canonical form.
 -- Assumes nothing.
+use mathlib.Core.Path.{_≡_}
 use mathlib.Core.List.{List, [], _∷_, _++_}
 use mathlib.Core.Bool.{Bool, not, _&&_, cond}
 use Prim.Native.Nat.{ℕ}
@@ -83,3 +84,7 @@ contentAt s = after (fileOf s) (λ l. taken (contentOf l))
 -- the canonical form of a file, for an output of so many bytes
 unfoldable pub canonical : ℕ → List ℕ → Outcome (List ℕ)
 canonical have s = after (contentAt s) (λ c. fitting have (render c))
+
+-- a canonical file: one that is its own canonical form
+abbrev pub InOrder : List ℕ → Type 0
+InOrder s = canonical (length s) s ≡ taken s

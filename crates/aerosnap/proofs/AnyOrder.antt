@@ -1,0 +1,116 @@
+-- Demand 3 on the bytes of chains of calls: from a canonical file, adds that are accepted in one order are accepted in every order and end in the same bytes,
+-- the canonical file of the old content and the items; and two different sets of items never end in the same bytes.
+-- Assumes nothing.
+use mathlib.Core.Path.{_≡_, refl, sym, _∙_, ap, subst}
+use mathlib.Core.List.{List, [], _∷_, _++_, List·Permᴰ, Perm}
+use Prim.Native.Nat.{ℕ}
+use native.Mathlib.Omega.{arith}
+use lib.ListN.{length, take, drop}
+use lib.Seq.{take-append-seam}
+use Rattle.answer.specs.Outcome.{Outcome, taken}
+use Rattle.answer.specs.Calls.{answer, memory, Writes}
+use Rattle.answer.specs.declared.Answer.{Answer}
+use Rattle.order.specs.Keyed.{sort, inserts, Asc}
+use Rattle.order.specs.Adding.{Chain, items, Roomy, puts}
+use Rattle.order.proofs.Sorts.{inserts-sort, asc-inserts}
+use Rattle.order.proofs.Files.{any-order-bytes, no-two-sets-bytes, content}
+use Rattle.entries.specs.Kinds.{devices, disks}
+use Rattle.aerosnap.specs.Content.{Content, render, contentAt, InOrder}
+use Rattle.aerosnap.specs.Adding.{Item, device, disk, Wide, put, addItem, Call, deviceEntries, diskEntries, grown}
+use Rattle.aerosnap.proofs.Canon.{Canon}
+use Rattle.aerosnap.proofs.Back.{read-back}
+use Rattle.aerosnap.proofs.Canonical.{content-is, canonical-exactly}
+use Rattle.aerosnap.proofs.Added.{add-exactly, passed-step, canon-put, adds, files, held}
+use Rattle.aerosnap.proofs.Named.{add-named, writes-zero}
+
+-- a canonical file is that of a content in order
+pub in-order : (s : List ℕ) → InOrder s → (c : Content) × Canon c × (render c ≡ s)
+in-order s h = let (c, e, q, n) = canonical-exactly (length s) s s .0 h in (c, content-is s c e .0, q)
+
+pub render-in-order : (c : Content) → Canon c → InOrder (render c)
+render-in-order c h = canonical-exactly (length (render c)) (render c) (render c) .1 (c, read-back c h, refl, omega arith)
+
+-- one call, on any file that is taken: the file that it writes has the old content and the item, and is canonical
+pub record Gives (s : List ℕ) (x : Item) (b : List ℕ) : Type 0 where
+  pub old : Content
+  pub read : contentAt s ≡ taken old
+  pub content-is : contentAt b ≡ taken (put x old)
+  pub canonical-is : InOrder b
+
+pub call-gives : (have : ℕ) (s : List ℕ) (x : Item) (b : List ℕ) → Call have s x b → Gives s x b
+call-gives have s x b k =
+    let (c, e, p, q) = add-exactly have s x b .0 (k .accepts) in
+    let h = content-is s c e .0 in
+    let t = passed-step have x c h (k .wide) p in
+    let u = canon-put x c h (t .may) (t .fits) in
+    record { old = c; read = e; content-is = ap contentAt (sym q) ∙ read-back (put x c) u; canonical-is = subst InOrder q (render-in-order (put x c) u) }
+
+pub any-order : (s : List ℕ) (l m : List (ℕ × Item)) (b : List ℕ) → InOrder s → Chain Call s l b → List·Permᴰ (items l) (items m) → Roomy (length b) m → Chain Call s m b
+any-order s l m b o h p r = let (c, k, e) = in-order s o in rw e at (any-order-bytes adds files c l m b k (rw e h) p r)
+
+pub no-two-sets : (s : List ℕ) (l m : List (ℕ × Item)) (b : List ℕ) → InOrder s → Chain Call s l b → Chain Call s m b → Perm (items l) (items m)
+no-two-sets s l m b o h k = let (c, i, e) = in-order s o in no-two-sets-bytes adds files c l m b i (rw e h) (rw e k)
+
+-- ---- the content at the end
+
+puts-devices : (c : Content) (l : List Item) → puts put c l .devices ≡ inserts (devices .key) (c .devices) (deviceEntries l)
+puts-devices c [] = refl
+puts-devices c (device id v f p ∷ l) = puts-devices (put (device id v f p) c) l
+puts-devices c (disk id x y ∷ l) = puts-devices (put (disk id x y) c) l
+
+puts-disks : (c : Content) (l : List Item) → puts put c l .disks ≡ inserts (disks .key) (c .disks) (diskEntries l)
+puts-disks c [] = refl
+puts-disks c (device id v f p ∷ l) = puts-disks (put (device id v f p) c) l
+puts-disks c (disk id x y ∷ l) = puts-disks (put (disk id x y) c) l
+
+puts-rest : (c : Content) (l : List Item) → puts put c l .rest ≡ c .rest
+puts-rest c [] = refl
+puts-rest c (device id v f p ∷ l) = puts-rest (put (device id v f p) c) l
+puts-rest c (disk id x y ∷ l) = puts-rest (put (disk id x y) c) l
+
+-- entries put one by one into a list in order, where that stays in order: all of them in order
+one-by-one : (key : List ℕ → ℕ) (s l r : List (List ℕ)) → r ≡ inserts key s l → Asc key 0 s → Asc key 0 r → r ≡ sort key (l ++ s)
+one-by-one key s l r e a b = e ∙ inserts-sort key s l a (asc-inserts key s l (rw e at b))
+
+pub puts-grown : (c : Content) (l : List Item) → Canon c → Canon (puts put c l) → puts put c l ≡ grown c l
+puts-grown c l h k =
+    let d = one-by-one (devices .key) (c .devices) (deviceEntries l) (puts put c l .devices) (puts-devices c l) (h .devices-sorted .asc) (k .devices-sorted .asc) in
+    let e = one-by-one (disks .key) (c .disks) (diskEntries l) (puts put c l .disks) (puts-disks c l) (h .disks-sorted .asc) (k .disks-sorted .asc) in
+    let r = puts-rest c l in
+    λ i. record { devices = d i; disks = e i; rest = r i }
+
+-- the file at the end of a chain of calls
+pub record Ends (s : List ℕ) (l : List Item) (b : List ℕ) : Type 0 where
+  pub old : Content
+  pub read : contentAt s ≡ taken old
+  pub content-is : contentAt b ≡ taken (grown old l)
+  pub bytes-are : b ≡ render (grown old l)
+  pub in-order : InOrder b
+  pub holds : List·Permᴰ (held (grown old l)) (l ++ held old)
+
+pub final : (s : List ℕ) (l : List (ℕ × Item)) (b : List ℕ) → InOrder s → Chain Call s l b → Ends s (items l) b
+final s l b o h =
+    let (c, k, e) = in-order s o in
+    let (i, w, p) = content adds files c l b k (rw e h) in
+    let g = puts-grown c (items l) k i in
+    record {
+      old = c;
+      read = rw e at (read-back c k);
+      content-is = rw w at (read-back (puts put c (items l)) i) ∙ ap taken g;
+      bytes-are = sym w ∙ ap render g;
+      in-order = subst InOrder w (render-in-order (puts put c (items l)) i);
+      holds = rw g at p;
+    }
+
+-- ---- calls that are made
+
+-- A call with lent memory `old` that answered r and left `new`: where its number is 0, the file that it gives is the first `place` bytes.
+pub call-made : (s : List ℕ) (x : Item) (old new : List ℕ) (r : Answer) → Wide x → Writes (addItem (length old) s x) old r new → r .number ≡ 0 → Call (length old) s x (take (r .place) new)
+call-made s x old new r w m z = record { wide = w; accepts = writes-zero (add-named (length old) s x) m z }
+
+-- and a call that the definition takes answers so
+pub made-call : (s : List ℕ) (x : Item) (old new : List ℕ) (r : Answer) (b : List ℕ) → Call (length old) s x b → Writes (addItem (length old) s x) old r new → (r .number ≡ 0) × (take (r .place) new ≡ b)
+made-call s x old new r b k m =
+    let i : r ≡ answer (taken b) = m .answers ∙ ap answer (k .accepts) in
+    let j : new ≡ memory (taken b) old = m .leaves ∙ ap (λ (o : Outcome (List ℕ)). memory o old) (k .accepts) in
+    (ap (λ (a : Answer). a .number) i, rw (i, j) (take-append-seam b (drop (length b) old)))

@@ -1,0 +1,152 @@
+-- A content in order reads back from the file that is written of it: its sections are valid, and their content is the same.
+-- Assumes nothing.
+use mathlib.Core.Path.{_≡_, refl, sym, _∙_, ap}
+use mathlib.Core.List.{List, [], _∷_, _++_, append-nil, Permᴰ·symm}
+use mathlib.Core.Bool.{Bool, true, false}
+use Prim.Native.Nat.{ℕ, _+_, _≤_}
+use native.Mathlib.Omega.{arith}
+use lib.ListN.{length, drop}
+use lib.Dec.{eqb}
+use borrow.Author.Tests.{eqb-false}
+use Rattle.answer.specs.Outcome.{taken}
+use Rattle.order.specs.Keyed.{Every, flat, keep, sort, weigh}
+use Rattle.order.proofs.Folds.{every-imp, every-append}
+use Rattle.order.proofs.Perms.{every-perm}
+use Rattle.order.proofs.Keys.{asc-apart}
+use Rattle.order.proofs.Keeps.{keep-append, keep-all, keep-none}
+use Rattle.order.proofs.Sorts.{sort-perm, asc-sort, up-sort, keep-sort}
+use Rattle.entries.specs.Kinds.{Description, devices, disks}
+use Rattle.entries.specs.declared.Kind.the-variants.{Devices, Disks}
+use Rattle.entries.proofs.Lawful.{Lawful, lawful}
+use Rattle.lists.specs.Lists.{entries, listBytes}
+use Rattle.lists.proofs.Written.{Good, length-list, entries-list}
+use Rattle.aerosnap.specs.Known.{CPU, MMU, DEVICES, DISKS, CPUS, MMUS, takes, slot}
+use Rattle.aerosnap.specs.Payloads.{list, bodyOf}
+use Rattle.aerosnap.specs.File.{fileMost, devicesMost, idOf, slotOf}
+use Rattle.aerosnap.specs.Rules.{IsSection, Valid}
+use Rattle.aerosnap.specs.Content.{framed, listed, tidy, rank, isId, isOther, entriesIn, Content, contentOf, written, secs, render, contentAt}
+use Rattle.aerosnap.proofs.Slots.{Once, once-perm, once-first}
+use Rattle.aerosnap.proofs.Taken.{file-complete}
+use Rattle.aerosnap.proofs.Written.{Tidy, list-reads, list-section}
+use Rattle.aerosnap.proofs.Ranks.{other-not}
+use Rattle.aerosnap.proofs.Canon.{Sorted, Canon, length-render}
+
+-- ---- a list's section
+
+-- entries that are written as the section of a list
+record Fit (i : ℕ) (d : Description) (l : List (List ℕ)) : Type 0 where
+  good : Good d l
+  small : i ≡ DEVICES → length (listBytes l) ≤ devicesMost
+  long : length (listBytes l) ≤ fileMost
+
+module _ (i : ℕ) {d : Description} (q : bodyOf i 1 ≡ list d) (t : takes i 1 ≡ true) (K : Lawful d) where
+  listed-are : (l : List (List ℕ)) → Fit i d l → Every (λ e. IsSection e × (idOf e ≡ i)) (listed i 1 l)
+  listed-are [] f = tt
+  listed-are (x ∷ l) f = ((list-section i 1 q t K (x ∷ l) (f .good) (f .small) (f .long), list-reads i 1 q t K (x ∷ l) (f .good) (f .small) (f .long) .id-is), tt)
+
+  listed-entries : (l : List (List ℕ)) → Fit i d l → flat (λ e. entries d (drop 16 e)) (listed i 1 l) ≡ l
+  listed-entries [] f = refl
+  listed-entries (x ∷ l) f = rw (append-nil, list-reads i 1 q t K (x ∷ l) (f .good) (f .small) (f .long) .payload-is) (entries-list K (x ∷ l) (f .good))
+
+-- one section is in order
+listed-sort : (i v : ℕ) (l : List (List ℕ)) → sort rank (listed i v l) ≡ listed i v l
+listed-sort i v [] = refl
+listed-sort i v (x ∷ l) = up-sort rank 0 (listed i v (x ∷ l)) (omega arith, tt)
+
+-- CPU and MMU alone share their slots
+slot-own : (i id : ℕ) → 4 ≤ i → slot id ≡ i → id ≡ i
+slot-own i id n = go (eqb id CPUS) (eqb id MMUS)
+  where
+    go : (a b : Bool) → elim a as (λ _. ℕ) [ true ↦ CPU | false ↦ elim b as (λ _. ℕ) [ true ↦ MMU | false ↦ id ] ] ≡ i → id ≡ i
+    go true b e = absurd (omega arith)
+    go false true e = absurd (omega arith)
+    go false false e = e
+
+-- before sections with other ids
+once-listed : (i : ℕ) → 4 ≤ i → slot i ≡ i → (l r : List (List ℕ)) → Every (λ e. IsSection e × (idOf e ≡ i)) (listed i 1 l) → Every (λ e. isId i e ≡ false) r → Once r → Once (listed i 1 l ++ r)
+once-listed i n o [] r a f h = h
+once-listed i n o (x ∷ l) r a f h =
+    let s : slotOf (framed i 1 0 (listBytes (x ∷ l))) ≡ i = ap slot (a .0 .1) ∙ o in
+    once-first (framed i 1 0 (listBytes (x ∷ l))) r (λ _. every-imp (λ y g z. eqb-false (idOf y) i g (slot-own i (idOf y) n (sym z ∙ s))) r f) h
+
+-- ---- a content in order
+
+fit : (i : ℕ) (d : Description) (l : List (List ℕ)) → Sorted d l → length l ≤ d .most → (i ≡ DEVICES → length (listBytes l) ≤ devicesMost) → 4 + weigh length l ≤ fileMost → Fit i d l
+fit i d l s n m w = record { good = record { are = s .are; apart = asc-apart (d .key) 0 l (s .asc); few = n }; small = m; long = omega (arith, length-list l) }
+
+flat-tidy : (l : List (List ℕ)) → Every Tidy l → flat tidy l ≡ l
+flat-tidy [] h = refl
+flat-tidy (e ∷ l) h = rw (h .0 .same) (ap (λ (m : List (List ℕ)). e ∷ m) (flat-tidy l (h .1)))
+
+-- the bytes of a list's entries are part of the file
+lists-short : (c : Content) → length (render c) ≤ fileMost → (4 + weigh length (c .devices) ≤ fileMost) × (4 + weigh length (c .disks) ≤ fileMost)
+lists-short c h = (omega (arith, length-render c), omega (arith, length-render c))
+
+module _ (c : Content) (h : Canon c) where
+  A : List (List ℕ)
+  A = listed DEVICES 1 (c .devices)
+
+  B : List (List ℕ)
+  B = listed DISKS 1 (c .disks)
+
+  fit-devices : Fit DEVICES devices (c .devices)
+  fit-devices = fit DEVICES devices (c .devices) (h .devices-sorted) (h .fits .many-devices) (λ _. h .fits .long-devices) (lists-short c (h .fits .long) .0)
+
+  fit-disks : Fit DISKS disks (c .disks)
+  fit-disks = fit DISKS disks (c .disks) (h .disks-sorted) (h .fits .many-disks) (λ e. absurd (omega arith)) (lists-short c (h .fits .long) .1)
+
+  fours : Every (λ e. IsSection e × (idOf e ≡ DEVICES)) A
+  unfolding A
+  fours = listed-are DEVICES refl refl (lawful Devices) (c .devices) fit-devices
+
+  fives : Every (λ e. IsSection e × (idOf e ≡ DISKS)) B
+  unfolding B
+  fives = listed-are DISKS refl refl (lawful Disks) (c .disks) fit-disks
+
+  -- which section is which
+  with-id : (p : List ℕ → Bool) (b : Bool) (i : ℕ) (l : List (List ℕ)) → ((e : List ℕ) → idOf e ≡ i → p e ≡ b) → Every (λ e. IsSection e × (idOf e ≡ i)) l → Every (λ e. p e ≡ b) l
+  with-id p b i l f a = every-imp (λ e q. f e (q .1)) l a
+
+  not-devices : Every (λ e. isId DEVICES e ≡ false) (B ++ c .rest)
+  not-devices = every-append _ B (c .rest) (with-id (isId DEVICES) false DISKS B (λ e q. rw q) fives) (every-imp (λ e q. other-not e q .0) (c .rest) (h .rest-other))
+
+  rest-disks : Every (λ e. isId DISKS e ≡ false) (c .rest)
+  rest-disks = every-imp (λ e q. other-not e q .1) (c .rest) (h .rest-other)
+
+  -- what is kept of the sections, where all of the first, the second or the third are kept and none of the others
+  keep-first : keep (isId DEVICES) (A ++ (B ++ c .rest)) ≡ A
+  keep-first = keep-append (isId DEVICES) A (B ++ c .rest) ∙ rw (keep-all (isId DEVICES) A (with-id (isId DEVICES) true DEVICES A (λ e q. rw q) fours), keep-none (isId DEVICES) (B ++ c .rest) not-devices) (append-nil A)
+
+  keep-second : keep (isId DISKS) (A ++ (B ++ c .rest)) ≡ B
+  keep-second = keep-append (isId DISKS) A (B ++ c .rest)
+      ∙ rw (keep-none (isId DISKS) A (with-id (isId DISKS) false DEVICES A (λ e q. rw q) fours), keep-append (isId DISKS) B (c .rest), keep-all (isId DISKS) B (with-id (isId DISKS) true DISKS B (λ e q. rw q) fives), keep-none (isId DISKS) (c .rest) rest-disks)
+      (append-nil B)
+
+  keep-third : keep isOther (A ++ (B ++ c .rest)) ≡ c .rest
+  keep-third = keep-append isOther A (B ++ c .rest)
+      ∙ rw (keep-none isOther A (with-id isOther false DEVICES A (λ e q. rw q) fours), keep-append isOther B (c .rest), keep-none isOther B (with-id isOther false DISKS B (λ e q. rw q) fives), keep-all isOther (c .rest) (h .rest-other)) refl
+
+  pub secs-valid : Valid (secs c)
+  unfolding A B
+  secs-valid =
+      let p = Permᴰ·symm (sort-perm rank (written c)) in
+      record {
+        few = h .fits .many;
+        short = h .fits .long;
+        are = every-perm IsSection p (every-append IsSection A (B ++ c .rest) (every-imp (λ e q. q .0) A fours) (every-append IsSection B (c .rest) (every-imp (λ e q. q .0) B fives) (every-imp (λ e q. q .is) (c .rest) (h .rest-are))));
+        once = once-perm p (once-listed DEVICES (omega arith) refl (c .devices) (B ++ c .rest) fours not-devices (once-listed DISKS (omega arith) refl (c .disks) (c .rest) fives rest-disks (h .rest-once)));
+      }
+
+  pub content-secs : contentOf (secs c) ≡ c
+  unfolding A B
+  content-secs =
+      let d : sort (devices .key) (entriesIn DEVICES devices (secs c)) ≡ c .devices =
+      rw (keep-sort rank (isId DEVICES) (written c), keep-first, listed-sort DEVICES 1 (c .devices), listed-entries DEVICES refl refl (lawful Devices) (c .devices) fit-devices) (asc-sort (devices .key) 0 (c .devices) (h .devices-sorted .asc)) in
+      let k : sort (disks .key) (entriesIn DISKS disks (secs c)) ≡ c .disks =
+      rw (keep-sort rank (isId DISKS) (written c), keep-second, listed-sort DISKS 1 (c .disks), listed-entries DISKS refl refl (lawful Disks) (c .disks) fit-disks) (asc-sort (disks .key) 0 (c .disks) (h .disks-sorted .asc)) in
+      let r : sort rank (flat tidy (keep isOther (secs c))) ≡ c .rest = rw (keep-sort rank isOther (written c), keep-third, up-sort rank 0 (c .rest) (h .rest-up), flat-tidy (c .rest) (h .rest-are)) (up-sort rank 0 (c .rest) (h .rest-up)) in
+      λ i. record { devices = d i; disks = k i; rest = r i }
+
+  -- a content in order is read back from its file
+  pub read-back : contentAt (render c) ≡ taken c
+  read-back = rw (file-complete (secs c) secs-valid) (ap taken content-secs)

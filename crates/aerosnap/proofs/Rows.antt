@@ -1,0 +1,51 @@
+-- What code that fills a table needs: the records section by section.
+-- Assumes nothing.
+use mathlib.Core.Path.{_≡_, refl, _∙_, ap}
+use mathlib.Core.List.{List, [], _∷_, _++_, append-nil}
+use mathlib.Core.Bool.{true, false, cond}
+use Prim.Native.Nat.{ℕ, _+_, _*_}
+use native.Mathlib.Omega.{arith}
+use lib.ListN.{length, drop, length-append}
+use Rattle.answer.specs.Outcome.{Outcome, taken}
+use Rattle.order.specs.Keyed.{Every, flat}
+use Rattle.lists.specs.Lists.{listAt}
+use Rattle.tables.specs.Tables.{described, framedRow, rowsAt}
+use Rattle.tables.specs.declared.Table.{Table}
+use Rattle.tables.specs.declared.Table.the-variants.{Devices}
+use Rattle.tables.proofs.Rows.{length-row}
+use Rattle.aerosnap.specs.Content.{isId}
+use Rattle.aerosnap.specs.Tables.{placed, startsOf, listRows}
+
+-- the records of the first section, and those of the others
+pub rows-first : (rows : ℕ × List ℕ → List ℕ) (at : ℕ) (e : List ℕ) (l : List (List ℕ)) → flat rows (placed at (e ∷ l)) ≡ rows (at, e) ++ flat rows (placed (at + length e) l)
+unfolding placed
+rows-first rows at e l = refl
+
+pub rows-end : (rows : ℕ × List ℕ → List ℕ) (at : ℕ) → flat rows (placed at []) ≡ []
+unfolding placed
+rows-end rows at = refl
+
+-- the table of sections has 24 bytes for each
+pub sections-length : (at : ℕ) (l : List (List ℕ)) → length (flat (λ q. framedRow (q .0) (q .1)) (placed at l)) ≡ 24 * length l
+unfolding placed
+sections-length at [] = refl
+sections-length at (e ∷ l) = omega (arith, length-append (framedRow at e) (flat (λ q. framedRow (q .0) (q .1)) (placed (at + length e) l)), length-row Devices at e, sections-length (at + length e) l)
+
+-- the records of a list: none of the sections with other ids, and those of the one with its id
+module _ (t : Table) (i : ℕ) where
+  pub rows-skip : (at : ℕ) (e : List ℕ) (l : List (List ℕ)) → isId i e ≡ false → flat (listRows t i) (placed at (e ∷ l)) ≡ flat (listRows t i) (placed (at + length e) l)
+  unfolding placed
+  rows-skip at e l h = rw (h, cond)
+
+  pub rows-none : (at : ℕ) (l : List (List ℕ)) → Every (λ e. isId i e ≡ false) l → flat (listRows t i) (placed at l) ≡ []
+  unfolding placed
+  rows-none at [] h = refl
+  rows-none at (e ∷ l) h = rows-skip at e l (h .0) ∙ rows-none (at + length e) l (h .1)
+
+  pub rows-here : (at : ℕ) (e : List ℕ) (l : List (List ℕ)) → isId i e ≡ true → Every (λ y. isId i y ≡ false) l → {r : List ℕ} → listAt (described t) (drop 16 e) ≡ taken r
+      → flat (listRows t i) (placed at (e ∷ l)) ≡ rowsAt t (at + 16) (drop 16 e) r
+  rows-here at e l h o {r} q =
+      rows-first (listRows t i) at e l
+      ∙ ap (λ (m : List ℕ). listRows t i (at, e) ++ m) (rows-none (at + length e) l o)
+      ∙ append-nil (listRows t i (at, e))
+      ∙ rw (h, cond) (ap (λ (o : Outcome (List ℕ)). rowsAt t (at + 16) (drop 16 e) (startsOf o)) q)
