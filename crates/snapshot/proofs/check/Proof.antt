@@ -1,0 +1,17 @@
+use Rattle.snapshot.proofs.Reading.{check-done}
+use mathlib.Core.Path.{_∙_}
+use borrow.Author.Needs.{needs}
+use Rattle.snapshot.proofs.check.Statement.{statement}
+use Rattle.snapshot.proofs.check.Tie as tie
+
+faults-requires : tie.Need-faults-requires
+faults-requires c κs = search needs
+
+answered-requires : tie.Need-answered-requires
+answered-requires c κs = search needs
+
+returns : tie.Need-returns
+returns c = c .answered .ensures ∙ check-done (c .before .before .before .args .file .now) (c .before .faults .result) (c .before .faults .ensures)
+
+pub check-spec : {M : Type 1} → statement M
+check-spec = tie.close (tie.spec faults-requires answered-requires returns)

@@ -1,0 +1,147 @@
+// Snapshot files: checked whole, and their tables of sections, devices and disks handed out.
+use answer::Answer;
+use answer::Piece;
+use answer::ROOM;
+use answer::TAKEN;
+use answer::Test;
+use tables::Table;
+ghost use mathlib.Core.Path.{_≡_};
+ghost use mathlib.Core.Bool.{true};
+ghost use mathlib.Core.List.{List};
+ghost use Prim.Native.Nat.{ℕ, _+_, _*_, _≤_};
+ghost use lib.ListN.{length};
+ghost use Rattle.answer.specs.Outcome.{taken, done};
+ghost use Rattle.answer.specs.Calls.{testOf, verdict, Writes};
+ghost use Rattle.wire.specs.Numbers.{leAt};
+ghost use Rattle.wire.specs.Parts.{Wrote};
+ghost use Rattle.tables.specs.Tables.{described};
+ghost use Rattle.aerosnap.specs.Known.{known};
+ghost use Rattle.aerosnap.specs.Payloads.{list, bodyOf};
+ghost use Rattle.aerosnap.specs.File.{fileOf};
+ghost use Rattle.aerosnap.specs.Tables as file_tables;
+ghost use Rattle.aerosnap.specs.Calls.{checkCall, sectionsCall, devicesCall, disksCall};
+ghost use Rattle.snapshot.specs.Walks.{placeOf, sectionRows};
+
+// The ids of the lists that have a table.
+const DEVICES: u32 = 4;
+
+const DISKS: u32 = 5;
+
+// The first fault of a file, if any. Nothing is written before the whole file is looked at.
+fn faults(file: &[u8]) -> Test
+    ensures { λ r. ⌜ testOf r ≡ done (fileOf (now (file .entry))) ⌝ }
+{
+    match sections::scan(file) {
+        Piece::Stop(number, place) => Test::Fault(number, place),
+        Piece::Ends(_) => Test::Fine,
+    }
+}
+
+// Whether a file is taken, or its first fault.
+pub fn check(file: &[u8]) -> Answer
+    ensures { λ r. ⌜ r ≡ verdict (checkCall (now (file .entry))) ⌝ }
+{
+    answer::answered(faults(file))
+}
+
+// Where the section at a place ends.
+fn end_at(file: &[u8], at: usize) -> usize
+    requires { ⌜ at + (16 + leAt 8 (now file) (at + 8)) ≤ 1073741824 ⌝ }
+    ensures { λ r. ⌜ r ≡ at + (16 + leAt 8 (now (file .entry)) (at + 8)) ⌝ }
+{
+    at + (16 + (wire::u64_at(file, at + 8) as usize))
+}
+
+// The records of a file's sections, each into the tail of the output from where the last ended.
+fn put_rows(file: &[u8], out: &mut [u8])
+    requires { ⌜ ((l : List (List ℕ)) × (fileOf (now file) ≡ taken l) × (24 * length l ≤ length (now out))) ⌝ }
+    ensures { λ _. ⌜ ((l : List (List ℕ)) → fileOf (now (file .entry)) ≡ taken l → Wrote (sectionRows 16 l) (now (out .entry)) (now (out .exit)) (24 * length l)) ⌝ }
+{
+    let mut at = 16;
+    let mut t = 0;
+    while at < file.len() {
+        tables::put_section(&mut out[t..], at as u32, wire::tail(file, at));
+        at = end_at(file, at);
+        t += 24;
+    }
+}
+
+// The table of sections in file order.
+pub fn sections(file: &[u8], table: &mut [u8]) -> Answer
+    ensures { λ r. ⌜ Writes (sectionsCall (length (now (table .entry))) (now (file .entry))) (now (table .entry)) r (now (table .exit)) ⌝ }
+{
+    match sections::scan(file) {
+        Piece::Stop(number, place) => Answer {
+            number,
+            place: place as u64,
+        },
+        Piece::Ends(n) => {
+            let need = 24 * n;
+            if table.len() < need {
+                return Answer {
+                    number: ROOM,
+                    place: need as u64,
+                };
+            }
+            put_rows(file, table);
+            Answer {
+                number: TAKEN,
+                place: need as u64,
+            }
+        }
+    }
+}
+
+// Where the section with an id starts; the end of the file where there is none.
+fn find(file: &[u8], id: u32) -> usize
+    requires { ⌜ ((l : List (List ℕ)) × (fileOf (now file) ≡ taken l)) ⌝ }
+    ensures { λ r. ⌜ ((l : List (List ℕ)) → fileOf (now (file .entry)) ≡ taken l → r ≡ placeOf id 16 l) ⌝ }
+{
+    let mut at = 16;
+    while at < file.len() {
+        if wire::u32_at(file, at) == id {
+            return at;
+        }
+        at = end_at(file, at);
+    }
+    at
+}
+
+// The table of the list with an id. The list's reader gets its payload alone, as a part of the file.
+fn list_table(t: Table, id: u32, file: &[u8], table: &mut [u8]) -> Answer
+    requires { ⌜ (known id ≡ true) × ((v : ℕ) → bodyOf id v ≡ list (described t)) ⌝ }
+    ensures { λ r. ⌜ Writes (file_tables.table (file_tables.listRows t id) (length (now (table .entry))) (now (file .entry))) (now (table .entry)) r (now (table .exit)) ⌝ }
+{
+    match faults(file) {
+        Test::Fault(number, place) => Answer {
+            number,
+            place: place as u64,
+        },
+        Test::Fine => {
+            let at = find(file, id);
+            if file.len() <= at {
+                return Answer {
+                    number: TAKEN,
+                    place: 0,
+                };
+            }
+            let b = at + 16;
+            let e = end_at(file, at);
+            tables::write(t, &file[b..e], b as u32, table)
+        }
+    }
+}
+
+// The table of devices in key order.
+pub fn devices(file: &[u8], table: &mut [u8]) -> Answer
+    ensures { λ r. ⌜ Writes (devicesCall (length (now (table .entry))) (now (file .entry))) (now (table .entry)) r (now (table .exit)) ⌝ }
+{
+    list_table(Table::Devices, DEVICES, file, table)
+}
+
+// The table of disks in key order.
+pub fn disks(file: &[u8], table: &mut [u8]) -> Answer
+    ensures { λ r. ⌜ Writes (disksCall (length (now (table .entry))) (now (file .entry))) (now (table .entry)) r (now (table .exit)) ⌝ }
+{
+    list_table(Table::Disks, DISKS, file, table)
+}
