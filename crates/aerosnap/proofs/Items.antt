@@ -15,14 +15,14 @@ use Rattle.wire.proofs.Numbers.{le-bytesOf, length-bytesOf}
 use Rattle.utf8.specs.Scan.{isText}
 use Rattle.format.specs.Format.{Is, text}
 use Rattle.aerosnap.specs.File.{idOf, versionOf, flagsOf}
-use Rattle.aerosnap.specs.Adding.{Item, device, disk, Wide, sizedText, entryOf, kindOf, ownChecks}
+use Rattle.aerosnap.specs.Adding.{Item, device, disk, Wide, withLength, entryOf, kindOf, ownChecks}
 use Rattle.aerosnap.proofs.Framed.{framed-reads}
 
 and-true : (a b : Bool) → (a && b) ≡ true → (a ≡ true) × (b ≡ true)
 and-true true b h = (refl, h)
 and-true false b h = let z : _≡_ {A = ℕ} 0 1 = cc in absurd (omega arith)
 
-text-is : (t : List ℕ) → leb (length t) 65536 ≡ true → isText t ≡ true → Is (text 65536) (sizedText t)
+text-is : (t : List ℕ) → leb (length t) 65536 ≡ true → isText t ≡ true → Is (text 65536) (withLength t)
 text-is t h k = (bytesOf 4 (length t), t, refl, length-bytesOf 4 (length t), le-bytesOf 4 (length t) (omega (arith, leb-true (length t) 65536 h)), (h, tt), rw (k, checked))
 
 -- its entry is one of its kind
@@ -33,7 +33,7 @@ entry-is (device id v f p) h =
 entry-is (disk id x y) h =
     let l = and-true (leb (length x) 65536) (leb (length y) 65536) (h .0) in
     let t = and-true (isText x) (isText y) (h .1 .0) in
-    (bytesOf 4 id, sizedText x ++ sizedText y, refl, (refl, refl), (sizedText x, sizedText y, refl, text-is x (l .0) (t .0), text-is y (l .1) (t .1)))
+    (bytesOf 4 id, withLength x ++ withLength y, refl, (refl, refl), (withLength x, withLength y, refl, text-is x (l .0) (t .0), text-is y (l .1) (t .1)))
 
 -- the item of a device's entry, and of a disk's
 abbrev pub deviceFrom : List ℕ → Item
@@ -51,7 +51,7 @@ module _ (id : ℕ) (x y : List ℕ) (h : length x < 4294967296) where
   unfolding leAt bytesOf
   base-length = le-bytesOf 4 (length x) h
 
-  texts : drop 8 (entryOf (disk id x y)) ≡ x ++ sizedText y
+  texts : drop 8 (entryOf (disk id x y)) ≡ x ++ withLength y
   unfolding bytesOf
   texts = refl
 
@@ -60,11 +60,11 @@ module _ (id : ℕ) (x y : List ℕ) (h : length x < 4294967296) where
   disk-id i = le-bytesOf 4 id i
 
   base-is : take (leAt 4 (entryOf (disk id x y)) 4) (drop 8 (entryOf (disk id x y))) ≡ x
-  base-is = rw (base-length, texts) (take-at x (sizedText y) (length x) refl)
+  base-is = rw (base-length, texts) (take-at x (withLength y) (length x) refl)
 
   overlay-is : drop (leAt 4 (entryOf (disk id x y)) 4 + 4) (drop 8 (entryOf (disk id x y))) ≡ y
   unfolding bytesOf
-  overlay-is = rw (base-length, texts) (drop-append-add x (sizedText y) 4)
+  overlay-is = rw (base-length, texts) (drop-append-add x (withLength y) 4)
 
   disk-back : id < 4294967296 → diskFrom (entryOf (disk id x y)) ≡ disk id x y
   disk-back i = cc (disk-id i, base-is, overlay-is)

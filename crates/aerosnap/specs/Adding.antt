@@ -9,6 +9,7 @@ use lib.Dec.{leb}
 use Rattle.answer.specs.Numbers.{SIZE, MANY, LIMIT, TEXT, HAVE}
 use Rattle.answer.specs.Outcome.{Outcome, taken, Checks, checked, after, fitting}
 use Rattle.wire.specs.Numbers.{bytesOf}
+pub use Rattle.wire.specs.Parts.{withLength}
 use Rattle.utf8.specs.Scan.{isText}
 use Rattle.order.specs.Keyed.{insert, sort, has}
 use Rattle.entries.specs.Kinds.{Description, devices, disks}
@@ -26,14 +27,10 @@ abbrev pub Wide : Item → Type 0
 Wide (device id v f p) = (id < 4294967296) × (v < 65536) × (f < 65536)
 Wide (disk id x y) = id < 4294967296
 
--- a text behind its u32 length
-abbrev pub sizedText : List ℕ → List ℕ
-sizedText t = bytesOf 4 (length t) ++ t
-
 -- its entry
 abbrev pub entryOf : Item → List ℕ
 entryOf (device id v f p) = framed id v f p
-entryOf (disk id x y) = bytesOf 4 id ++ (sizedText x ++ sizedText y)
+entryOf (disk id x y) = bytesOf 4 id ++ (withLength x ++ withLength y)
 
 -- the kind of that entry
 abbrev pub kindOf : Item → Description

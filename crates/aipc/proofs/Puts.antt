@@ -19,7 +19,7 @@ use Rattle.kinds.specs.declared.Form.{Form}
 use Rattle.kinds.specs.Kinds.{cells, okOf}
 use Rattle.messages.specs.Fields.{widthOf, sizeOf}
 use Rattle.messages.specs.Reading.{numbersEnd}
-use Rattle.messages.specs.Writing.{fieldBytes, bodyBytes, sized, formBytes}
+use Rattle.messages.specs.Writing.{fieldBytes, bodyBytes, withLength, formBytes}
 use Rattle.messages.proofs.Lengths.{length-sized, length-form}
 use Rattle.aipc.specs.Steps.{putCells, putSized, putBody, putForm}
 
@@ -51,7 +51,7 @@ wrote-cells {w} {old} {l} {at} ok (c ∷ cs) so h =
     rw (← append-assoc w bs (fieldBytes ok cs), ← add-assoc at n (sizeOf ok cs)) (wrote-cells ok cs one (rw (length-put at bs l) (omega arith)))
 
 pub wrote-sized : {w old l : List ℕ} {at : ℕ} (d : List ℕ) → Wrote w old l at → at + (4 + length d) ≤ length l
-    → Wrote (w ++ sized d) old (putSized d at l) (at + (4 + length d))
+    → Wrote (w ++ withLength d) old (putSized d at l) (at + (4 + length d))
 wrote-sized {w} {old} {l} {at} d so h =
     let bs = bytesOf 4 (length d) in
     let e : length bs ≡ 4 = length-bytesOf 4 (length d) in

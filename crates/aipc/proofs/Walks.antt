@@ -79,7 +79,7 @@ pub data-within : (at : ℕ) (m : List ℕ) {e : ℕ} → Pass (dataFits at m) �
 data-within at m h = let k = leb-true (at + 4 + dataLength at m) (length m) (h .0 .1 .0) in (omega (arith, h .1), omega (arith, h .1, k))
 
 -- a text is the part from where it starts to where it ends
-pub text-checks : (at : ℕ) (m : List ℕ) → checked (dataFits at m) (asked (textPart (at + 4) (at + 4 + dataLength at m) m ++ leftOver (at + 4 + dataLength at m) m)) ≡ asked (bodyChecks Text at m)
+pub text-checks : (at : ℕ) (m : List ℕ) → checked (dataFits at m) (asked (textPart (at + 4) (at + 4 + dataLength at m) m ++ leftOver m (at + 4 + dataLength at m))) ≡ asked (bodyChecks Text at m)
 unfolding bodyChecks
 text-checks at m = let e : at + 4 + dataLength at m - (at + 4) ≡ dataLength at m = omega arith in rw e
 

@@ -135,7 +135,7 @@ fn numbers(m: &[u8], f: Form) -> Piece
 
 // Nothing follows: the first byte left over is SHAPE.
 fn ended(m: &[u8], at: usize) -> Test
-    ensures { λ r. ⌜ testOf r ≡ asked (leftOver at (now (m .entry))) ⌝ }
+    ensures { λ r. ⌜ testOf r ≡ asked (leftOver (now (m .entry)) at) ⌝ }
 {
     if at < m.len() {
         return Test::Fault(SHAPE, at);
@@ -193,7 +193,7 @@ fn text_part(m: &[u8], start: usize, end: usize) -> Test
 // The same, and then nothing follows.
 fn text_at(m: &[u8], start: usize, end: usize) -> Test
     requires { ⌜ (start ≤ end) × (end ≤ length (now m)) ⌝ }
-    ensures { λ r. ⌜ testOf r ≡ asked (textPart start end (now (m .entry)) ++ leftOver end (now (m .entry))) ⌝ }
+    ensures { λ r. ⌜ testOf r ≡ asked (textPart start end (now (m .entry)) ++ leftOver (now (m .entry)) end) ⌝ }
 {
     let text = text_part(m, start, end);
     let rest = ended(m, end);

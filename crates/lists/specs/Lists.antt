@@ -10,6 +10,7 @@ use lib.Dec.{leb}
 use Rattle.answer.specs.Numbers.{SHAPE, LIMIT, KEY, SIZE}
 use Rattle.answer.specs.Outcome.{Outcome, taken, refused, Checks, checked, after, shift, fitting}
 use Rattle.wire.specs.Numbers.{leAt, bytesOf}
+pub use Rattle.wire.specs.Parts.{leftOver}
 use Rattle.format.specs.Format.{read, Is}
 use Rattle.order.specs.Keyed.{insert, has, Apart, Every}
 use Rattle.order.specs.Entries.{join, split}
@@ -26,10 +27,6 @@ entryChecks d again b = leadChecks d b ++ ((not again, KEY, 0) ∷ [])
 -- an entry after those that start at seen: where it ends, or its first fault
 unfoldable pub entryAt : Description → List ℕ → ℕ → List ℕ → Outcome ℕ
 entryAt d s at seen = shift at (checked (entryChecks d (has (keyAt d s) (keyAt d s at) seen) (drop at s)) (read (d .form) (drop at s)))
-
--- bytes left over after the last field, from at on
-abbrev pub leftOver : List ℕ → ℕ → Checks
-leftOver s at = (leb (length s) at, SHAPE, at) ∷ []
 
 -- n entries from at on, after those that start at seen; then nothing is left over. The answer: where entries start, in the order of their keys
 unfoldable pub walk : Description → List ℕ → ℕ → ℕ → List ℕ → Outcome (List ℕ)

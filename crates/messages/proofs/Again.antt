@@ -23,7 +23,7 @@ use Rattle.kinds.specs.declared.Cell.{Cell}
 use Rattle.kinds.specs.Kinds.{paper, cells, okOf}
 use Rattle.messages.specs.Fields.{widthOf, sizeOf, numbersAt, messageAt}
 use Rattle.messages.specs.Reading.{most, fieldChecks, dataLength, dataFits, dataIn, leftOver, bodyChecks, numbersEnd, readChecks, Content, contentOf, readMessage}
-use Rattle.messages.specs.Writing.{fieldBytes, sized, bodyBytes, formBytes, valueChecks, dataChecks, writeChecks, written}
+use Rattle.messages.specs.Writing.{fieldBytes, withLength, bodyBytes, formBytes, valueChecks, dataChecks, writeChecks, written}
 use Rattle.messages.proofs.Cells.{fieldsIn, numbersIn, Fit, Typed, widths}
 use Rattle.messages.proofs.Table.{row}
 
@@ -63,7 +63,7 @@ pub record Kept (b : Body) (k : Message) (at : ℕ) (m : List ℕ) : Type 0 wher
   pub bytes : bodyBytes b (take (contentOf k b at m .len) (drop (contentOf k b at m .start) m)) ≡ drop at m
   pub contents : Pass (dataChecks b (take (contentOf k b at m .len) (drop (contentOf k b at m .start) m)))
 
-kept-sized : (at : ℕ) (m : List ℕ) → AreBytes m → Pass (dataFits at m) → Pass (leftOver (at + 4 + dataLength at m) m) → sized (dataIn at m) ≡ drop at m
+kept-sized : (at : ℕ) (m : List ℕ) → AreBytes m → Pass (dataFits at m) → Pass (leftOver m (at + 4 + dataLength at m)) → withLength (dataIn at m) ≡ drop at m
 kept-sized at m y p q =
     let n = dataLength at m in
     let h = leb-true (at + 4) (length m) (p .0) in
@@ -77,10 +77,10 @@ pub kept : (b : Body) (k : Message) (at : ℕ) (m : List ℕ) → AreBytes m →
 unfolding bodyChecks
 kept Empty k at m y p = record { bytes = sym (drop-of-length-le m (leb-true (length m) at (p .0))); contents = (refl, tt) }
 kept Bytes k at m y p =
-    let h = append-pass (dataFits at m) (leftOver (at + 4 + dataLength at m) m) p in
+    let h = append-pass (dataFits at m) (leftOver m (at + 4 + dataLength at m)) p in
     record { bytes = kept-sized at m y (h .0) (h .1); contents = tt }
 kept Text k at m y p =
-    let h = append-pass (dataFits at m) ((isText (dataIn at m), TEXT, at + 4) ∷ leftOver (at + 4 + dataLength at m) m) p in
+    let h = append-pass (dataFits at m) ((isText (dataIn at m), TEXT, at + 4) ∷ leftOver m (at + 4 + dataLength at m)) p in
     record { bytes = kept-sized at m y (h .0) (h .1 .1); contents = (h .1 .0, tt) }
 
 -- ---- the whole

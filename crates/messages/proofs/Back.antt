@@ -23,7 +23,7 @@ use Rattle.kinds.specs.declared.Form.{Form}
 use Rattle.kinds.specs.Kinds.{paper, cells, okOf}
 use Rattle.messages.specs.Fields.{widthOf, numbersAt, messageAt}
 use Rattle.messages.specs.Reading.{most, fieldChecks, dataLength, dataFits, dataIn, leftOver, bodyChecks, numbersEnd, readChecks, Content, contentOf, readMessage}
-use Rattle.messages.specs.Writing.{fieldBytes, sized, bodyBytes, formBytes, valueChecks, dataChecks, writeChecks, written}
+use Rattle.messages.specs.Writing.{fieldBytes, withLength, bodyBytes, formBytes, valueChecks, dataChecks, writeChecks, written}
 use Rattle.messages.proofs.Cells.{fieldsIn, numbersIn, Fit, Allowed, Typed, widths}
 use Rattle.messages.proofs.Table.{found}
 use Rattle.messages.proofs.Lengths.{length-fields, length-sized, length-form}
@@ -81,9 +81,9 @@ record Sized (at : ℕ) (d m : List ℕ) : Type 0 where
   len : dataLength at m ≡ length d
   bytes : dataIn at m ≡ d
   fits : Pass (dataFits at m)
-  ends : Pass (leftOver (at + 4 + dataLength at m) m)
+  ends : Pass (leftOver m (at + 4 + dataLength at m))
 
-sized-back : (d p m : List ℕ) (at : ℕ) → m ≡ p ++ sized d → at ≡ length p → length d < 256 ^ 4 → Sized at d m
+sized-back : (d p m : List ℕ) (at : ℕ) → m ≡ p ++ withLength d → at ≡ length p → length d < 256 ^ 4 → Sized at d m
 sized-back d p m at e a h =
     let b = bytesOf 4 (length d) in
     let z : length b ≡ 4 = length-bytesOf 4 (length d) in
@@ -105,10 +105,10 @@ body-back Empty k d p m at c e a h =
     record { passes = (le-leb (length m) at (omega arith), tt); content = rw z; bytes = rw z }
 body-back Bytes k d p m at c e a h =
     let s = sized-back d p m at e a h in
-    record { passes = pass-append (dataFits at m) (leftOver (at + 4 + dataLength at m) m) (s .fits) (s .ends); content = rw (s .len); bytes = rw (s .len) at (s .bytes) }
+    record { passes = pass-append (dataFits at m) (leftOver m (at + 4 + dataLength at m)) (s .fits) (s .ends); content = rw (s .len); bytes = rw (s .len) at (s .bytes) }
 body-back Text k d p m at c e a h =
     let s = sized-back d p m at e a h in
-    record { passes = pass-append (dataFits at m) ((isText (dataIn at m), TEXT, at + 4) ∷ leftOver (at + 4 + dataLength at m) m) (s .fits) (rw (s .bytes) (c .0), s .ends); content = rw (s .len); bytes = rw (s .len) at (s .bytes) }
+    record { passes = pass-append (dataFits at m) ((isText (dataIn at m), TEXT, at + 4) ∷ leftOver m (at + 4 + dataLength at m)) (s .fits) (rw (s .bytes) (c .0), s .ends); content = rw (s .len); bytes = rw (s .len) at (s .bytes) }
 
 -- ---- the whole
 

@@ -11,14 +11,14 @@ use Rattle.kinds.specs.declared.Form.{Form}
 use Rattle.kinds.specs.Kinds.{cells, okOf}
 use Rattle.messages.specs.Fields.{sizeOf}
 use Rattle.messages.specs.Reading.{numbersEnd}
-use Rattle.messages.specs.Writing.{fieldBytes, bodyBytes, sized, formBytes}
+use Rattle.messages.specs.Writing.{fieldBytes, bodyBytes, withLength, formBytes}
 
 pub length-fields : (ok : ℕ) (cs : List Cell) → length (fieldBytes ok cs) ≡ sizeOf ok cs
 unfolding fieldBytes sizeOf
 length-fields ok [] = refl
 length-fields ok (c ∷ cs) = rw (length-append, length-bytesOf, length-fields ok cs)
 
-pub length-sized : (d : List ℕ) → length (sized d) ≡ 4 + length d
+pub length-sized : (d : List ℕ) → length (withLength d) ≡ 4 + length d
 length-sized d = rw (length-append, length-bytesOf)
 
 pub length-form : (f : Form) (d : List ℕ) → length (formBytes f d) ≡ numbersEnd f + length (bodyBytes (f .body) d)

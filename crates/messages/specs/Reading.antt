@@ -7,6 +7,7 @@ use lib.ListN.{length, take, drop}
 use Rattle.answer.specs.Numbers.{SHAPE, LIMIT, TEXT, VALUE, TAG}
 use Rattle.answer.specs.Outcome.{Outcome, taken, refused, Checks, checked}
 use Rattle.wire.specs.Numbers.{leAt}
+pub use Rattle.wire.specs.Parts.{leftOver}
 use Rattle.utf8.specs.Scan.{isText}
 use Rattle.kinds.specs.declared.Message.{Message}
 use Rattle.kinds.specs.declared.Message.the-variants.{Nothing}
@@ -30,10 +31,6 @@ fieldChecks ok (c ∷ cs) at m =
     ∷ (allowed ok (c .0) (c .1), VALUE, at)
     ∷ fieldChecks ok cs (at + widthOf ok (c .0)) m
 
--- nothing after: SHAPE at the first byte left over
-abbrev pub leftOver : ℕ → List ℕ → Checks
-leftOver at m = (leb (length m) at, SHAPE, at) ∷ []
-
 -- data at a place is a u32 length and as many bytes; this is the length
 abbrev pub dataLength : ℕ → List ℕ → ℕ
 dataLength at m = leAt 4 m at
@@ -48,9 +45,9 @@ dataIn at m = take (dataLength at m) (drop (at + 4) m)
 
 -- what stands behind the numbers, at a place: nothing, data, or a text; and nothing after
 unfoldable pub bodyChecks : Body → ℕ → List ℕ → Checks
-bodyChecks Empty at m = leftOver at m
-bodyChecks Bytes at m = dataFits at m ++ leftOver (at + 4 + dataLength at m) m
-bodyChecks Text at m = dataFits at m ++ (isText (dataIn at m), TEXT, at + 4) ∷ leftOver (at + 4 + dataLength at m) m
+bodyChecks Empty at m = leftOver m at
+bodyChecks Bytes at m = dataFits at m ++ leftOver m (at + 4 + dataLength at m)
+bodyChecks Text at m = dataFits at m ++ (isText (dataIn at m), TEXT, at + 4) ∷ leftOver m (at + 4 + dataLength at m)
 
 -- where the numbers of a message end
 abbrev pub numbersEnd : Form → ℕ

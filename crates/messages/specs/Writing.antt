@@ -7,6 +7,7 @@ use lib.ListN.{length}
 use Rattle.answer.specs.Numbers.{LIMIT, TEXT, VALUE}
 use Rattle.answer.specs.Outcome.{Outcome, taken, Checks, checked, room}
 use Rattle.wire.specs.Numbers.{bytesOf}
+pub use Rattle.wire.specs.Parts.{withLength}
 use Rattle.utf8.specs.Scan.{isText}
 use Rattle.kinds.specs.declared.Message.{Message}
 use Rattle.kinds.specs.declared.Body.{Body}
@@ -24,15 +25,11 @@ unfoldable pub fieldBytes : ℕ → List Cell → List ℕ
 fieldBytes ok [] = []
 fieldBytes ok (c ∷ cs) = bytesOf (widthOf ok (c .0)) (c .1) ++ fieldBytes ok cs
 
--- data behind its length
-abbrev pub sized : List ℕ → List ℕ
-sized d = bytesOf 4 (length d) ++ d
-
 -- what stands behind the numbers
 abbrev pub bodyBytes : Body → List ℕ → List ℕ
 bodyBytes Empty d = []
-bodyBytes Bytes d = sized d
-bodyBytes Text d = sized d
+bodyBytes Bytes d = withLength d
+bodyBytes Text d = withLength d
 
 -- all of it
 unfoldable pub formBytes : Form → List ℕ → List ℕ

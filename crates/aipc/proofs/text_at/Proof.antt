@@ -18,7 +18,7 @@ first-requires : tie.Need-first-requires
 first-requires c κs = tt
 
 returns : tie.Need-returns
-returns c = let a = c .before .before .before .before .args in c .first .ensures ∙ rw (c .before .before .text-part .ensures, c .before .ended .ensures) (after-checked (textPart (a .start) (a .end) (a .m .now)) tt (λ _. asked (leftOver (a .end) (a .m .now))))
+returns c = let a = c .before .before .before .before .args in c .first .ensures ∙ rw (c .before .before .text-part .ensures, c .before .ended .ensures) (after-checked (textPart (a .start) (a .end) (a .m .now)) tt (λ _. asked (leftOver (a .m .now) (a .end))))
 
 pub text-at-spec : {M : Type 1} → statement M
 text-at-spec = tie.close (tie.spec text-part-requires ended-requires first-requires returns)

@@ -31,7 +31,7 @@ unfolding bodyChecks
 returns c = let a = c .before .before .before .before .before .args in piece-stops _ (dataFits (a .at) (a .m .now)) _ (c .before .before .before .data-end .ensures) _ (c .before .number .given .1)
 
 returns-2 : tie.Need-returns-2
-returns-2 c = let a = c .before .before .before .before .before .before .args in c .text-at .ensures ∙ piece-goes _ (dataFits (a .at) (a .m .now)) _ (c .before .before .before .before .data-end .ensures) (λ (e : ℕ). asked (textPart (a .at + 4) e (a .m .now) ++ leftOver e (a .m .now))) (c .before .before .end .given .1) ∙ text-checks (a .at) (a .m .now)
+returns-2 c = let a = c .before .before .before .before .before .before .args in c .text-at .ensures ∙ piece-goes _ (dataFits (a .at) (a .m .now)) _ (c .before .before .before .before .data-end .ensures) (λ (e : ℕ). asked (textPart (a .at + 4) e (a .m .now) ++ leftOver (a .m .now) e)) (c .before .before .end .given .1) ∙ text-checks (a .at) (a .m .now)
 
 pub text-test-spec : {M : Type 1} → statement M
 text-test-spec =
