@@ -1,0 +1,14 @@
+-- The promise fixes its answer and every byte of lent memory: any two that it allows are equal.
+-- Assumes nothing.
+use mathlib.Core.Path.{_≡_}
+use mathlib.Core.List.{List}
+use Prim.Native.Nat.{ℕ}
+use lib.ListN.{length}
+use Rattle.answer.specs.declared.Answer.{Answer}
+use Rattle.answer.specs.Calls.{Writes}
+use Rattle.answer.proofs.Once.{writes-once}
+use Rattle.aerosnap.specs.Calls.{canonicalCall}
+
+pub canonical-once : (file old : List ℕ) {new now : List ℕ} {r p : Answer}
+    → Writes (canonicalCall (length old) file) old r new → Writes (canonicalCall (length old) file) old p now → (r ≡ p) × (new ≡ now)
+canonical-once file old a b = writes-once a b
