@@ -92,6 +92,10 @@ weigh-same : (f g : List ℕ → ℕ) (l : List (List ℕ)) → Every (λ e. f e
 weigh-same f g [] h = refl
 weigh-same f g (e ∷ l) h = omega (arith, h .0, weigh-same f g l (h .1))
 
+-- the sections that are written of each section of the file
+pub secs-count : (l : List (List ℕ)) → Valid l → length (secs (contentOf l)) ≡ weigh (λ e. length (tidy e)) l
+secs-count l v = ap length (secs-tidy l v) ∙ length-flat tidy (sort rank l) ∙ perm-weigh (λ e. length (tidy e)) (sort-perm rank l)
+
 -- the bytes of each section of the file, but those of empty lists
 pub render-size : (l : List (List ℕ)) → Valid l → length (render (contentOf l)) ≡ 16 + weigh (λ e. cond (isEmpty e) 0 (length e)) l
 render-size l v =

@@ -5,6 +5,7 @@ pub mod Taken
 pub mod Places
 pub mod Named
 pub mod Turns
+pub mod Standing
 pub mod Framed
 pub mod Written
 pub mod Ranks

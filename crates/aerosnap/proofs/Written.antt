@@ -3,7 +3,7 @@
 use mathlib.Core.Path.{_≡_, refl, sym, _∙_, ap, subst}
 use mathlib.Core.List.{List, [], _∷_, append-nil}
 use mathlib.Core.Bool.{Bool, true, false, cond, _&&_, _||_}
-use Prim.Native.Nat.{ℕ, _+_, _≤_}
+use Prim.Native.Nat.{ℕ, _+_, _≤_, _<_}
 use native.Mathlib.Omega.{arith}
 use lib.ListN.{length, drop, length-drop}
 use lib.Dec.{eqb}
@@ -173,3 +173,24 @@ tidy-size e s = go (bodyOf (idOf e) (versionOf e)) refl (lawful-body (idOf e) (v
         let p = sort-perm (d .key) es in
         listed-size (sort (d .key) es) (omega (arith, perm-weigh length p, u .size)) (perm-length p ∙ length-split (widthOf d) (leAt 4 (drop 16 e) 0) (drop 4 (drop 16 e)) ∙ leAt-here 4 e 16)
     go opaque q K = one
+
+-- nothing is written of a section of which no byte is
+pub tidy-one : (e : List ℕ) → IsSection e → cond (eqb (cond (isEmpty e) 0 (length e)) 0) 0 1 ≡ length (tidy e)
+tidy-one e s = ap (λ (n : ℕ). cond (eqb n 0) 0 1) (sym (tidy-size e s)) ∙ go (bodyOf (idOf e) (versionOf e))
+  where
+    long : 16 ≤ length e
+    long = omega (arith, s .whole)
+
+    one : (d : List ℕ) → 0 < length d → cond (eqb (length (join (d ∷ []))) 0) 0 1 ≡ length (d ∷ [])
+    one d h = rw (append-nil, ne-eqb (length d) 0 (λ z. omega arith))
+
+    listed-one : (m : List (List ℕ)) → cond (eqb (length (join (listed (idOf e) (versionOf e) m))) 0) 0 1 ≡ length (listed (idOf e) (versionOf e) m)
+    listed-one [] = refl
+    listed-one (x ∷ m) = one (framed (idOf e) (versionOf e) 0 (listBytes (x ∷ m))) (omega (arith, length-framed (idOf e) (versionOf e) 0 (listBytes (x ∷ m))))
+
+    go : (k : Body) → cond (eqb (length (join (tidied k e))) 0) 0 1 ≡ length (tidied k e)
+    go meta = one e (omega (arith, long))
+    go (cpu v) = one e (omega (arith, long))
+    go (mmu v) = one e (omega (arith, long))
+    go (list d) = listed-one (sort (d .key) (entries d (drop 16 e)))
+    go opaque = one e (omega (arith, long))

@@ -14,6 +14,7 @@ use Rattle.utf8.specs.Scan.{isText}
 use Rattle.order.specs.Keyed.{insert, sort, has}
 use Rattle.entries.specs.Kinds.{Description, devices, disks}
 use Rattle.lists.specs.Lists.{listBytes}
+use Rattle.aerosnap.specs.Known.{DEVICES, DISKS}
 use Rattle.aerosnap.specs.File.{fileMost, sectionsMost, devicesMost}
 use Rattle.aerosnap.specs.Content.{framed, Content, secs, render, contentAt}
 
@@ -36,6 +37,11 @@ entryOf (disk id x y) = bytesOf 4 id ++ (withLength x ++ withLength y)
 abbrev pub kindOf : Item → Description
 kindOf (device id v f p) = devices
 kindOf (disk id x y) = disks
+
+-- the id of the list that it goes into
+abbrev pub idFor : Item → ℕ
+idFor (device id v f p) = DEVICES
+idFor (disk id x y) = DISKS
 
 -- the entries of that kind in a content
 abbrev pub listIn : Item → Content → List (List ℕ)

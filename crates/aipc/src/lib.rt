@@ -9,7 +9,6 @@ ghost use Rattle.answer.specs.Outcome.{taken, refused as refusedAt, checked, af
 ghost use Rattle.answer.specs.Calls.{pieceOf, testOf, asked, Writes};
 ghost use Rattle.wire.specs.Numbers.{bytesOf};
 ghost use Rattle.wire.specs.Parts.{put};
-ghost use Rattle.utf8.specs.Scan.{isText};
 ghost use Rattle.kinds.specs.Kinds.{cells, okOf};
 ghost use Rattle.messages.specs.Fields.{widthOf, allowed as allowedOf};
 ghost use Rattle.messages.specs.Reading.{fieldChecks, leftOver, dataLength, dataFits, bodyChecks, numbersEnd, contentOf, readMessage, reading};
@@ -30,7 +29,7 @@ use kinds::Field;
 use kinds::Form;
 pub use kinds::Message;
 pub use messages::Reading;
-use utf8::Found;
+use utf8::is_text;
 use wire::fits;
 use wire::u32_at;
 
@@ -78,15 +77,6 @@ fn allowed(ok: u64, c: Cell) -> bool
             }
             number <= 0
         }
-    }
-}
-
-fn is_text(s: &[u8]) -> bool
-    ensures { λ r. ⌜ r ≡ isText (now (s .entry)) ⌝ }
-{
-    match utf8::text(s) {
-        Found::Whole => true,
-        Found::Broken(_) => false,
     }
 }
 

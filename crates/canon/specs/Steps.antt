@@ -1,18 +1,24 @@
--- What the parts of the code that writes the canonical form ask and give.
+-- What the parts of the code that writes a file ask and give.
 -- Assumes nothing.
 use mathlib.Core.Path.{_≡_}
-use mathlib.Core.Bool.{Bool, cond, _||_}
-use mathlib.Core.List.{List, [], _++_}
-use Prim.Native.Nat.{ℕ, zero, suc, _≤_}
-use lib.Dec.{eqb}
+use mathlib.Core.Bool.{Bool, cond, not, _||_}
+use mathlib.Core.List.{List, [], _∷_, _++_}
+use Prim.Native.Nat.{ℕ, zero, suc, _+_, _-_, _≤_}
+use lib.Dec.{eqb, leb}
 use lib.ListN.{length}
-use Rattle.answer.specs.Outcome.{taken, refused}
-use Rattle.order.specs.Keyed.{flat}
+use Rattle.answer.specs.Numbers.{SIZE, MANY, LIMIT}
+use Rattle.answer.specs.Outcome.{Outcome, Checks, checked, Pass, room, fitting}
+use Rattle.wire.specs.Numbers.{leAt, bytesOf}
+use Rattle.order.specs.Keyed.{flat, sort}
 use Rattle.order.specs.Entries.{join}
+use Rattle.entries.specs.declared.Kind.{Kind}
+use Rattle.entries.specs.Code.{describe}
+use Rattle.lists.specs.Lists.{IsList, entries}
 use Rattle.aerosnap.specs.Known.{DEVICES, DISKS, CPUS, MMUS}
-use Rattle.aerosnap.specs.File.{fileMost, fileOf}
+use Rattle.aerosnap.specs.File.{fileMost, sectionsMost, devicesMost, header}
 use Rattle.aerosnap.specs.Rules.{IsSection}
-use Rattle.aerosnap.specs.Content.{tidy, rank}
+use Rattle.aerosnap.specs.Content.{tidy, rank, Content, contentOf, render}
+use Rattle.aerosnap.specs.Adding.{Item, entryOf, kindOf, listIn, put, ownChecks, addChecks, idFor}
 
 -- the ids of the sections that are lists
 abbrev pub isListId : ℕ → Bool
@@ -26,23 +32,63 @@ bytesFor e = join (tidy e)
 abbrev pub mine : ℕ → List ℕ → List ℕ
 mine k e = cond (eqb (rank e) k) (bytesFor e) []
 
--- the bytes of one rank, and of the first i ranks
+-- the bytes of one rank, and of the i ranks behind rank k
 abbrev pub ranked : ℕ → List (List ℕ) → List ℕ
 ranked k l = flat (mine k) l
 
-abbrev pub ranks : List (List ℕ) → ℕ → List ℕ
-ranks l zero = []
-ranks l (suc i) = ranks l i ++ ranked (suc i) l
-
--- the sections of a file; of one that is refused, none
-abbrev pub sectionsIn : List ℕ → List (List ℕ)
-sectionsIn s = elim (fileOf s) [ taken l ↦ l | refused n p ↦ [] ]
-
--- s is taken
-abbrev pub Read : List ℕ → Type 0
-Read s = fileOf s ≡ taken (sectionsIn s)
+abbrev pub ranks : List (List ℕ) → ℕ → ℕ → List ℕ
+ranks l k zero = []
+ranks l k (suc i) = ranks l k i ++ ranked (k + suc i) l
 
 -- e is one section of a file
 pub record Whole (e : List ℕ) : Type 0 where
   pub is : IsSection e
   pub small : length e ≤ fileMost
+
+-- ---- one entry more
+
+-- the first 16 bytes of a section or of a device's entry: u32 id, u16 version, u16 flags, u64 length
+abbrev pub frame : ℕ → ℕ → ℕ → ℕ → List ℕ
+frame id v f n = bytesOf 4 id ++ (bytesOf 2 v ++ (bytesOf 2 f ++ bytesOf 8 n))
+
+-- the section of a list, version 1
+abbrev pub listSection : ℕ → List ℕ → List ℕ
+listSection id b = frame id 1 0 (length b) ++ b
+
+-- the header, the ranks before the list with an id, the list b in its place, the ranks behind it
+abbrev pub fileWith : List (List ℕ) → ℕ → List ℕ → List ℕ
+fileWith l id b = header ++ (ranks l 0 (id - 1) ++ (listSection id b ++ ranks l id (9 - id)))
+
+-- how many sections and bytes a file of n has when its list p, an empty one where it has none, becomes one of m bytes
+abbrev pub moreSections : List ℕ → ℕ → ℕ
+moreSections p n = cond (eqb (leAt 4 p 0) 0) (n + 1) n
+
+abbrev pub moreBytes : List ℕ → ℕ → ℕ → ℕ
+moreBytes p m n = cond (eqb (leAt 4 p 0) 0) (n + (16 + m)) (n + m - length p)
+
+-- what is asked of a result behind HAVE, and its room: the entries of its list, that list's bytes, its sections, its bytes
+abbrev pub boundChecks : ℕ → ℕ → ℕ → ℕ → ℕ → ℕ → ℕ → Checks
+boundChecks most id entries bytes sections size have =
+    (leb entries most, LIMIT, 0)
+    ∷ (not (eqb id DEVICES) || leb bytes devicesMost, LIMIT, 0)
+    ∷ (leb sections sectionsMost, MANY, 0)
+    ∷ (leb size fileMost, SIZE, 0)
+    ∷ room have size
+
+-- e is the entry of the item x, of a kind whose list has an id, and none of the item's own checks fails
+pub record New (x : Item) (kind : Kind) (id : ℕ) (e : List ℕ) : Type 0 where
+  pub kind-is : kindOf x ≡ describe kind
+  pub id-is : id ≡ idFor x
+  pub entry : e ≡ entryOf x
+  pub own : Pass (ownChecks x)
+
+-- and p is that list in a file with the sections l, or an empty one where it has none
+pub record Adds (x : Item) (kind : Kind) (id : ℕ) (l : List (List ℕ)) (p e : List ℕ) : Type 0 where
+  pub new : New x kind id e
+  pub list : IsList (describe kind) p
+  pub small : length p ≤ fileMost
+  pub same : listIn x (contentOf l) ≡ sort (describe kind .key) (entries (describe kind) p)
+
+-- the add of an item whose own checks passed, for an output of so many bytes
+abbrev pub addedTo : ℕ → Content → Item → Outcome (List ℕ)
+addedTo have c x = checked (addChecks x c (put x c)) (fitting have (render (put x c)))

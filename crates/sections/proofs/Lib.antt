@@ -1,4 +1,5 @@
 pub mod Rules
 pub mod Turns
+pub mod Found
 pub mod Headers
 pub mod Once

@@ -1,13 +1,15 @@
 -- The walk over the sections, as the code keeps it.
 -- Assumes nothing.
 use mathlib.Core.Path.{_≡_}
-use mathlib.Core.List.{List, []}
+use mathlib.Core.List.{List, [], _∷_}
+use mathlib.Core.Bool.{cond}
 use Prim.Native.Nat.{ℕ, _+_, _≤_}
 use lib.ListN.{length, drop, getD}
 use lib.Dec.{eqb}
-use Rattle.answer.specs.Outcome.{Outcome, taken, after}
+use Rattle.answer.specs.Outcome.{Outcome, taken, refused, after}
 use Rattle.order.specs.Keyed.{has}
-use Rattle.aerosnap.specs.File.{sectionsMost, slotOf, sectionOf, sections}
+use Rattle.aerosnap.specs.File.{sectionsMost, slotOf, sectionOf, sections, fileOf}
+use Rattle.aerosnap.specs.Content.{isId}
 
 -- the marks say which slots are taken by the n sections before
 pub record Marks (m : List ℕ) (before : List (List ℕ)) (n : ℕ) : Type 0 where
@@ -26,3 +28,20 @@ counted r = after r (λ l. taken (length l))
 -- the sections behind the header
 abbrev pub walkedFrom : List ℕ → Outcome (List (List ℕ))
 walkedFrom s = sections sectionsMost [] 16 (drop 16 s)
+
+-- the sections of a file; of one that is refused, none
+abbrev pub sectionsIn : List ℕ → List (List ℕ)
+sectionsIn s = elim (fileOf s) [ taken l ↦ l | refused n p ↦ [] ]
+
+-- s is taken
+abbrev pub Read : List ℕ → Type 0
+Read s = fileOf s ≡ taken (sectionsIn s)
+
+-- where the first section with an id starts, of sections that stand from a place on; where they end, if none has it
+unfoldable pub placeOf : ℕ → ℕ → List (List ℕ) → ℕ
+placeOf i at [] = at
+placeOf i at (e ∷ l) = cond (isId i e) at (placeOf i (at + length e) l)
+
+-- the same of the sections of a file
+abbrev pub placedIn : ℕ → Outcome (List (List ℕ)) → Outcome ℕ
+placedIn i r = after r (λ l. taken (placeOf i 16 l))

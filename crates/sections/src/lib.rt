@@ -1,4 +1,4 @@
-// The sections of a snapshot file: the header, one step of the walk, and the walk up to the end of the file.
+// The sections of a snapshot file: the header, one step of the walk, the walk up to the end of the file, and where a section stands in a file that is taken.
 use answer::CUT;
 use answer::ENDIAN;
 use answer::LIMIT;
@@ -27,7 +27,7 @@ ghost use Rattle.wire.specs.Numbers.{leAt};
 ghost use Rattle.aerosnap.specs.Known as known;
 ghost use Rattle.aerosnap.specs.File.{headerChecks, idOf, fileOf};
 ghost use Rattle.aerosnap.specs.File as file;
-ghost use Rattle.sections.specs.Walks.{Marks, sectionAt, counted, walkedFrom};
+ghost use Rattle.sections.specs.Walks.{Marks, sectionAt, counted, walkedFrom, sectionsIn, Read, placeOf, placedIn};
 
 // `AEROSNAP`, as the number that the letters are in the file.
 const LETTERS: u64 = 0x50414E534F524541;
@@ -83,8 +83,8 @@ fn slot(id: u32) -> usize
     id as usize
 }
 
-// The bound of the DEVICES payload.
-fn small(id: u32, n: usize) -> bool
+// The bound of a section's payload: only DEVICES has one.
+pub fn small(id: u32, n: usize) -> bool
     ensures { λ r. ⌜ r ≡ (not (eqb id 4) || leb n 268435456) ⌝ }
 {
     if id == 4 {
@@ -225,5 +225,30 @@ pub fn scan(file: &[u8]) -> Piece
     match header(file) {
         Test::Fault(number, place) => Piece::Stop(number, place),
         Test::Fine => walk(file),
+    }
+}
+
+// Where the section with an id starts in a file that is taken; the end of the file where there is none.
+fn seek(file: &[u8], id: u32) -> usize
+    requires { ⌜ Read (now file) ⌝ }
+    ensures { λ r. ⌜ r ≡ placeOf id 16 (sectionsIn (now (file .entry))) ⌝ }
+{
+    let mut at = 16;
+    while at < file.len() {
+        if u32_at(file, at) == id {
+            return at;
+        }
+        at = at + (16 + (u64_at(file, at + 8) as usize));
+    }
+    at
+}
+
+// The whole file: where the section with an id starts, or the file's first fault.
+pub fn find(file: &[u8], id: u32) -> Piece
+    ensures { λ r. ⌜ pieceOf r ≡ placedIn id (fileOf (now (file .entry))) ⌝ }
+{
+    match scan(file) {
+        Piece::Stop(number, place) => Piece::Stop(number, place),
+        Piece::Ends(_) => Piece::Ends(seek(file, id)),
     }
 }

@@ -4,6 +4,7 @@ use mathlib.Core.Path.{_≡_}
 use mathlib.Core.List.{List}
 use lib.ListN.{length}
 use Prim.Native.Nat.{ℕ}
+pub use Rattle.canon.proofs.Once.{canonical-once, add-device-once, add-disk-once}
 use Rattle.answer.specs.declared.Answer.{Answer}
 use Rattle.answer.specs.Calls.{verdict, Writes}
 use Rattle.answer.proofs.Once.{equal-once, writes-once}

@@ -1,4 +1,4 @@
-// Snapshot files: checked whole, and their tables of sections, devices and disks handed out.
+// Snapshot files, all calls: checked whole, their tables handed out, written in canonical form, and with a device or a disk more.
 use answer::Answer;
 use answer::Piece;
 use answer::ROOM;
@@ -19,8 +19,8 @@ ghost use Rattle.aerosnap.specs.Known.{known};
 ghost use Rattle.aerosnap.specs.Payloads.{list, bodyOf};
 ghost use Rattle.aerosnap.specs.File.{fileOf};
 ghost use Rattle.aerosnap.specs.Tables as file_tables;
-ghost use Rattle.aerosnap.specs.Calls.{checkCall, sectionsCall, devicesCall, disksCall};
-ghost use Rattle.snapshot.specs.Walks.{placeOf, sectionRows};
+ghost use Rattle.aerosnap.specs.Calls.{checkCall, sectionsCall, devicesCall, disksCall, canonicalCall, addDeviceCall, addDiskCall};
+ghost use Rattle.snapshot.specs.Walks.{sectionRows};
 
 // The ids of the lists that have a table.
 const DEVICES: u32 = 4;
@@ -92,33 +92,17 @@ pub fn sections(file: &[u8], table: &mut [u8]) -> Answer
     }
 }
 
-// Where the section with an id starts; the end of the file where there is none.
-fn find(file: &[u8], id: u32) -> usize
-    requires { ⌜ ((l : List (List ℕ)) × (fileOf (now file) ≡ taken l)) ⌝ }
-    ensures { λ r. ⌜ ((l : List (List ℕ)) → fileOf (now (file .entry)) ≡ taken l → r ≡ placeOf id 16 l) ⌝ }
-{
-    let mut at = 16;
-    while at < file.len() {
-        if wire::u32_at(file, at) == id {
-            return at;
-        }
-        at = end_at(file, at);
-    }
-    at
-}
-
 // The table of the list with an id. The list's reader gets its payload alone, as a part of the file.
 fn list_table(t: Table, id: u32, file: &[u8], table: &mut [u8]) -> Answer
     requires { ⌜ (known id ≡ true) × ((v : ℕ) → bodyOf id v ≡ list (described t)) ⌝ }
     ensures { λ r. ⌜ Writes (file_tables.table (file_tables.listRows t id) (length (now (table .entry))) (now (file .entry))) (now (table .entry)) r (now (table .exit)) ⌝ }
 {
-    match faults(file) {
-        Test::Fault(number, place) => Answer {
+    match sections::find(file, id) {
+        Piece::Stop(number, place) => Answer {
             number,
             place: place as u64,
         },
-        Test::Fine => {
-            let at = find(file, id);
+        Piece::Ends(at) => {
             if file.len() <= at {
                 return Answer {
                     number: TAKEN,
@@ -144,4 +128,34 @@ pub fn disks(file: &[u8], table: &mut [u8]) -> Answer
     ensures { λ r. ⌜ Writes (disksCall (length (now (table .entry))) (now (file .entry))) (now (table .entry)) r (now (table .exit)) ⌝ }
 {
     list_table(Table::Disks, DISKS, file, table)
+}
+
+// ---- writing, which crate canon does
+
+// The canonical form of a file: the bytes that are written for its content.
+pub fn canonical(file: &[u8], out: &mut [u8]) -> Answer
+    ensures { λ r. ⌜ Writes (canonicalCall (length (now (out .entry))) (now (file .entry))) (now (out .entry)) r (now (out .exit)) ⌝ }
+{
+    canon::canonical(file, out)
+}
+
+// The canonical form of a file's content and one device more.
+pub fn add_device(
+    file: &[u8],
+    id: u32,
+    version: u16,
+    flags: u16,
+    payload: &[u8],
+    out: &mut [u8],
+) -> Answer
+    ensures { λ r. ⌜ Writes (addDeviceCall (length (now (out .entry))) (now (file .entry)) id version flags (now (payload .entry))) (now (out .entry)) r (now (out .exit)) ⌝ }
+{
+    canon::add_device(file, id, version, flags, payload, out)
+}
+
+// The canonical form of a file's content and one disk more.
+pub fn add_disk(file: &[u8], id: u32, base: &[u8], overlay: &[u8], out: &mut [u8]) -> Answer
+    ensures { λ r. ⌜ Writes (addDiskCall (length (now (out .entry))) (now (file .entry)) id (now (base .entry)) (now (overlay .entry))) (now (out .entry)) r (now (out .exit)) ⌝ }
+{
+    canon::add_disk(file, id, base, overlay, out)
 }

@@ -3,7 +3,7 @@ ghost use mathlib.Core.Path.{_≡_};
 ghost use Prim.Native.Nat.{_≤_};
 ghost use lib.ListN.{length};
 ghost use Rattle.utf8.specs.Grammar.{Reads};
-ghost use Rattle.utf8.specs.Scan.{leadOf, scan};
+ghost use Rattle.utf8.specs.Scan.{leadOf, scan, isText};
 ghost use Rattle.utf8.specs.Steps.{AtMost, Passes, Ends};
 
 // A text; or the first place at which none continues, which is the length where the last character is cut short.
@@ -144,4 +144,14 @@ pub fn text(s: &[u8]) -> Found
         return Found::Whole;
     }
     walk(s)
+}
+
+// Whether s is a text.
+pub fn is_text(s: &[u8]) -> bool
+    ensures { λ r. ⌜ r ≡ isText (now (s .entry)) ⌝ }
+{
+    match text(s) {
+        Found::Whole => true,
+        Found::Broken(_) => false,
+    }
 }

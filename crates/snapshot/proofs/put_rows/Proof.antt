@@ -1,4 +1,5 @@
-use Rattle.snapshot.proofs.Walks.{Rowing, goes, rowing-start, rowing-done, rowing-room, rowing-next}
+use Rattle.snapshot.proofs.Walks.{Rowing, rowing-start, rowing-done, rowing-room, rowing-next}
+use Rattle.aerosnap.proofs.Standing.{goes}
 use Rattle.aerosnap.specs.File.{fileOf}
 use Rattle.answer.specs.Outcome.{taken}
 use lib.ListN.{length}

@@ -1,9 +1,8 @@
--- `aipc::is_text` meets its contract. Assumes nothing.
 use mathlib.Core.Path.{sym}
 use Rattle.utf8.proofs.Reading.{whole-is, broken-is}
 use borrow.Author.Needs.{needs}
-use Rattle.aipc.proofs.is_text.Statement.{statement}
-use Rattle.aipc.proofs.is_text.Tie as tie
+use Rattle.utf8.proofs.is_text.Statement.{statement}
+use Rattle.utf8.proofs.is_text.Tie as tie
 
 text-requires : tie.Need-text-requires
 text-requires c κs = tt
