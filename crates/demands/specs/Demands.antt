@@ -10,7 +10,7 @@ use Prim.Native.Nat.{ℕ, _≤_, _<_, _^_}
 use lib.ListN.{length, take, drop}
 use lib.Dec.{leb}
 use Rattle.answer.specs.declared.Answer.{Answer}
-use Rattle.answer.specs.Numbers.{SHORT, TEXT, VALUE, ROOM, TAG, ADDRESS}
+use Rattle.answer.specs.Numbers.{SHORT, VALUE, ROOM, TAG, ADDRESS}
 use Rattle.answer.specs.Outcome.{Outcome, taken, refused, Checks, Pass, room, fitting}
 use Rattle.answer.specs.Calls.{verdict, Writes}
 use Rattle.wire.specs.Numbers.{Bytes}
