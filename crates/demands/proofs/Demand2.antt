@@ -2,22 +2,27 @@
 -- Assumes nothing.
 use mathlib.Core.Path.{_≡_, refl, sym, ap, _∙_}
 use mathlib.Core.Logic.{_↔_, _⊎_, inl, inr}
-use mathlib.Core.List.{List, [], _++_}
-use Prim.Native.Nat.{ℕ, _≤_}
+use mathlib.Core.Bool.{Bool, true, false}
+use mathlib.Core.List.{List, [], _∷_, _++_}
+use Prim.Native.Nat.{ℕ, _≤_, _<_}
 use native.Mathlib.Omega.{arith}
-use lib.ListN.{length}
+use borrow.Author.Tests.{leb-false, lt-leb}
+use lib.Dec.{leb}
+use lib.ListN.{length, drop}
+use Rattle.answer.specs.Numbers.{ROOM}
 use Rattle.answer.specs.Outcome.{Outcome, taken, refused, Checks, checked, Pass, after, room, fitting}
 use Rattle.answer.proofs.Checks.{checked-append}
 use Rattle.answer.proofs.Outcomes.{after-taken, taken-is}
 use Rattle.wire.specs.Numbers.{Bytes}
-use Rattle.order.specs.Keyed.{flat, sort}
-use Rattle.entries.specs.Kinds.{controllers}
+use Rattle.order.specs.Keyed.{flat}
+use Rattle.tables.specs.declared.Table.the-variants.{Controllers}
+use Rattle.tables.specs.Tables.{rowsAt}
 use Rattle.aerosnap.specs.File.{fileOf}
 use Rattle.aerosnap.specs.Content.{Content, contentOf, contentAt, render, canonical, InOrder}
 use Rattle.aerosnap.specs.Tables.{placed, table}
 use Rattle.aerosnap.specs.Adding.{Item, ownChecks, addChecks, put, addTo, addItem, Call}
 use Rattle.aerosnap.proofs.Taken.{taken-exactly, file-unique}
-use Rattle.aerosnap.proofs.Canonical.{fits-taken, taken-fits, canonical-exactly, canonical-is, same-canonical, same-content}
+use Rattle.aerosnap.proofs.Canonical.{fits-taken, taken-fits, canonical-is, same-canonical, same-content}
 use Rattle.aerosnap.proofs.Added.{add-exactly}
 use Rattle.aerosnap.proofs.AnyOrder.{call-gives}
 use Rattle.dskc.specs.Wrapper as wrapped
@@ -30,41 +35,47 @@ use Rattle.messages.specs.Writing.{writeChecks, written, writeMessage}
 use Rattle.messages.proofs.Back.{told, read-written}
 use Rattle.messages.proofs.Exactly.{taken-writing, writing-unique, read-write}
 use Rattle.numbers.proofs.Back.{numbers-write}
-use Rattle.demands.specs.Demands.{Taken, First, Canonical, Files, Passed, Adds, Wrappers, Says, dataOf, Messages, Demand2}
+use Rattle.demands.specs.Demands.{Taken, Writing, Canonical, Files, First, Passed, Adds, ordered, Wrappers, Says, dataOf, Messages, Demand2}
 use Rattle.demands.proofs.Firsts.{checked-first, after-refused}
+
+-- ---- what is written of what was read
+
+fit-refused : (have : ℕ) (b : List ℕ) (n p : ℕ) → fitting have b ≡ refused n p → (have < length b) × (n ≡ ROOM) × (p ≡ length b)
+fit-refused have b n p e = go (leb (length b) have) refl e
+  where
+    go : (t : Bool) → leb (length b) have ≡ t → _≡_ {A = Outcome (List ℕ)} (checked ((t, ROOM, length b) ∷ []) (taken b)) (refused n p) → (have < length b) × (n ≡ ROOM) × (p ≡ length b)
+    go true q e = let z : _≡_ {A = ℕ} 0 1 = cc in absurd (omega arith)
+    go false q e = (leb-false (length b) have q, cc, cc)
+
+refused-fit : (have : ℕ) (b : List ℕ) → have < length b → fitting have b ≡ refused ROOM (length b)
+refused-fit have b h = rw (lt-leb (length b) have h)
+
+writing : {A : Type 0} (r : Outcome A) (f : A → List ℕ) → Writing r f (λ have. after r (λ a. fitting have (f a)))
+writing {A} r f = record { exactly = exactly; refuses = λ have n p. (λ e. there have n p (after-refused r (λ a. fitting have (f a)) n p e), back have n p) }
+  where
+    exactly : (have : ℕ) (b : List ℕ) → (after r (λ a. fitting have (f a)) ≡ taken b) ↔ ((a : A) × (r ≡ taken a) × (f a ≡ b) × (length b ≤ have))
+    exactly have b = (
+      λ h.
+          let (a, e, q) = after-taken r (λ a. fitting have (f a)) h in
+          let (l, i) = fits-taken have (f a) q in
+          (a, e, i, omega (arith, l, ap length i)),
+      λ (a, e, q, n). ap (λ (o : Outcome A). after o (λ a. fitting have (f a))) e ∙ taken-fits have (f a) (omega (arith, ap length q)) ∙ ap taken q,
+    )
+
+    there : (have n p : ℕ) → ((r ≡ refused n p) ⊎ ((a : A) × (r ≡ taken a) × (fitting have (f a) ≡ refused n p)))
+        → (r ≡ refused n p) ⊎ ((a : A) × (r ≡ taken a) × (have < length (f a)) × (n ≡ ROOM) × (p ≡ length (f a)))
+    there have n p (inl e) = inl e
+    there have n p (inr (a, e, h)) = let (i, j, k) = fit-refused have (f a) n p h in inr (a, e, i, j, k)
+
+    back : (have n p : ℕ) → ((r ≡ refused n p) ⊎ ((a : A) × (r ≡ taken a) × (have < length (f a)) × (n ≡ ROOM) × (p ≡ length (f a)))) → after r (λ a. fitting have (f a)) ≡ refused n p
+    back have n p (inl e) = ap (λ (o : Outcome A). after o (λ a. fitting have (f a))) e
+    back have n p (inr (a, e, h, i, j)) = ap (λ (o : Outcome A). after o (λ a. fitting have (f a))) e ∙ refused-fit have (f a) h ∙ cc
 
 -- ---- files
 
-table-exactly : (rows : ℕ × List ℕ → List ℕ) (have : ℕ) (s b : List ℕ)
-    → (table rows have s ≡ taken b) ↔ ((l : List (List ℕ)) × (fileOf s ≡ taken l) × (flat rows (placed 16 l) ≡ b) × (length b ≤ have))
-table-exactly rows have s b = (
-  λ h.
-      let p = after-taken (fileOf s) (λ l. fitting have (flat rows (placed 16 l))) h in
-      let q = fits-taken have (flat rows (placed 16 (p .0))) (p .2) in
-      (p .0, p .1, q .1, omega (arith, q .0, ap length (q .1))),
-  λ (l, e, q, n). ap (λ (r : Outcome (List (List ℕ))). after r (λ l. fitting have (flat rows (placed 16 l)))) e ∙ taken-fits have (flat rows (placed 16 l)) (omega (arith, ap length q)) ∙ ap taken q,
-)
-
--- what is refused over a file's content: the file's first fault, or else the first check that fails
-refused-by : (s : List ℕ) (f : Content → Outcome (List ℕ)) (rows : Content → Checks) (bytes : Content → List ℕ) → ((c : Content) → f c ≡ checked (rows c) (taken (bytes c))) → (n p : ℕ)
-    → (after (contentAt s) f ≡ refused n p) ↔ ((fileOf s ≡ refused n p) ⊎ ((c : Content) × (contentAt s ≡ taken c) × First (rows c) n p))
-refused-by s f rows bytes same n p = ((λ e. there (after-refused (contentAt s) f n p e)), back)
-  where
-    fault : ((fileOf s ≡ refused n p) ⊎ ((l : List (List ℕ)) × (fileOf s ≡ taken l) × (taken (contentOf l) ≡ refused n p))) → fileOf s ≡ refused n p
-    fault (inl e) = e
-    fault (inr (l, e, h)) = let z : _≡_ {A = ℕ} 0 1 = cc in absurd (omega arith)
-
-    there : ((contentAt s ≡ refused n p) ⊎ ((c : Content) × (contentAt s ≡ taken c) × (f c ≡ refused n p))) → (fileOf s ≡ refused n p) ⊎ ((c : Content) × (contentAt s ≡ taken c) × First (rows c) n p)
-    there (inl e) = inl (fault (after-refused (fileOf s) (λ l. taken (contentOf l)) n p e))
-    there (inr (c, e, h)) = inr (c, e, checked-first (rows c) (bytes c) n p .0 (sym (same c) ∙ h))
-
-    back : ((fileOf s ≡ refused n p) ⊎ ((c : Content) × (contentAt s ≡ taken c) × First (rows c) n p)) → after (contentAt s) f ≡ refused n p
-    back (inl e) = ap (λ (r : Outcome (List (List ℕ))). after (after r (λ l. taken (contentOf l))) f) e
-    back (inr (c, e, h)) = ap (λ (r : Outcome Content). after r f) e ∙ same c ∙ checked-first (rows c) (bytes c) n p .1 h
-
-canonical-refuses : (have : ℕ) (s : List ℕ) (n p : ℕ) → (canonical have s ≡ refused n p) ↔ ((fileOf s ≡ refused n p) ⊎ ((c : Content) × (contentAt s ≡ taken c) × First (room have (length (render c))) n p))
+canonical-writing : (s : List ℕ) → Writing (contentAt s) render (λ have. canonical have s)
 unfolding canonical
-canonical-refuses have s n p = refused-by s (λ c. fitting have (render c)) (λ c. room have (length (render c))) render (λ c. refl) n p
+canonical-writing s = writing (contentAt s) render
 
 is-canonical : (have : ℕ) (s b : List ℕ) → canonical have s ≡ taken b → Canonical s b
 is-canonical have s b h = let c = canonical-is have s b h in record { same = c .same; shorter = c .shorter; again = c .again }
@@ -73,12 +84,13 @@ files : Files
 files = record {
   exactly = taken-exactly;
   unique = file-unique;
-  tables = table-exactly;
-  canonical = canonical-exactly;
-  refuses = canonical-refuses;
+  tables = λ rows s. writing (fileOf s) (λ l. flat rows (placed 16 l));
+  canonical = canonical-writing;
   is-canonical = is-canonical;
   same = same-canonical;
   only = same-content;
+  content = λ s l e. ap (λ (r : Outcome (List (List ℕ))). after r (λ l. taken (contentOf l))) e;
+  no-content = λ s n p e. ap (λ (r : Outcome (List (List ℕ))). after r (λ l. taken (contentOf l))) e;
 }
 
 -- ---- adds
@@ -91,11 +103,23 @@ adds-exactly have s x b = (
 
 adds-refuses : (have : ℕ) (s : List ℕ) (x : Item) (n p : ℕ)
     → (addItem have s x ≡ refused n p)
-    ↔ ((fileOf s ≡ refused n p) ⊎ ((c : Content) × (contentAt s ≡ taken c) × First ((ownChecks x ++ addChecks x c (put x c)) ++ room have (length (render (put x c)))) n p))
+    ↔ ((contentAt s ≡ refused n p) ⊎ ((c : Content) × (contentAt s ≡ taken c) × First ((ownChecks x ++ addChecks x c (put x c)) ++ room have (length (render (put x c)))) n p))
 unfolding addItem addTo
-adds-refuses have s x n p =
-    refused-by s (λ c. addTo have c x) (λ c. (ownChecks x ++ addChecks x c (put x c)) ++ room have (length (render (put x c)))) (λ c. render (put x c))
-    (λ c. sym (checked-append (ownChecks x ++ addChecks x c (put x c)) (room have (length (render (put x c)))) (taken (render (put x c))))) n p
+adds-refuses have s x n p = ((λ e. there (after-refused (contentAt s) (λ c. addTo have c x) n p e)), back)
+  where
+    rows : Content → Checks
+    rows c = (ownChecks x ++ addChecks x c (put x c)) ++ room have (length (render (put x c)))
+
+    joined : (c : Content) → addTo have c x ≡ checked (rows c) (taken (render (put x c)))
+    joined c = sym (checked-append (ownChecks x ++ addChecks x c (put x c)) (room have (length (render (put x c)))) (taken (render (put x c))))
+
+    there : ((contentAt s ≡ refused n p) ⊎ ((c : Content) × (contentAt s ≡ taken c) × (addTo have c x ≡ refused n p))) → (contentAt s ≡ refused n p) ⊎ ((c : Content) × (contentAt s ≡ taken c) × First (rows c) n p)
+    there (inl e) = inl e
+    there (inr (c, e, h)) = inr (c, e, checked-first (rows c) (render (put x c)) n p .0 (sym (joined c) ∙ h))
+
+    back : ((contentAt s ≡ refused n p) ⊎ ((c : Content) × (contentAt s ≡ taken c) × First (rows c) n p)) → after (contentAt s) (λ c. addTo have c x) ≡ refused n p
+    back (inl e) = ap (λ (r : Outcome Content). after r (λ c. addTo have c x)) e
+    back (inr (c, e, h)) = ap (λ (r : Outcome Content). after r (λ c. addTo have c x)) e ∙ joined c ∙ checked-first (rows c) (render (put x c)) n p .1 h
 
 adds : Adds
 adds = record { exactly = adds-exactly; refuses = adds-refuses; gives = λ have s x b k. let g = call-gives have s x b k in (g .old, g .read, g .content-is, g .canonical-is) }
@@ -108,13 +132,17 @@ wrapper-exactly s y = (
   λ (l, e, v). (_, ap wrapped.wrapperOf e ∙ wrapper-complete l v),
 )
 
-wrapper-canonical : (have : ℕ) (l : List (List ℕ)) → wrapped.Valid l → wrapped.canonicalCall have (wrapped.wrapperBytes l) ≡ fitting have (wrapped.wrapperBytes (sort (controllers .key) l))
-wrapper-canonical have l v =
-    ap (λ (r : Outcome (List ℕ)). after r (λ _. fitting have (wrapped.wrapperBytes (sort (controllers .key) (wrapped.controllersOf (wrapped.wrapperBytes l)))))) (wrapper-complete l v)
-    ∙ ap (λ (m : List (List ℕ)). fitting have (wrapped.wrapperBytes (sort (controllers .key) m))) (controllers-back l v)
-
 wrappers : Wrappers
-wrappers = record { exactly = wrapper-exactly; unique = wrapper-one; canonical = wrapper-canonical; long = ordered-length; valid = ordered-valid; again = ordered-again }
+wrappers = record {
+  exactly = wrapper-exactly;
+  unique = wrapper-one;
+  back = controllers-back;
+  table = λ s. writing (wrapped.wrapperOf s) (rowsAt Controllers 16 (drop 16 s));
+  canonical = λ s. writing (wrapped.wrapperOf s) (λ _. wrapped.wrapperBytes (ordered (wrapped.controllersOf s)));
+  long = ordered-length;
+  valid = ordered-valid;
+  again = ordered-again;
+}
 
 -- ---- messages
 

@@ -11,16 +11,18 @@ use lib.ListN.{length, take, drop}
 use lib.Dec.{leb}
 use Rattle.answer.specs.declared.Answer.{Answer}
 use Rattle.answer.specs.Numbers.{SHORT, VALUE, ROOM, TAG, ADDRESS}
-use Rattle.answer.specs.Outcome.{Outcome, taken, refused, Checks, Pass, room, fitting}
+use Rattle.answer.specs.Outcome.{Outcome, taken, refused, Checks, Pass, room}
 use Rattle.answer.specs.Calls.{verdict, Writes}
 use Rattle.wire.specs.Numbers.{Bytes}
 use Rattle.order.specs.Keyed.{flat, sort}
 use Rattle.order.specs.Entries.{join}
 use Rattle.order.specs.Adding.{Chain, items, Roomy}
 use Rattle.entries.specs.Kinds.{controllers}
+use Rattle.tables.specs.declared.Table.the-variants.{Controllers}
+use Rattle.tables.specs.Tables.{rowsAt}
 use Rattle.aerosnap.specs.File.{header}
 use Rattle.aerosnap.specs.Rules.{Valid}
-use Rattle.aerosnap.specs.Content.{Content, contentAt, render, InOrder}
+use Rattle.aerosnap.specs.Content.{Content, contentOf, contentAt, render, InOrder}
 use Rattle.aerosnap.specs.Tables.{placed, table}
 use Rattle.aerosnap.specs.Adding.{Item, Wide, ownChecks, addChecks, put, addItem, Call, grown}
 use Rattle.aerosnap.specs.Calls.{checkCall, sectionsCall, devicesCall, disksCall, canonicalCall, addDeviceCall, addDiskCall}
@@ -102,12 +104,11 @@ pub record Demand1 : Type 0 where
 -- Files, wrappers and messages are read and written as the rules say: a reading is given exactly for inputs that follow them, and writing a reading out
 -- gives the canonical bytes. A call refuses exactly if one of its checks fails; that covers adds too.
 
--- checks are asked in their order, and this is the first that fails
-pub record First (rows : Checks) (n p : ℕ) : Type 0 where
-  pub before : Checks
-  pub behind : Checks
-  pub split : rows ≡ before ++ ((false, n, p) ∷ behind)
-  pub passed : Pass before
+-- a call that writes f of what is read by r: taken exactly if that is and the output holds the bytes; refused, it names the fault of the input, or else ROOM and
+-- the length needed
+pub record Writing {A : Type 0} (r : Outcome A) (f : A → List ℕ) (call : ℕ → Outcome (List ℕ)) : Type 0 where
+  pub exactly : (have : ℕ) (b : List ℕ) → (call have ≡ taken b) ↔ ((a : A) × (r ≡ taken a) × (f a ≡ b) × (length b ≤ have))
+  pub refuses : (have n p : ℕ) → (call have ≡ refused n p) ↔ ((r ≡ refused n p) ⊎ ((a : A) × (r ≡ taken a) × (have < length (f a)) × (n ≡ ROOM) × (p ≡ length (f a))))
 
 -- b is the canonical form of the file s: it has the content of s, is no longer, and is its own canonical form
 pub record Canonical (s b : List ℕ) : Type 0 where
@@ -119,17 +120,24 @@ pub record Files : Type 0 where
   -- taken with certain sections exactly if it is the header and these, and they follow the rules; and no others are
   pub exactly : (s : List ℕ) (l : List (List ℕ)) → (checkCall s ≡ taken l) ↔ ((s ≡ header ++ join l) × Valid l)
   pub unique : (l m : List (List ℕ)) → Valid l → Valid m → header ++ join l ≡ header ++ join m → l ≡ m
-  -- a table is given exactly for a file that is taken and an output that holds it: the records of its sections in file order
-  pub tables : (rows : ℕ × List ℕ → List ℕ) (have : ℕ) (s b : List ℕ)
-      → (table rows have s ≡ taken b) ↔ ((l : List (List ℕ)) × (checkCall s ≡ taken l) × (flat rows (placed 16 l) ≡ b) × (length b ≤ have))
-  -- the canonical form is given exactly for a file that is taken and an output that holds it: the rendering of its content
-  pub canonical : (have : ℕ) (s b : List ℕ) → (canonicalCall have s ≡ taken b) ↔ ((c : Content) × (contentAt s ≡ taken c) × (render c ≡ b) × (length b ≤ have))
-  pub refuses : (have : ℕ) (s : List ℕ) (n p : ℕ)
-      → (canonicalCall have s ≡ refused n p) ↔ ((checkCall s ≡ refused n p) ⊎ ((c : Content) × (contentAt s ≡ taken c) × First (room have (length (render c))) n p))
+  -- a table is the records of its sections in file order (the calls `sections`, `devices` and `disks` differ in `rows` alone)
+  pub tables : (rows : ℕ × List ℕ → List ℕ) (s : List ℕ) → Writing (checkCall s) (λ l. flat rows (placed 16 l)) (λ have. table rows have s)
+  -- the canonical form is the rendering of the content
+  pub canonical : (s : List ℕ) → Writing (contentAt s) render (λ have. canonicalCall have s)
   pub is-canonical : (have : ℕ) (s b : List ℕ) → canonicalCall have s ≡ taken b → Canonical s b
   -- two files with the same content have the same canonical bytes, and no others have
   pub same : (have : ℕ) (s t : List ℕ) → contentAt s ≡ contentAt t → canonicalCall have s ≡ canonicalCall have t
   pub only : (have : ℕ) (s t b : List ℕ) → canonicalCall have s ≡ taken b → canonicalCall have t ≡ taken b → contentAt s ≡ contentAt t
+  -- a file has a content exactly if it is taken, and else the same fault
+  pub content : (s : List ℕ) (l : List (List ℕ)) → checkCall s ≡ taken l → contentAt s ≡ taken (contentOf l)
+  pub no-content : (s : List ℕ) (n p : ℕ) → checkCall s ≡ refused n p → contentAt s ≡ refused n p
+
+-- checks are asked in their order, and this is the first that fails
+pub record First (rows : Checks) (n p : ℕ) : Type 0 where
+  pub before : Checks
+  pub behind : Checks
+  pub split : rows ≡ before ++ ((false, n, p) ∷ behind)
+  pub passed : Pass before
 
 -- none of the checks of adding x to c fails, and the output holds the result
 pub record Passed (have : ℕ) (x : Item) (c : Content) : Type 0 where
@@ -144,18 +152,26 @@ pub record Adds : Type 0 where
   -- refused, it names the file's first fault, or else the first check of the add that fails
   pub refuses : (have : ℕ) (s : List ℕ) (x : Item) (n p : ℕ)
       → (addItem have s x ≡ refused n p)
-      ↔ ((checkCall s ≡ refused n p) ⊎ ((c : Content) × (contentAt s ≡ taken c) × First ((ownChecks x ++ addChecks x c (put x c)) ++ room have (length (render (put x c)))) n p))
+      ↔ ((contentAt s ≡ refused n p) ⊎ ((c : Content) × (contentAt s ≡ taken c) × First ((ownChecks x ++ addChecks x c (put x c)) ++ room have (length (render (put x c)))) n p))
   -- the file that is written has that content and is canonical
   pub gives : (have : ℕ) (s : List ℕ) (x : Item) (b : List ℕ) → Call have s x b → (c : Content) × (contentAt s ≡ taken c) × (contentAt b ≡ taken (put x c)) × InOrder b
 
+-- controllers in address order
+abbrev pub ordered : List (List ℕ) → List (List ℕ)
+ordered = sort (controllers .key)
+
 pub record Wrappers : Type 0 where
+  -- taken exactly if it is the rendering of controllers that follow the rules, which are the only ones
   pub exactly : (s : List ℕ) → Bytes s → Taken (wrapped.wrapperOf s) ↔ ((l : List (List ℕ)) × (s ≡ wrapped.wrapperBytes l) × wrapped.Valid l)
   pub unique : (l m : List (List ℕ)) → wrapped.Valid l → wrapped.Valid m → wrapped.wrapperBytes l ≡ wrapped.wrapperBytes m → l ≡ m
-  -- the canonical form of valid controllers: in address order, of the same length, taken, and its own canonical form
-  pub canonical : (have : ℕ) (l : List (List ℕ)) → wrapped.Valid l → wrapped.canonicalCall have (wrapped.wrapperBytes l) ≡ fitting have (wrapped.wrapperBytes (sort (controllers .key) l))
-  pub long : (l : List (List ℕ)) → length (wrapped.wrapperBytes (sort (controllers .key) l)) ≡ length (wrapped.wrapperBytes l)
-  pub valid : (l : List (List ℕ)) → wrapped.Valid l → wrapped.Valid (sort (controllers .key) l)
-  pub again : (l : List (List ℕ)) → sort (controllers .key) (sort (controllers .key) l) ≡ sort (controllers .key) l
+  pub back : (l : List (List ℕ)) → wrapped.Valid l → wrapped.controllersOf (wrapped.wrapperBytes l) ≡ l
+  -- the table, and the canonical form: the controllers in address order
+  pub table : (s : List ℕ) → Writing (wrapped.wrapperOf s) (rowsAt Controllers 16 (drop 16 s)) (λ have. wrapped.controllersCall have s)
+  pub canonical : (s : List ℕ) → Writing (wrapped.wrapperOf s) (λ _. wrapped.wrapperBytes (ordered (wrapped.controllersOf s))) (λ have. wrapped.canonicalCall have s)
+  -- in that order they are as long, follow the rules, and stay as they are
+  pub long : (l : List (List ℕ)) → length (wrapped.wrapperBytes (ordered l)) ≡ length (wrapped.wrapperBytes l)
+  pub valid : (l : List (List ℕ)) → wrapped.Valid l → wrapped.Valid (ordered l)
+  pub again : (l : List (List ℕ)) → ordered (ordered l) ≡ ordered l
 
 -- each number is within the type of its field
 abbrev pub Within : List Cell → Type 0
