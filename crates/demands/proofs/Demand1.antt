@@ -12,7 +12,7 @@ use lib.ListN.{length, drop}
 use Rattle.answer.specs.declared.Answer.{Answer}
 use Rattle.answer.specs.Numbers.{SHORT, VALUE, ROOM, TAG, ADDRESS}
 use Rattle.answer.specs.Outcome.{Outcome, taken, refused, Checks, checked, after, room, fitting}
-use Rattle.answer.specs.Calls.{verdict, answer, memory, Writes}
+use Rattle.answer.specs.Calls.{verdict, answer, Writes}
 use Rattle.answer.proofs.Checks.{checked-after, checked-append}
 use Rattle.answer.proofs.Outcomes.{after-after}
 use Rattle.answer.proofs.Once.{equal-once, writes-once}
@@ -38,7 +38,7 @@ use Rattle.messages.specs.Reading.{Content as MessageContent, reading, readMess
 use Rattle.messages.specs.Writing.{valueChecks, dataChecks, writeChecks, written, writeMessage}
 use Rattle.numbers.specs.declared.Numbers.{Numbers}
 use Rattle.numbers.specs.Numbers.{kindIn, allWithin, messageOf, writeNumbers}
-use Rattle.demands.specs.Demands.{Taken, InTable, isFault, Faulty, Answers, Fills, Reads, Demand1}
+use Rattle.demands.specs.Demands.{Taken, InTable, isFault, Faulty, Answers, Fills, Demand1}
 use Rattle.demands.proofs.Faults.{file-faulty, wrapper-faulty, message-faulty}
 
 -- ---- numbers

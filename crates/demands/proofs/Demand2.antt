@@ -10,17 +10,17 @@ use borrow.Author.Tests.{leb-false, lt-leb}
 use lib.Dec.{leb}
 use lib.ListN.{length, drop}
 use Rattle.answer.specs.Numbers.{ROOM}
-use Rattle.answer.specs.Outcome.{Outcome, taken, refused, Checks, checked, Pass, after, room, fitting}
+use Rattle.answer.specs.Outcome.{Outcome, taken, refused, Checks, checked, after, room, fitting}
 use Rattle.answer.proofs.Checks.{checked-append}
-use Rattle.answer.proofs.Outcomes.{after-taken, taken-is}
+use Rattle.answer.proofs.Outcomes.{after-taken}
 use Rattle.wire.specs.Numbers.{Bytes}
 use Rattle.order.specs.Keyed.{flat}
 use Rattle.tables.specs.declared.Table.the-variants.{Controllers}
 use Rattle.tables.specs.Tables.{rowsAt}
 use Rattle.aerosnap.specs.File.{fileOf}
-use Rattle.aerosnap.specs.Content.{Content, contentOf, contentAt, render, canonical, InOrder}
+use Rattle.aerosnap.specs.Content.{Content, contentOf, contentAt, render, canonical}
 use Rattle.aerosnap.specs.Tables.{placed, table}
-use Rattle.aerosnap.specs.Adding.{Item, ownChecks, addChecks, put, addTo, addItem, Call}
+use Rattle.aerosnap.specs.Adding.{Item, ownChecks, addChecks, put, addTo, addItem}
 use Rattle.aerosnap.proofs.Taken.{taken-exactly, file-unique}
 use Rattle.aerosnap.proofs.Canonical.{fits-taken, taken-fits, canonical-is, same-canonical, same-content}
 use Rattle.aerosnap.proofs.Added.{add-exactly}

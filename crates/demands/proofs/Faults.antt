@@ -6,7 +6,7 @@ use mathlib.Core.Bool.{Bool, true, false, not, _&&_}
 use Prim.Native.Nat.{ℕ, zero, suc, _+_}
 use lib.ListN.{length, take, drop}
 use lib.Dec.{leb, eqb}
-use Rattle.answer.specs.Numbers.{SHAPE, LIMIT, KEY, TEXT, VALUE, TAG}
+use Rattle.answer.specs.Numbers.{SHAPE, LIMIT, KEY, TEXT, VALUE}
 use Rattle.answer.specs.Outcome.{Outcome, taken, refused, Checks, checked, after, moved, shift}
 use Rattle.answer.specs.Calls.{asked}
 use Rattle.wire.specs.Numbers.{leAt}

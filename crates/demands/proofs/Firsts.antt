@@ -1,12 +1,12 @@
 -- Checks in their order: a refusal is the first that fails, and nothing else refuses.
 -- Assumes nothing.
-use mathlib.Core.Path.{_≡_, refl, sym, ap, _∙_}
+use mathlib.Core.Path.{_≡_, refl, ap, _∙_}
 use mathlib.Core.Logic.{_↔_, _⊎_, inl, inr}
 use mathlib.Core.Bool.{Bool, true, false}
-use mathlib.Core.List.{List, [], _∷_, _++_}
+use mathlib.Core.List.{[], _∷_}
 use Prim.Native.Nat.{ℕ}
 use native.Mathlib.Omega.{arith}
-use Rattle.answer.specs.Outcome.{Outcome, taken, refused, Checks, checked, Pass, after}
+use Rattle.answer.specs.Outcome.{Outcome, taken, refused, Checks, checked, after}
 use Rattle.answer.proofs.Checks.{fails}
 use Rattle.demands.specs.Demands.{First}
 

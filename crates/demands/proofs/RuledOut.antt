@@ -1,19 +1,19 @@
 -- The wrong answers of document 01's list are none: by P1, P5 and P9, by the length that an entry adds, and by the promise of a call that writes.
 -- Assumes nothing.
-use mathlib.Core.Path.{_≡_, refl, sym, ap, _∙_}
+use mathlib.Core.Path.{_≡_, sym, ap, _∙_}
 use mathlib.Core.Logic.{_≢_}
 use mathlib.Core.List.{List, [], _∷_}
 use Prim.Native.Nat.{ℕ, suc, _<_, _≤_}
 use native.Mathlib.Omega.{arith}
 use lib.ListN.{length}
 use Rattle.answer.specs.declared.Answer.{Answer}
-use Rattle.answer.specs.Outcome.{Outcome, taken}
-use Rattle.answer.specs.Calls.{verdict, answer, Writes}
+use Rattle.answer.specs.Outcome.{taken}
+use Rattle.answer.specs.Calls.{verdict, answer}
 use Rattle.answer.proofs.Outcomes.{taken-is}
 use Rattle.wire.specs.Numbers.{bytesOf}
 use Rattle.order.specs.Adding.{Chain}
 use Rattle.aerosnap.specs.Content.{Content, contentAt, render, InOrder}
-use Rattle.aerosnap.specs.Adding.{Item, device, disk, listIn, entryOf, put, addItem, Call}
+use Rattle.aerosnap.specs.Adding.{Item, device, disk, listIn, entryOf, put, Call}
 use Rattle.aerosnap.specs.Calls.{canonicalCall}
 use Rattle.aerosnap.proofs.Canonical.{canonical-exactly}
 use Rattle.aerosnap.proofs.Added.{add-exactly, grows}

@@ -1,7 +1,7 @@
 -- A message and its numbers say the same, so a reading that is written again by its numbers gives the same bytes.
 -- Assumes nothing.
-use mathlib.Core.Path.{_≡_, refl, sym, ap, _∙_}
-use mathlib.Core.Bool.{Bool, true, _&&_}
+use mathlib.Core.Path.{_≡_, refl, ap, _∙_}
+use mathlib.Core.Bool.{true}
 use mathlib.Core.List.{List}
 use Prim.Native.Nat.{ℕ, _≤_}
 use native.Mathlib.Omega.{arith}
@@ -18,7 +18,7 @@ use Rattle.messages.specs.Writing.{writeMessage}
 use Rattle.messages.proofs.Cells.{Fit, Typed}
 use Rattle.messages.proofs.Again.{dataOf, written-read}
 use Rattle.messages.proofs.Back.{writable}
-use Rattle.messages.proofs.Exactly.{numbers-fit, read-write}
+use Rattle.messages.proofs.Exactly.{read-write}
 use Rattle.numbers.specs.Numbers.{rowNumbers, numbersOf, within, allWithin, messageOf, writeNumbers}
 
 -- numbers within their types are within their fields

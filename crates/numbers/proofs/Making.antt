@@ -1,7 +1,7 @@
 -- The answers of `message_of`, by the message of the low bytes and its row.
 -- Assumes nothing.
 use mathlib.Core.Path.{_≡_, refl, sym, ap, _∙_}
-use mathlib.Core.Bool.{Bool, true, false, not, _&&_}
+use mathlib.Core.Bool.{Bool, true, false, not}
 use mathlib.Core.List.{List, [], _∷_}
 use Prim.Native.Nat.{ℕ, _<_}
 use native.Mathlib.Omega.{arith}
@@ -13,14 +13,13 @@ use Rattle.answer.specs.declared.Answer.{Answer}
 use Rattle.answer.specs.Calls.{Writes}
 use Rattle.messages.specs.Writing.{writeMessage}
 use Rattle.kinds.specs.declared.Message.{Message}
-use Rattle.kinds.specs.declared.Message.the-variants.{Nothing}
 use Rattle.kinds.specs.declared.Form.{Form}
 use Rattle.kinds.specs.Kinds.{Kind, kinds, blank, paper}
 use Rattle.numbers.specs.declared.Numbers.{Numbers}
 use Rattle.numbers.specs.declared.Made.{Made as Code}
 use Rattle.numbers.specs.declared.Made.the-variants.{Refused, Is}
 use Rattle.numbers.specs.Numbers.{kindIn, within, allWithin, messageOf, madeOf, writeNumbers}
-use Rattle.numbers.specs.Steps.{low, narrow, narrowIn, sameNumbers}
+use Rattle.numbers.specs.Steps.{low, narrowIn, sameNumbers}
 use Rattle.numbers.proofs.Rows.{and-true, narrowed, within-low, Row, Looked, none, one, looked, wide-tag}
 
 -- what `messageOf` asks once the kind is known
@@ -61,7 +60,7 @@ by-look n (none x y) = rw y (record {
   lost = λ h e g. let z : _≡_ {A = ℕ} 0 1 = cc in absurd (omega arith);
   kept = λ h e g. let z : _≡_ {A = ℕ} 0 1 = cc in absurd (omega arith);
 })
-by-look n (one k t x y z) = rw y (by-row n k x z)
+by-look n (one k x y z) = rw y (by-row n k x z)
 
 pub made : (n : Numbers) {m : Message} → m ≡ narrowIn kinds (n .tag) (n .a) (n .b) (n .c) (n .d) → {f : Form} → f ≡ paper m → Answers n m f
 made n e g = rw (g, e) (by-look n (looked n))

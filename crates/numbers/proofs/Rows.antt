@@ -1,11 +1,11 @@
 -- What the row of a kind shows of numbers that were narrowed to their fields: a number is within its field exactly if the row still has it.
 -- Assumes nothing.
-use mathlib.Core.Path.{_≡_, refl, sym, ap, _∙_}
-use mathlib.Core.Bool.{Bool, true, false, cond, _&&_}
+use mathlib.Core.Path.{_≡_, refl, ap, _∙_}
+use mathlib.Core.Bool.{Bool, true, false, _&&_}
 use mathlib.Core.List.{List, [], _∷_}
-use Prim.Native.Nat.{ℕ, _^_, _%_, _<_, _≤_}
+use Prim.Native.Nat.{ℕ, _%_, _<_}
 use native.Mathlib.Omega.{arith}
-use borrow.Author.Tests.{ltb-true, ltb-false, leb-true, eqb-true, eq-eqb, ne-eqb}
+use borrow.Author.Tests.{ltb-true, ltb-false, leb-true, eq-eqb, ne-eqb}
 use lib.Dec.{ltb, leb, eqb}
 use native.Mathlib.Nat.{mod-eq-of-lt}
 use Rattle.answer.specs.Numbers.{TAG}
@@ -74,16 +74,20 @@ whole v h = mod-eq-of-lt h
 abbrev pub narrowed : Kind → Numbers → Message
 narrowed k n = narrow k (n .a) (n .b) (n .c) (n .d)
 
--- the row of that message, and what is due: the kind is known, has its tag, and shows its numbers
-abbrev shown : Kind → Numbers → Bool × ℕ × ℕ × ℕ × ℕ × ℕ
-shown k n = let f = paper (narrowed k n) in (f .known, f .tag, f .a .1, f .b .1, f .c .1, f .d .1)
+-- what its row says: whether its kind is known, and its numbers
+abbrev Shown : Type 0
+Shown = Bool × ℕ × ℕ × ℕ × ℕ
 
-abbrev due : Kind → Numbers → Bool × ℕ × ℕ × ℕ × ℕ × ℕ
+abbrev shown : Kind → Numbers → Shown
+shown k n = let f = paper (narrowed k n) in (f .known, f .a .1, f .b .1, f .c .1, f .d .1)
+
+-- what is due: it is known, and the numbers are those that have a field
+abbrev due : Kind → Numbers → Shown
 due k n =
     let f = blank k in
-    (true, f .tag, there (f .a .0) (low (f .a .0) (n .a)), there (f .b .0) (low (f .b .0) (n .b)), there (f .c .0) (low (f .c .0) (n .c)), there (f .d .0) (low (f .d .0) (n .d)))
+    (true, there (f .a .0) (low (f .a .0) (n .a)), there (f .b .0) (low (f .b .0) (n .b)), there (f .c .0) (low (f .c .0) (n .c)), there (f .d .0) (low (f .d .0) (n .d)))
 
-abbrev mapped : (Kind → Numbers → Bool × ℕ × ℕ × ℕ × ℕ × ℕ) → List Kind → Numbers → List (Bool × ℕ × ℕ × ℕ × ℕ × ℕ)
+abbrev mapped : (Kind → Numbers → Shown) → List Kind → Numbers → List Shown
 mapped f [] n = []
 mapped f (k ∷ ks) n = f k n ∷ mapped f ks n
 
@@ -94,42 +98,32 @@ all-due n = refl
 -- the numbers are still the same exactly if each is within its field
 pub record Row (k : Kind) (n : Numbers) : Type 0 where
   pub known : paper (narrowed k n) .known ≡ true
-  pub tag : paper (narrowed k n) .tag ≡ blank k .tag
   pub same : sameNumbers (paper (narrowed k n)) n ≡ allWithin (blank k) n
 
 row-of : (k : Kind) (n : Numbers) → shown k n ≡ due k n → Row k n
 row-of k n e =
     let f = blank k in
-    let p = there-within (f .a .0) (n .a) in
-    let q = there-within (f .b .0) (n .b) in
-    let r = there-within (f .c .0) (n .c) in
-    let s = there-within (f .d .0) (n .d) in
-    record { known = ap (λ (x : Bool × ℕ × ℕ × ℕ × ℕ × ℕ). x .0) e; tag = ap (λ (x : Bool × ℕ × ℕ × ℕ × ℕ × ℕ). x .1) e; same = same p q r s }
-  where
-    same : (let f = blank k in eqb (there (f .a .0) (low (f .a .0) (n .a))) (n .a) ≡ within (f .a .0) (n .a))
-        → (let f = blank k in eqb (there (f .b .0) (low (f .b .0) (n .b))) (n .b) ≡ within (f .b .0) (n .b))
-        → (let f = blank k in eqb (there (f .c .0) (low (f .c .0) (n .c))) (n .c) ≡ within (f .c .0) (n .c))
-        → (let f = blank k in eqb (there (f .d .0) (low (f .d .0) (n .d))) (n .d) ≡ within (f .d .0) (n .d))
-        → sameNumbers (paper (narrowed k n)) n ≡ allWithin (blank k) n
-    same p q r s =
-        ap (λ (x : Bool × ℕ × ℕ × ℕ × ℕ × ℕ). eqb (x .2) (n .a) && (eqb (x .3) (n .b) && (eqb (x .4) (n .c) && eqb (x .5) (n .d)))) e
-        ∙ rw (p, q, r, s)
+    record {
+      known = ap (λ (x : Shown). x .0) e;
+      same = ap (λ (x : Shown). eqb (x .1) (n .a) && (eqb (x .2) (n .b) && (eqb (x .3) (n .c) && eqb (x .4) (n .d)))) e
+          ∙ rw (there-within (f .a .0) (n .a), there-within (f .b .0) (n .b), there-within (f .c .0) (n .c), there-within (f .d .0) (n .d));
+    }
 
 -- ---- a tag looked up
 
 -- no kind has it, or a kind whose row is as it should be
 pub data Looked (ks : List Kind) (n : Numbers) : Type 0 where
   none : kindIn ks (n .tag) ≡ refused TAG 0 → narrowIn ks (n .tag) (n .a) (n .b) (n .c) (n .d) ≡ Nothing → Looked ks n
-  one : (k : Kind) → blank k .tag ≡ n .tag → kindIn ks (n .tag) ≡ taken k → narrowIn ks (n .tag) (n .a) (n .b) (n .c) (n .d) ≡ narrowed k n → Row k n → Looked ks n
+  one : (k : Kind) → kindIn ks (n .tag) ≡ taken k → narrowIn ks (n .tag) (n .a) (n .b) (n .c) (n .d) ≡ narrowed k n → Row k n → Looked ks n
 
 looked-in : (ks : List Kind) (n : Numbers) → mapped shown ks n ≡ mapped due ks n → Looked ks n
 looked-in [] n e = none refl refl
 looked-in (k ∷ ks) n e = go (eqb (n .tag) (blank k .tag)) refl (looked-in ks n (cc))
   where
     go : (b : Bool) → eqb (n .tag) (blank k .tag) ≡ b → Looked ks n → Looked (k ∷ ks) n
-    go true q r = let s : shown k n ≡ due k n = cc in one k (sym (eqb-true (n .tag) (blank k .tag) q)) (rw q) (rw q) (row-of k n s)
+    go true q r = let s : shown k n ≡ due k n = cc in one k (rw q) (rw q) (row-of k n s)
     go false q (none x y) = none (rw q x) (rw q y)
-    go false q (one j t x y z) = one j t (rw q x) (rw q y) z
+    go false q (one j x y z) = one j (rw q x) (rw q y) z
 
 pub looked : (n : Numbers) → Looked kinds n
 looked n = looked-in kinds n (all-due n)

@@ -5,7 +5,7 @@ use mathlib.Core.Bool.{Bool, cond, _&&_}
 use Prim.Native.Nat.{ℕ, _^_}
 use lib.Dec.{ltb, eqb}
 use Rattle.answer.specs.Numbers.{VALUE, TAG}
-use Rattle.answer.specs.Outcome.{Outcome, taken, refused, Checks, checked, after}
+use Rattle.answer.specs.Outcome.{Outcome, taken, refused, checked, after}
 use Rattle.kinds.specs.declared.Message.{Message}
 use Rattle.kinds.specs.declared.Field.{Field}
 use Rattle.kinds.specs.declared.Form.{Form}
