@@ -10,6 +10,7 @@ use lib.Seq.{take-at, drop-append-add}
 use lib.Dec.{leb}
 use borrow.Author.Tests.{leb-true}
 use Rattle.answer.specs.Outcome.{Pass, checked}
+use Rattle.answer.proofs.Checks.{and-true}
 use Rattle.wire.specs.Numbers.{leAt, bytesOf}
 use Rattle.wire.proofs.Numbers.{le-bytesOf, length-bytesOf}
 use Rattle.utf8.specs.Scan.{isText}
@@ -17,10 +18,6 @@ use Rattle.format.specs.Format.{Is, text}
 use Rattle.aerosnap.specs.File.{idOf, versionOf, flagsOf}
 use Rattle.aerosnap.specs.Adding.{Item, device, disk, Wide, withLength, entryOf, kindOf, ownChecks}
 use Rattle.aerosnap.proofs.Framed.{framed-reads}
-
-and-true : (a b : Bool) → (a && b) ≡ true → (a ≡ true) × (b ≡ true)
-and-true true b h = (refl, h)
-and-true false b h = let z : _≡_ {A = ℕ} 0 1 = cc in absurd (omega arith)
 
 text-is : (t : List ℕ) → leb (length t) 65536 ≡ true → isText t ≡ true → Is (text 65536) (withLength t)
 text-is t h k = (bytesOf 4 (length t), t, refl, length-bytesOf 4 (length t), le-bytesOf 4 (length t) (omega (arith, leb-true (length t) 65536 h)), (h, tt), rw (k, checked))

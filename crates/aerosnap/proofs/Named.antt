@@ -1,15 +1,16 @@
--- Every refusal has a number of the table, none of which is 0: so the number of an answer tells whether it is a refusal.
+-- Every fault of a file has a number of the table other than ROOM and HAVE; and no refusal of a call has the number 0, so that the number of an answer tells whether it is one.
 -- Assumes nothing.
 use mathlib.Core.Path.{_≡_, refl, sym, ap}
 use mathlib.Core.List.{List, [], _∷_, _++_}
-use mathlib.Core.Bool.{Bool, true, false, not, _&&_}
+use mathlib.Core.Bool.{Bool, true, false, not, _&&_, _||_}
 use Prim.Native.Nat.{ℕ, zero, suc, _+_, _≤_}
 use native.Mathlib.Omega.{arith}
 use lib.ListN.{length, take, drop}
 use lib.Seq.{take-append-seam}
 use lib.Dec.{leb, eqb}
-use Rattle.answer.specs.Numbers.{SHAPE, KEY, TEXT, VALUE}
-use Rattle.answer.specs.Outcome.{Outcome, taken, refused, Checks, checked, after, moved, shift, room, fitting}
+use borrow.Author.Tests.{leb-true}
+use Rattle.answer.specs.Numbers.{SHORT, SHAPE, LIMIT, KEY, TEXT, VALUE, TAG, ADDRESS, isFault}
+use Rattle.answer.specs.Outcome.{Outcome, taken, refused, Faulty, Checks, checked, after, moved, shift, room, fitting}
 use Rattle.answer.specs.Calls.{asked, verdict, answer, memory, Writes}
 use Rattle.answer.specs.declared.Answer.{Answer}
 use Rattle.wire.specs.Numbers.{leAt}
@@ -28,15 +29,172 @@ use Rattle.aerosnap.specs.Adding.{Item, device, disk, put, ownChecks, ad
 
 -- ---- outcomes and checks
 
+-- each of the checks has the number of a fault
+abbrev pub Numbered : Checks → Type 0
+Numbered = Every (λ c. isFault (c .1) ≡ true)
+
+pub checked-faulty : {A : Type 0} (l : Checks) (a : Outcome A) → Numbered l → Faulty a → Faulty (checked l a)
+checked-faulty [] a h k = k
+checked-faulty (c ∷ l) a h k = go (c .0) (checked-faulty l a (h .1) k)
+  where
+    go : (b : Bool) → Faulty (checked l a) → Faulty (checked ((b, c .1, c .2) ∷ l) a)
+    go true r = r
+    go false r = h .0
+
+pub after-faulty : {A B : Type 0} (r : Outcome A) (f : A → Outcome B) → Faulty r → ((a : A) → Faulty (f a)) → Faulty (after r f)
+after-faulty (taken a) f h k = k a
+after-faulty (refused n p) f h k = h
+
+pub moved-faulty : {A : Type 0} (k : ℕ) (r : Outcome A) → Faulty r → Faulty (moved k r)
+moved-faulty k (taken a) h = tt
+moved-faulty k (refused n p) h = h
+
+shift-faulty : (k : ℕ) (r : Outcome ℕ) → Faulty r → Faulty (shift k r)
+shift-faulty k (taken a) h = tt
+shift-faulty k (refused n p) h = h
+
+one-faulty : (b : Bool) (n p : ℕ) → isFault n ≡ true → Faulty (asked ((b, n, p) ∷ []))
+one-faulty b n p h = checked-faulty ((b, n, p) ∷ []) (taken tt) (h, tt) tt
+
+-- ---- formats
+
+abbrev pub FormFaults : Format → Type 0
+FormFaults (block n ask) = (e : List ℕ) → Faulty (ask e)
+FormFaults (sized w checks ask) = ((n : ℕ) → Numbered (checks n)) × ((e : List ℕ) → Faulty (ask e))
+FormFaults (option f) = FormFaults f
+FormFaults (pair f g) = FormFaults f × FormFaults g
+
+read-faulty : (f : Format) (b : List ℕ) → FormFaults f → Faulty (read f b)
+unfolding read
+read-faulty (block n ask) b h = checked-faulty ((leb n (length b), SHAPE, 0) ∷ []) (after (ask (take n b)) (λ _. taken n)) (refl, tt) (after-faulty (ask (take n b)) (λ _. taken n) (h (take n b)) (λ _. tt))
+read-faulty (sized w checks ask) b h =
+    let y : List ℕ = take (leAt w b 0) (drop w b) in
+    checked-faulty (sizedChecks w checks b) (after (moved w (ask y)) (λ _. taken (w + leAt w b 0))) (refl, every-append _ (checks (leAt w b 0)) _ (h .0 (leAt w b 0)) (refl, tt))
+    (after-faulty (moved w (ask y)) (λ _. taken (w + leAt w b 0)) (moved-faulty w (ask y) (h .1 y)) (λ _. tt))
+read-faulty (option f) b h =
+    checked-faulty (optionChecks b) (elim (eqb (leAt 1 b 0) 0) [ true ↦ taken 1 | false ↦ shift 1 (read f (drop 1 b)) ]) (refl, (refl, tt)) (go (eqb (leAt 1 b 0) 0) (read-faulty f (drop 1 b) h))
+  where
+    go : (c : Bool) → Faulty (read f (drop 1 b)) → Faulty {A = ℕ} (elim c as (λ _. Outcome ℕ) [ true ↦ taken 1 | false ↦ shift 1 (read f (drop 1 b)) ])
+    go true k = tt
+    go false k = shift-faulty 1 (read f (drop 1 b)) k
+read-faulty (pair f g) b h = after-faulty (read f b) (λ k. shift k (read g (drop k b))) (read-faulty f b (h .0)) (λ k. shift-faulty k (read g (drop k b)) (read-faulty g (drop k b) (h .1)))
+
+values-faulty : (l : List (ℕ × ℕ × ℕ × ℕ)) (e : List ℕ) → Faulty (values l e)
+unfolding values
+values-faulty [] e = tt
+values-faulty (r ∷ l) e = checked-faulty ((leb (r .2) (leAt (r .1) e (r .0)) && leb (leAt (r .1) e (r .0)) (r .3), VALUE, r .0) ∷ []) (values l e) (refl, tt) (values-faulty l e)
+
+text-faults : (most : ℕ) → FormFaults (text most)
+text-faults most = ((λ n. (refl, tt)), λ e. one-faulty (isText e) TEXT 0 refl)
+
+-- ---- lists
+
+-- what is asked of the entries of a kind
+pub record EntryFaults (d : Description) : Type 0 where
+  pub early : (b : List ℕ) → Numbered (d .early b)
+  pub form : FormFaults (d .form)
+
+module _ {d : Description} (K : EntryFaults d) (s : List ℕ) where
+  entry-faulty : (at : ℕ) (seen : List ℕ) → Faulty (entryAt d s at seen)
+  unfolding entryAt
+  entry-faulty at seen =
+      let b : List ℕ = drop at s in
+      let again : Bool = has (keyAt d s) (keyAt d s at) seen in
+      shift-faulty at (checked (entryChecks d again b) (read (d .form) b))
+      (checked-faulty (entryChecks d again b) (read (d .form) b) (every-append _ (leadChecks d b) ((not again, KEY, 0) ∷ []) (refl, K .early b) (refl, tt)) (read-faulty (d .form) b (K .form)))
+
+  walk-faulty : (n at : ℕ) (seen : List ℕ) → Faulty (walk d s n at seen)
+  unfolding walk
+  walk-faulty zero at seen = checked-faulty (leftOver s at) (taken seen) (refl, tt) tt
+  walk-faulty (suc n) at seen = after-faulty (entryAt d s at seen) (λ e. walk d s n e (insert (keyAt d s) at seen)) (entry-faulty at seen) (λ e. walk-faulty n e (insert (keyAt d s) at seen))
+
+  pub list-faulty : Faulty (listAt d s)
+  unfolding listAt
+  list-faulty = checked-faulty (countChecks d s) (walk d s (leAt 4 s 0) 4 []) (refl, (refl, tt)) (walk-faulty (leAt 4 s 0) 4 [])
+
+-- ---- payloads
+
+abbrev BodyFaults : Body → Type 0
+BodyFaults meta = Unit {0}
+BodyFaults (cpu v) = Unit {0}
+BodyFaults (mmu v) = Unit {0}
+BodyFaults (list d) = EntryFaults d
+BodyFaults opaque = Unit {0}
+
+body-faults : (id v : ℕ) → BodyFaults (bodyOf id v)
+body-faults id v = by (eqb id META) (eqb id CPU) (eqb id MMU) (eqb id DEVICES) (eqb id DISKS) (eqb id CPUS) (eqb id MMUS)
+  where
+    blob-faults : ((n : ℕ) → Numbered ((leb n 67108864, LIMIT, 0) ∷ [])) × ((e : List ℕ) → Faulty {A = Unit {0}} (taken tt))
+    blob-faults = ((λ n. (refl, tt)), λ e. tt)
+
+    by : (a b c d e f g : Bool) → BodyFaults (bodyBy a b c d e f g v)
+    by true b c d e f g = tt
+    by false true c d e f g = tt
+    by false false true d e f g = tt
+    by false false false true e f g = record { early = λ b. tt; form = ((λ e. tt), blob-faults) }
+    by false false false false true f g = record { early = λ b. tt; form = ((λ e. tt), (text-faults 65536, text-faults 65536)) }
+    by false false false false false true g = record { early = λ b. tt; form = ((λ e. tt), (((λ n. (refl, tt)), λ e. values-faulty (cpuValues v (length e)) e), blob-faults)) }
+    by false false false false false false true = record { early = λ b. tt; form = λ e. tt }
+    by false false false false false false false = tt
+
+payload-faulty : (k : Body) → BodyFaults k → (p : List ℕ) → Faulty (payload k p)
+unfolding payload
+payload-faulty meta K p =
+    after-faulty (read metaForm p) (λ e. asked (leftOver p e)) (read-faulty metaForm p ((λ e. tt), ((λ e. tt), ((λ e. tt), text-faults 4096)))) (λ e. checked-faulty (leftOver p e) (taken tt) (refl, tt) tt)
+payload-faulty (cpu v) K p = checked-faulty (cpuLengthChecks v (length p)) (cpuState v p) (refl, tt) (values-faulty (cpuValues v (length p)) p)
+payload-faulty (mmu v) K p = one-faulty (eqb (length p) (mmuLength v)) SHAPE 0 refl
+payload-faulty (list d) K p = after-faulty (listAt d p) (λ _. taken tt) (list-faulty K p) (λ _. tt)
+payload-faulty opaque K p = tt
+
+-- ---- the file
+
+ruled-faulty : (before : List (List ℕ)) (at id v f : ℕ) (p : List ℕ) → Faulty (ruled before at id v f p)
+unfolding ruled
+ruled-faulty before at id v f p = go (known id)
+  where
+    go : (k : Bool) → Faulty {A = Unit {0}} (elim k as (λ _. Outcome (Unit {0})) [ true ↦ checked (knownChecks before at id v f p) (moved (at + 16) (payload (bodyOf id v) p)) | false ↦ taken tt ])
+    go true = checked-faulty (knownChecks before at id v f p) (moved (at + 16) (payload (bodyOf id v) p)) (refl, (refl, (refl, (refl, tt)))) (moved-faulty (at + 16) (payload (bodyOf id v) p) (payload-faulty (bodyOf id v) (body-faults id v) p))
+    go false = tt
+
+section-faulty : (before : List (List ℕ)) (at : ℕ) (b : List ℕ) → Faulty (sectionOf before at b)
+unfolding sectionOf
+section-faulty before at b =
+    let r : Outcome (Unit {0}) = ruled before at (idOf b) (versionOf b) (flagsOf b) (payloadOf b) in
+    checked-faulty (frameChecks before at b) (after r (λ _. taken (16 + lengthOf b))) (refl, (refl, (refl, tt)))
+    (after-faulty r (λ _. taken (16 + lengthOf b)) (ruled-faulty before at (idOf b) (versionOf b) (flagsOf b) (payloadOf b)) (λ _. tt))
+
+sections-faulty : (n : ℕ) (before : List (List ℕ)) (at : ℕ) (b : List ℕ) → Faulty (sections n before at b)
+unfolding sections
+sections-faulty zero before at [] = tt
+sections-faulty (suc n) before at [] = tt
+sections-faulty zero before at (c ∷ b) = after-faulty (sectionOf before at (c ∷ b)) (λ _. taken before) (section-faulty before at (c ∷ b)) (λ _. tt)
+sections-faulty (suc n) before at (c ∷ b) =
+    after-faulty (sectionOf before at (c ∷ b)) (λ w. sections n (before ++ (take w (c ∷ b) ∷ [])) (at + w) (drop w (c ∷ b))) (section-faulty before at (c ∷ b))
+    (λ w. sections-faulty n (before ++ (take w (c ∷ b) ∷ [])) (at + w) (drop w (c ∷ b)))
+
+pub file-faulty : (s : List ℕ) → Faulty (fileOf s)
+unfolding fileOf
+file-faulty s = checked-faulty (headerChecks s) (sections sectionsMost [] 16 (drop 16 s)) (refl, (refl, (refl, (refl, (refl, (refl, (refl, tt))))))) (sections-faulty sectionsMost [] 16 (drop 16 s))
+
+-- ---- refusals of calls
+
 abbrev pub Named : {A : Type 0} → Outcome A → Type 0
 Named (taken a) = Unit {0}
 Named (refused n p) = 1 ≤ n
 
--- each of the checks has a number
-abbrev pub Numbered : Checks → Type 0
-Numbered = Every (λ c. 1 ≤ c .1)
+fault-number : (n : ℕ) → isFault n ≡ true → 1 ≤ n
+fault-number n h = go (leb SHORT n) refl (leb TAG n) refl h
+  where
+    go : (a : Bool) → leb SHORT n ≡ a → (c : Bool) → leb TAG n ≡ c → ((a && leb n VALUE) || (c && leb n ADDRESS)) ≡ true → 1 ≤ n
+    go true p c q e = leb-true SHORT n p
+    go false p true q e = omega (arith, leb-true TAG n q)
+    go false p false q e = let z : _≡_ {A = ℕ} 0 1 = cc in absurd (omega arith)
 
-checked-named : {A : Type 0} (l : Checks) (a : Outcome A) → Numbered l → Named a → Named (checked l a)
+faulty-named : {A : Type 0} (o : Outcome A) → Faulty o → Named o
+faulty-named (taken a) h = tt
+faulty-named (refused n p) h = fault-number n h
+
+checked-named : {A : Type 0} (l : Checks) (a : Outcome A) → Every (λ c. 1 ≤ c .1) l → Named a → Named (checked l a)
 checked-named [] a h k = k
 checked-named (c ∷ l) a h k = go (c .0) (checked-named l a (h .1) k)
   where
@@ -48,131 +206,11 @@ after-named : {A B : Type 0} (r : Outcome A) (f : A → Outcome B) → Named r �
 after-named (taken a) f h k = k a
 after-named (refused n p) f h k = h
 
-moved-named : {A : Type 0} (k : ℕ) (r : Outcome A) → Named r → Named (moved k r)
-moved-named k (taken a) h = tt
-moved-named k (refused n p) h = h
-
-shift-named : (k : ℕ) (r : Outcome ℕ) → Named r → Named (shift k r)
-shift-named k (taken a) h = tt
-shift-named k (refused n p) h = h
-
--- ---- formats
-
-abbrev Names : Format → Type 0
-Names (block n ask) = (e : List ℕ) → Named (ask e)
-Names (sized w checks ask) = ((n : ℕ) → Numbered (checks n)) × ((e : List ℕ) → Named (ask e))
-Names (option f) = Names f
-Names (pair f g) = Names f × Names g
-
-read-named : (f : Format) (b : List ℕ) → Names f → Named (read f b)
-unfolding read
-read-named (block n ask) b h = checked-named ((leb n (length b), SHAPE, 0) ∷ []) (after (ask (take n b)) (λ _. taken n)) (omega arith, tt) (after-named (ask (take n b)) (λ _. taken n) (h (take n b)) (λ _. tt))
-read-named (sized w checks ask) b h =
-    let y : List ℕ = take (leAt w b 0) (drop w b) in
-    checked-named (sizedChecks w checks b) (after (moved w (ask y)) (λ _. taken (w + leAt w b 0))) (omega arith, every-append _ (checks (leAt w b 0)) _ (h .0 (leAt w b 0)) (omega arith, tt))
-    (after-named (moved w (ask y)) (λ _. taken (w + leAt w b 0)) (moved-named w (ask y) (h .1 y)) (λ _. tt))
-read-named (option f) b h =
-    checked-named (optionChecks b) (elim (eqb (leAt 1 b 0) 0) [ true ↦ taken 1 | false ↦ shift 1 (read f (drop 1 b)) ]) (omega arith, (omega arith, tt)) (go (eqb (leAt 1 b 0) 0) (read-named f (drop 1 b) h))
-  where
-    go : (c : Bool) → Named (read f (drop 1 b)) → Named {A = ℕ} (elim c as (λ _. Outcome ℕ) [ true ↦ taken 1 | false ↦ shift 1 (read f (drop 1 b)) ])
-    go true k = tt
-    go false k = shift-named 1 (read f (drop 1 b)) k
-read-named (pair f g) b h = after-named (read f b) (λ k. shift k (read g (drop k b))) (read-named f b (h .0)) (λ k. shift-named k (read g (drop k b)) (read-named g (drop k b) (h .1)))
-
-values-named : (l : List (ℕ × ℕ × ℕ × ℕ)) (e : List ℕ) → Named (values l e)
-unfolding values
-values-named [] e = tt
-values-named (r ∷ l) e = checked-named ((leb (r .2) (leAt (r .1) e (r .0)) && leb (leAt (r .1) e (r .0)) (r .3), VALUE, r .0) ∷ []) (values l e) (omega arith, tt) (values-named l e)
-
-text-names : (most : ℕ) → Names (text most)
-text-names most = ((λ n. (omega arith, tt)), λ e. checked-named ((isText e, TEXT, 0) ∷ []) (taken tt) (omega arith, tt) tt)
-
--- ---- lists
-
--- what is asked of the entries of a kind
-record EntryNames (d : Description) : Type 0 where
-  early : (b : List ℕ) → Numbered (d .early b)
-  form : Names (d .form)
-
-module _ {d : Description} (K : EntryNames d) (s : List ℕ) where
-  entry-named : (at : ℕ) (seen : List ℕ) → Named (entryAt d s at seen)
-  unfolding entryAt
-  entry-named at seen =
-      let b : List ℕ = drop at s in
-      let again : Bool = has (keyAt d s) (keyAt d s at) seen in
-      shift-named at (checked (entryChecks d again b) (read (d .form) b))
-      (checked-named (entryChecks d again b) (read (d .form) b) (every-append _ (leadChecks d b) ((not again, KEY, 0) ∷ []) (omega arith, K .early b) (omega arith, tt)) (read-named (d .form) b (K .form)))
-
-  walk-named : (n at : ℕ) (seen : List ℕ) → Named (walk d s n at seen)
-  unfolding walk
-  walk-named zero at seen = checked-named (leftOver s at) (taken seen) (omega arith, tt) tt
-  walk-named (suc n) at seen = after-named (entryAt d s at seen) (λ e. walk d s n e (insert (keyAt d s) at seen)) (entry-named at seen) (λ e. walk-named n e (insert (keyAt d s) at seen))
-
-  list-named : Named (listAt d s)
-  unfolding listAt
-  list-named = checked-named (countChecks d s) (walk d s (leAt 4 s 0) 4 []) (omega arith, (omega arith, tt)) (walk-named (leAt 4 s 0) 4 [])
-
--- ---- payloads
-
-abbrev BodyNames : Body → Type 0
-BodyNames meta = Unit {0}
-BodyNames (cpu v) = Unit {0}
-BodyNames (mmu v) = Unit {0}
-BodyNames (list d) = EntryNames d
-BodyNames opaque = Unit {0}
-
-body-names : (id v : ℕ) → BodyNames (bodyOf id v)
-body-names id v = by (eqb id META) (eqb id CPU) (eqb id MMU) (eqb id DEVICES) (eqb id DISKS) (eqb id CPUS) (eqb id MMUS)
-  where
-    blob-names : ((n : ℕ) → Numbered ((leb n 67108864, 12, 0) ∷ [])) × ((e : List ℕ) → Named {A = Unit {0}} (taken tt))
-    blob-names = ((λ n. (omega arith, tt)), λ e. tt)
-
-    by : (a b c d e f g : Bool) → BodyNames (bodyBy a b c d e f g v)
-    by true b c d e f g = tt
-    by false true c d e f g = tt
-    by false false true d e f g = tt
-    by false false false true e f g = record { early = λ b. tt; form = ((λ e. tt), blob-names) }
-    by false false false false true f g = record { early = λ b. tt; form = ((λ e. tt), (text-names 65536, text-names 65536)) }
-    by false false false false false true g = record { early = λ b. tt; form = ((λ e. tt), (((λ n. (omega arith, tt)), λ e. values-named (cpuValues v (length e)) e), blob-names)) }
-    by false false false false false false true = record { early = λ b. tt; form = λ e. tt }
-    by false false false false false false false = tt
-
-payload-named : (k : Body) → BodyNames k → (p : List ℕ) → Named (payload k p)
-unfolding payload
-payload-named meta K p = after-named (read metaForm p) (λ e. asked (leftOver p e)) (read-named metaForm p ((λ e. tt), ((λ e. tt), ((λ e. tt), text-names 4096)))) (λ e. checked-named (leftOver p e) (taken tt) (omega arith, tt) tt)
-payload-named (cpu v) K p = checked-named (cpuLengthChecks v (length p)) (cpuState v p) (omega arith, tt) (values-named (cpuValues v (length p)) p)
-payload-named (mmu v) K p = checked-named ((eqb (length p) (mmuLength v), SHAPE, 0) ∷ []) (taken tt) (omega arith, tt) tt
-payload-named (list d) K p = after-named (listAt d p) (λ _. taken tt) (list-named K p) (λ _. tt)
-payload-named opaque K p = tt
-
--- ---- the file
-
-section-named : (before : List (List ℕ)) (at : ℕ) (b : List ℕ) → Named (sectionOf before at b)
-unfolding sectionOf ruled
-section-named before at b =
-    checked-named (frameChecks before at b) (after (ruled before at (idOf b) (versionOf b) (flagsOf b) (payloadOf b)) (λ _. taken (16 + lengthOf b))) (omega arith, (omega arith, (omega arith, tt)))
-    (after-named (ruled before at (idOf b) (versionOf b) (flagsOf b) (payloadOf b)) (λ _. taken (16 + lengthOf b)) (go (known (idOf b)) (idOf b) (versionOf b) (flagsOf b) (payloadOf b)) (λ _. tt))
-  where
-    go : (k : Bool) (id v f : ℕ) (p : List ℕ) → Named {A = Unit {0}} (elim k as (λ _. Outcome (Unit {0})) [ true ↦ checked (knownChecks before at id v f p) (moved (at + 16) (payload (bodyOf id v) p)) | false ↦ taken tt ])
-    go true id v f p = checked-named (knownChecks before at id v f p) (moved (at + 16) (payload (bodyOf id v) p)) (omega arith, (omega arith, (omega arith, (omega arith, tt)))) (moved-named (at + 16) (payload (bodyOf id v) p) (payload-named (bodyOf id v) (body-names id v) p))
-    go false id v f p = tt
-
-sections-named : (n : ℕ) (before : List (List ℕ)) (at : ℕ) (b : List ℕ) → Named (sections n before at b)
-unfolding sections
-sections-named zero before at [] = tt
-sections-named (suc n) before at [] = tt
-sections-named zero before at (c ∷ b) = after-named (sectionOf before at (c ∷ b)) (λ _. taken before) (section-named before at (c ∷ b)) (λ _. tt)
-sections-named (suc n) before at (c ∷ b) =
-    after-named (sectionOf before at (c ∷ b)) (λ w. sections n (before ++ (take w (c ∷ b) ∷ [])) (at + w) (drop w (c ∷ b))) (section-named before at (c ∷ b))
-    (λ w. sections-named n (before ++ (take w (c ∷ b) ∷ [])) (at + w) (drop w (c ∷ b)))
-
-pub file-named : (s : List ℕ) → Named (fileOf s)
-unfolding fileOf
-file-named s =
-    checked-named (headerChecks s) (sections sectionsMost [] 16 (drop 16 s)) (omega arith, (omega arith, (omega arith, (omega arith, (omega arith, (omega arith, (omega arith, tt))))))) (sections-named sectionsMost [] 16 (drop 16 s))
+pub content-faulty : (s : List ℕ) → Faulty (contentAt s)
+content-faulty s = after-faulty (fileOf s) (λ l. taken (contentOf l)) (file-faulty s) (λ _. tt)
 
 content-named : (s : List ℕ) → Named (contentAt s)
-content-named s = after-named (fileOf s) (λ l. taken (contentOf l)) (file-named s) (λ _. tt)
+content-named s = faulty-named (contentAt s) (content-faulty s)
 
 fitting-named : (have : ℕ) (b : List ℕ) → Named (fitting have b)
 fitting-named have b = checked-named (room have (length b)) (taken b) (omega arith, tt) tt
@@ -181,7 +219,7 @@ pub canonical-named : (have : ℕ) (s : List ℕ) → Named (canonical have s)
 unfolding canonical
 canonical-named have s = after-named (contentAt s) (λ c. fitting have (render c)) (content-named s) (λ c. fitting-named have (render c))
 
-own-numbered : (x : Item) → Numbered (ownChecks x)
+own-numbered : (x : Item) → Every (λ c. 1 ≤ c .1) (ownChecks x)
 own-numbered (device id v f p) = (omega arith, tt)
 own-numbered (disk id x y) = (omega arith, (omega arith, tt))
 

@@ -8,6 +8,7 @@ use Prim.Native.Nat.{ℕ, _≤_}
 use native.Mathlib.Omega.{arith}
 use lib.Dec.{leb, eqb}
 use borrow.Author.Tests.{leb-true, leb-false, eqb-true}
+use Rattle.answer.proofs.Checks.{and-true}
 use Rattle.order.specs.Keyed.{Fresh, Apart, keep}
 use Rattle.order.proofs.Folds.{every-imp, append-every}
 use Rattle.order.proofs.Perms.{apart-perm, perm-flat}
@@ -21,12 +22,7 @@ pub perm-keep : {E : Type 0} (p : E → Bool) {l m : List E} → List·Permᴰ l
 perm-keep p {l} {m} q = rw (← flat-only p l, ← flat-only p m) (perm-flat (only p) q)
 
 pub known-range : (id : ℕ) → known id ≡ true → (1 ≤ id) × (id ≤ 8)
-known-range id h = go (leb 1 id) (leb id 8) refl refl h
-  where
-    go : (a b : Bool) → leb 1 id ≡ a → leb id 8 ≡ b → (a && b) ≡ true → (1 ≤ id) × (id ≤ 8)
-    go true true p q h = (leb-true _ _ p, leb-true _ _ q)
-    go true false p q h = let z : _≡_ {A = ℕ} 0 1 = cc in absurd (omega arith)
-    go false b p q h = let z : _≡_ {A = ℕ} 0 1 = cc in absurd (omega arith)
+known-range id h = let k = and-true (leb 1 id) (leb id 8) h in (leb-true 1 id (k .0), leb-true id 8 (k .1))
 
 -- a slot by the tests that tell CPUS and MMUS
 abbrev slotBy : Bool → Bool → ℕ → ℕ

@@ -2,13 +2,13 @@
 -- Assumes nothing.
 use mathlib.Core.Path.{_≡_, refl, sym, _∙_, ap}
 use mathlib.Core.List.{List, [], _∷_, _++_}
-use mathlib.Core.Bool.{Bool, true, false}
 use Prim.Native.Nat.{ℕ, zero, suc, _+_, _≤_, _<_}
 use native.Mathlib.Omega.{arith}
 use lib.ListN.{length, take, drop, length-append, length-drop, drop-of-length-le}
 use lib.Seq.{drop-drop, take-at, drop-at}
-use Rattle.answer.specs.Outcome.{Outcome, taken, refused, Checks, checked, after}
+use Rattle.answer.specs.Outcome.{Outcome, taken, refused, after}
 use Rattle.answer.specs.Calls.{asked}
+use Rattle.answer.proofs.Checks.{checked-asked}
 use Rattle.order.specs.Entries.{join}
 use Rattle.aerosnap.specs.File.{sectionsMost, header, headerChecks, idOf, lengthOf, sectionOf, sections, fileOf}
 use Rattle.aerosnap.specs.Rules.{IsSection}
@@ -44,16 +44,6 @@ module _ (before : List (List ℕ)) (s : List ℕ) (at : ℕ) where
       go : (b : List ℕ) → 0 < length b → sectionOf before at b ≡ taken w → sections (suc n) before at b ≡ sections n (before ++ (take w b ∷ [])) (at + w) (drop w b)
       go [] h r = absurd (omega arith)
       go (c ∷ b) h r = rw r
-
--- ---- checks that code asks in a function of their own
-
-pub checked-asked : {A : Type 0} (l : Checks) (a : Outcome A) → checked l a ≡ after (asked l) (λ _. a)
-checked-asked [] a = refl
-checked-asked (c ∷ l) a = go (c .0) (checked-asked l a)
-  where
-    go : (b : Bool) → checked l a ≡ after (asked l) (λ _. a) → checked ((b, c .1, c .2) ∷ l) a ≡ after (asked ((b, c .1, c .2) ∷ l)) (λ _. a)
-    go true h = h
-    go false h = refl
 
 -- a file is its header, and then its sections
 pub file-header : (s : List ℕ) → fileOf s ≡ after (asked (headerChecks s)) (λ _. sectionsAt sectionsMost [] s 16)

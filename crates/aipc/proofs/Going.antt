@@ -1,8 +1,6 @@
 -- What code learns from a piece or a test: its checks stop there, or all of them pass and it goes on.
 -- Assumes nothing.
-use mathlib.Core.Path.{_≡_, refl, sym, _∙_, ap}
-use mathlib.Core.List.{[], _∷_}
-use mathlib.Core.Bool.{Bool, true, false}
+use mathlib.Core.Path.{_≡_, sym, _∙_, ap}
 use Prim.Native.Nat.{ℕ}
 use Rattle.answer.specs.declared.Piece.{Piece}
 use Rattle.answer.specs.declared.Piece.the-variants.{Stop, Ends}
@@ -10,27 +8,8 @@ use Rattle.answer.specs.declared.Test.{Test}
 use Rattle.answer.specs.declared.Test.the-variants.{Fault, Fine}
 use Rattle.answer.specs.Outcome.{Outcome, taken, refused, Checks, checked, Pass, after}
 use Rattle.answer.specs.Calls.{pieceOf, testOf, asked}
-use Rattle.answer.proofs.Checks.{pass-checked, checked-pass}
-use Rattle.answer.proofs.Outcomes.{taken-is, taken-refused}
-
--- a refusal does not depend on what stands behind the checks, if that is taken
-pub stops : {A B : Type 0} (l : Checks) (a : A) (x : Outcome B) {n p : ℕ} → checked l (taken a) ≡ refused n p → checked l x ≡ refused n p
-stops [] a x e = absurd (taken-refused e)
-stops {A} {B} (c ∷ l) a x {n} {p} e = go (c .0) refl e (stops l a x)
-  where
-    go : (b : Bool) → c .0 ≡ b → checked ((b, c .1, c .2) ∷ l) (taken a) ≡ refused n p → (checked l (taken a) ≡ refused n p → checked l x ≡ refused n p)
-        → checked ((b, c .1, c .2) ∷ l) x ≡ refused n p
-    go true q e r = r e
-    go false q e r = cc
-
--- what goes on after checks stands behind them
-pub after-checked : {A B : Type 0} (l : Checks) (a : A) (f : A → Outcome B) → after (checked l (taken a)) f ≡ checked l (f a)
-after-checked [] a f = refl
-after-checked {A} {B} (c ∷ l) a f = go (c .0) (after-checked l a f)
-  where
-    go : (b : Bool) → after (checked l (taken a)) f ≡ checked l (f a) → after (checked ((b, c .1, c .2) ∷ l) (taken a)) f ≡ checked ((b, c .1, c .2) ∷ l) (f a)
-    go true h = h
-    go false h = refl
+use Rattle.answer.proofs.Checks.{pass-checked, checked-pass, stops}
+use Rattle.answer.proofs.Outcomes.{taken-is}
 
 module _ (p : Piece) (l : Checks) (a : ℕ) (is : pieceOf p ≡ checked l (taken a)) where
   pub piece-stops : {B : Type 0} (x : Outcome B) {n q : ℕ} → p ≡ Stop n q → refused n q ≡ checked l x

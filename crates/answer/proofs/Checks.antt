@@ -1,11 +1,12 @@
 -- The laws of checks: rows that all pass, the first that fails, rows joined, places moved.
 -- Assumes nothing.
-use mathlib.Core.Path.{_≡_, refl, _∙_, ap}
+use mathlib.Core.Path.{_≡_, refl, sym, _∙_, ap}
 use mathlib.Core.List.{[], _∷_, _++_}
-use mathlib.Core.Bool.{Bool, true, false}
+use mathlib.Core.Bool.{Bool, true, false, _&&_}
 use Prim.Native.Nat.{ℕ, _+_}
 use native.Mathlib.Omega.{arith}
 use Rattle.answer.specs.Outcome.{Outcome, taken, refused, Checks, checked, Pass, after, moved}
+use Rattle.answer.specs.Calls.{asked}
 
 -- ---- rows that all pass
 
@@ -54,6 +55,25 @@ checked-after (c ∷ l) a f = go (c .0) (checked-after l a f)
     go : (b : Bool) → after (checked l a) f ≡ checked l (after a f) → after (checked ((b, c .1, c .2) ∷ l) a) f ≡ checked ((b, c .1, c .2) ∷ l) (after a f)
     go true h = h
     go false h = refl
+
+-- a refusal does not depend on what stands behind the checks, if that is taken
+pub stops : {A B : Type 0} (l : Checks) (a : A) (x : Outcome B) {n p : ℕ} → checked l (taken a) ≡ refused n p → checked l x ≡ refused n p
+stops {A} l a x e = sym (checked-after l (taken a) (λ _. x)) ∙ ap (λ (o : Outcome A). after o (λ _. x)) e
+
+-- checks that are asked in a function of their own
+pub checked-asked : {A : Type 0} (l : Checks) (a : Outcome A) → checked l a ≡ after (asked l) (λ _. a)
+checked-asked l a = sym (checked-after l (taken tt) (λ _. a))
+
+pub asked-stop : {A : Type 0} (l : Checks) (next : Outcome A) {n p : ℕ} → refused n p ≡ asked l → checked l next ≡ refused n p
+asked-stop l next h = stops l tt next (sym h)
+
+pub asked-pass : (l : Checks) → taken tt ≡ asked l → Pass l
+asked-pass l h = checked-pass l (taken tt) tt (sym h) .0
+
+-- two tests in one row
+pub and-true : (a b : Bool) → (a && b) ≡ true → (a ≡ true) × (b ≡ true)
+and-true true b h = (refl, h)
+and-true false b h = let z : _≡_ {A = ℕ} 0 1 = cc in absurd (omega arith)
 
 -- ---- rows joined
 

@@ -1,8 +1,10 @@
--- The laws of outcomes: what follows from one that is taken, and places moved twice.
+-- The laws of outcomes: what follows from one that is taken or refused, and places moved twice.
 -- Assumes nothing.
-use mathlib.Core.Path.{_≡_, refl, ap}
+use mathlib.Core.Path.{_≡_, refl, sym, ap}
 use Prim.Native.Nat.{ℕ, _+_}
 use native.Mathlib.Omega.{arith}
+use Rattle.answer.specs.declared.Test.{Test}
+use Rattle.answer.specs.Calls.{testOf, verdict}
 use Rattle.answer.specs.Outcome.{Outcome, taken, refused, after, moved, shift, done}
 
 pub taken-is : {A : Type 0} {a b : A} → taken a ≡ taken b → a ≡ b
@@ -47,3 +49,23 @@ after-shift k (refused n p) f = refl
 pub done-taken : {A : Type 0} (r : Outcome A) → done r ≡ taken tt → (a : A) × (r ≡ taken a)
 done-taken (taken a) h = (a, refl)
 done-taken (refused n p) h = let z : _≡_ {A = ℕ} 0 1 = cc in absurd (omega arith)
+
+-- ---- refused or taken, from what was made of it
+
+pub made-stop : {A B : Type 0} (o : Outcome A) (f : A → B) {n p : ℕ} → refused n p ≡ after o (λ a. taken (f a)) → o ≡ refused n p
+made-stop (taken a) f h = absurd (taken-refused (sym h))
+made-stop (refused m q) f h = cc
+
+pub made-taken : {A B : Type 0} (o : Outcome A) (f : A → B) {b : B} → taken b ≡ after o (λ a. taken (f a)) → (a : A) × (o ≡ taken a) × (b ≡ f a)
+made-taken o f h = let w = after-taken o (λ a. taken (f a)) (sym h) in (w .0, w .1, sym (taken-is (w .2)))
+
+pub made-same : {A B C : Type 0} (o : Outcome A) (f : A → B) (g : A → C) {n p : ℕ} → refused n p ≡ after o (λ a. taken (f a)) → refused n p ≡ after o (λ a. taken (g a))
+made-same {A = A} o f g h = sym (ap (λ (r : Outcome A). after r (λ a. taken (g a))) (made-stop o f h))
+
+pub done-stop : {A : Type 0} (o : Outcome A) {n p : ℕ} → refused n p ≡ done o → o ≡ refused n p
+done-stop o h = made-stop o (λ _. tt) h
+
+-- a call that writes nothing
+pub verdict-done : {A : Type 0} (o : Outcome A) (t : Test) → testOf t ≡ done o → verdict (testOf t) ≡ verdict o
+verdict-done (taken a) t h = ap verdict h
+verdict-done (refused n p) t h = ap verdict h

@@ -1,6 +1,8 @@
 -- The refusals of document 01's table, by name.
 -- Assumes nothing.
+use mathlib.Core.Bool.{Bool, _&&_, _||_}
 use Prim.Native.Nat.{ℕ}
+use lib.Dec.{leb}
 
 -- file or wrapper under 16 bytes
 abbrev pub SHORT : ℕ
@@ -77,3 +79,7 @@ TAG = 18
 -- controller's device above 31 or function above 7
 abbrev pub ADDRESS : ℕ
 ADDRESS = 19
+
+-- the number of a fault of the input: any of these but ROOM and HAVE
+abbrev pub isFault : ℕ → Bool
+isFault n = (leb SHORT n && leb n VALUE) || (leb TAG n && leb n ADDRESS)

@@ -6,12 +6,17 @@ use mathlib.Core.Bool.{Bool, true, false}
 use Prim.Native.Nat.{ℕ, _+_}
 use lib.Dec.{leb}
 use lib.ListN.{length}
-use Rattle.answer.specs.Numbers.{ROOM}
+use Rattle.answer.specs.Numbers.{ROOM, isFault}
 
 -- `refused n p`: the refusal's number and its place
 pub data Outcome (A : Type 0) : Type 0 where
   taken : A → Outcome A
   refused : ℕ → ℕ → Outcome A
+
+-- what is refused is refused for a fault of the input
+abbrev pub Faulty : {A : Type 0} → Outcome A → Type 0
+Faulty (taken a) = Unit {0}
+Faulty (refused n p) = isFault n ≡ true
 
 -- checks in their order: each a test, and the number and the place that it gives where it is false
 abbrev pub Checks : Type 0

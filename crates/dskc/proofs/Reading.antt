@@ -13,9 +13,9 @@ use Rattle.answer.specs.declared.Piece.the-variants.{Stop, Ends}
 use Rattle.answer.specs.declared.Test.{Test}
 use Rattle.answer.specs.declared.Test.the-variants.{Fault, Fine}
 use Rattle.answer.specs.Outcome.{Outcome, taken, refused, Checks, checked, Pass, after, moved, done, fitting}
-use Rattle.answer.specs.Calls.{asked, testOf, verdict}
-use Rattle.answer.proofs.Checks.{checked-pass, pass-checked}
-use Rattle.answer.proofs.Outcomes.{taken-refused, moved-taken, done-taken}
+use Rattle.answer.specs.Calls.{asked}
+use Rattle.answer.proofs.Checks.{checked-pass, pass-checked, asked-stop}
+use Rattle.answer.proofs.Outcomes.{moved-taken, done-taken}
 use Rattle.answer.proofs.Within.{Within}
 use Rattle.entries.specs.Kinds.{controllers}
 use Rattle.entries.specs.declared.Kind.the-variants as kind
@@ -27,18 +27,6 @@ use Rattle.lists.proofs.Within.{list-within}
 use Rattle.tables.specs.declared.Table.the-variants.{Controllers}
 use Rattle.tables.specs.Tables.{rowsAt, tableOf}
 use Rattle.dskc.specs.Wrapper.{wrapperMost, headerChecks, wrapperOf, controllersCall}
-
--- the first check that fails answers, whatever comes behind the checks
-pub asked-stop : {A : Type 0} (l : Checks) (next : Outcome A) {n p : ℕ} → refused n p ≡ asked l → checked l next ≡ refused n p
-asked-stop [] next h = absurd (taken-refused (sym h))
-asked-stop {A} (c ∷ l) next {n} {p} h = go (c .0) h (asked-stop l next)
-  where
-    go : (b : Bool) → refused n p ≡ asked ((b, c .1, c .2) ∷ l) → (refused n p ≡ asked l → checked l next ≡ refused n p) → checked ((b, c .1, c .2) ∷ l) next ≡ refused n p
-    go true h r = r h
-    go false h r = cc
-
-pub asked-pass : (l : Checks) → taken tt ≡ asked l → Pass l
-asked-pass l h = checked-pass l (taken tt) tt (sym h) .0
 
 module _ (s : List ℕ) where
   pub header-stop : {n p : ℕ} → refused n p ≡ asked (headerChecks s) → refused n p ≡ done (wrapperOf s)
@@ -72,16 +60,6 @@ module _ (s : List ℕ) where
 
       pub list-done : {n : ℕ} → Indexed (indexOf controllers 256 b) old (Ends n) new → taken tt ≡ done (wrapperOf s)
       list-done i = sym (ap done (behind ∙ ap (moved 16) (indexed-done (listAt controllers (drop 16 s)) (found i))))
-
--- a call that writes nothing
-pub verdict-done : {A : Type 0} (o : Outcome A) (t : Test) → testOf t ≡ done o → verdict (testOf t) ≡ verdict o
-verdict-done (taken a) t h = ap verdict h
-verdict-done (refused n p) t h = ap verdict h
-
--- taken or refused, from the first fault
-pub done-stop : {A : Type 0} (o : Outcome A) {n p : ℕ} → refused n p ≡ done o → o ≡ refused n p
-done-stop (taken a) h = absurd (taken-refused (sym h))
-done-stop (refused m q) h = cc
 
 -- a wrapper that is taken has a header that passes, and a list that is taken
 pub whole : (s : List ℕ) {l : List ℕ} → wrapperOf s ≡ taken l → Pass (headerChecks s) × (listAt controllers (drop 16 s) ≡ taken l)

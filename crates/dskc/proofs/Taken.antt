@@ -10,7 +10,7 @@ use lib.Seq.{getD-drop}
 use lib.Dec.{leb, eqb}
 use borrow.Author.Tests.{leb-true, le-leb, eqb-true}
 use Rattle.answer.specs.Outcome.{taken, checked, Pass, moved}
-use Rattle.answer.proofs.Checks.{pass-checked}
+use Rattle.answer.proofs.Checks.{pass-checked, and-true}
 use Rattle.wire.specs.Numbers.{Bytes, le, leAt, bytesOf}
 use Rattle.wire.proofs.Numbers.{bytesOf-leAt, bytes-part}
 use Rattle.wire.proofs.Letters.{same-true, peeled}
@@ -29,13 +29,6 @@ use Rattle.dskc.proofs.Reading.{whole}
 
 abbrev K : Lawful controllers
 K = lawful kind.Controllers
-
--- ---- the header
-
-and-true : (a b : Bool) → (a && b) ≡ true → (a ≡ true) × (b ≡ true)
-and-true true true h = (refl, refl)
-and-true true false h = let z : _≡_ {A = ℕ} 0 1 = cc in absurd (omega arith)
-and-true false b h = let z : _≡_ {A = ℕ} 0 1 = cc in absurd (omega arith)
 
 -- a number that has a fixed value has fixed bytes
 fixed-at : (n : ℕ) (s : List ℕ) (at v : ℕ) → Bytes s → at + n ≤ length s → eqb (leAt n s at) v ≡ true → take n (drop at s) ≡ bytesOf n v

@@ -11,7 +11,7 @@ use lib.Seq.{drop-drop, drop-append-le, take-at}
 use lib.Dec.{eqb}
 use borrow.Author.Tests.{eq-eqb, ne-eqb, eqb-true}
 use Rattle.answer.specs.Outcome.{Outcome, taken, refused, after}
-use Rattle.answer.proofs.Outcomes.{taken-is, taken-refused, after-taken}
+use Rattle.answer.proofs.Outcomes.{made-taken}
 use Rattle.wire.specs.Numbers.{leAt}
 use Rattle.wire.proofs.Numbers.{leAt-here}
 use Rattle.order.specs.Keyed.{Every, flat, keep}
@@ -32,18 +32,6 @@ use Rattle.aerosnap.proofs.Slots.{Once, first-once, rest-once}
 use Rattle.aerosnap.proofs.Taken.{file-sound}
 use Rattle.aerosnap.proofs.Standing.{Stand, stand-start, stand-next, ends-at, endAt, Turn, turn, goes, finished}
 use Rattle.sections.specs.Walks.{sectionsIn, Read, placeOf, placedIn}
-
--- ---- refused or taken, from what was made of the file
-
-pub made-stop : {A B : Type 0} (o : Outcome A) (f : A → B) {n p : ℕ} → refused n p ≡ after o (λ a. taken (f a)) → o ≡ refused n p
-made-stop (taken a) f h = absurd (taken-refused (sym h))
-made-stop (refused m q) f h = cc
-
-pub made-taken : {A B : Type 0} (o : Outcome A) (f : A → B) {b : B} → taken b ≡ after o (λ a. taken (f a)) → (a : A) × (o ≡ taken a) × (b ≡ f a)
-made-taken o f h = let w = after-taken o (λ a. taken (f a)) (sym h) in (w .0, w .1, sym (taken-is (w .2)))
-
-pub made-same : {A B C : Type 0} (o : Outcome A) (f : A → B) (g : A → C) {n p : ℕ} → refused n p ≡ after o (λ a. taken (f a)) → refused n p ≡ after o (λ a. taken (g a))
-made-same {A = A} o f g h = sym (ap (λ (r : Outcome A). after r (λ a. taken (g a))) (made-stop o f h))
 
 -- the sections of a file that is taken
 pub taken-read : (s : List ℕ) {l : List (List ℕ)} → fileOf s ≡ taken l → Read s

@@ -2,7 +2,7 @@
 -- Assumes nothing.
 use mathlib.Core.Path.{_≡_, refl, sym, _∙_, ap}
 use mathlib.Core.List.{List, [], _∷_, _++_}
-use mathlib.Core.Bool.{Bool, true, false, not, _&&_, _||_}
+use mathlib.Core.Bool.{Bool, true, false, not, _||_}
 use mathlib.Core.Logic.{_≢_}
 use Prim.Native.Nat.{ℕ, _+_, _-_, _≤_, _<_}
 use native.Mathlib.Omega.{arith}
@@ -86,15 +86,6 @@ pub fault-place : (id v : ℕ) (p : List ℕ) {n q : ℕ} → length p ≤ 10737
 fault-place id v p h e = rw (← (e ∙ pass-checked (partChecks p) (payload (bodyOf id v) p) (le-leb (length p) 1073741824 h, tt))) at (payload-within (bodyOf id v) (lawful-body id v) p)
 
 -- ---- marks
-
--- a known id and its slot
-and-both : (a b : Bool) → (a && b) ≡ true → (a ≡ true) × (b ≡ true)
-and-both true true h = (refl, refl)
-and-both true false h = let z : _≡_ {A = ℕ} 0 1 = cc in absurd (omega arith)
-and-both false b h = let z : _≡_ {A = ℕ} 0 1 = cc in absurd (omega arith)
-
-pub known-between : (id : ℕ) → known id ≡ true → (1 ≤ id) × (id ≤ 8)
-known-between id h = let k = and-both (leb 1 id) (leb id 8) h in (leb-true 1 id (k .0), leb-true id 8 (k .1))
 
 module _ (m : List ℕ) (l : List (List ℕ)) (n id k : ℕ) (h : Marks m l n) (e : k ≡ slot id) (i : 1 ≤ k) (j : k ≤ 8) where
   pub marked : getD m k 0 ≡ 1 → has slotOf (slot id) l ≡ true

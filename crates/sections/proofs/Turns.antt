@@ -19,7 +19,7 @@ use Rattle.aerosnap.specs.Known.{known, slot}
 use Rattle.aerosnap.specs.File.{sectionsMost, idOf, slotOf, sectionOf, sections}
 use Rattle.aerosnap.proofs.Turns.{sectionsAt, walk-end, walk-stop, walk-next}
 use Rattle.sections.specs.Walks.{Marks, sectionAt, counted, walkedFrom}
-use Rattle.sections.proofs.Rules.{Ended, section-ends, known-between}
+use Rattle.sections.proofs.Rules.{Ended, section-ends}
 
 -- ---- marks
 

@@ -1,10 +1,9 @@
--- Each promise fixes its answer and every byte of lent memory: any two that it allows are equal.
+-- Each promise fixes its answer and every byte of lent memory: any two that it allows are equal. Those of the calls that write are the promises of crate canon, whose laws serve here too.
 -- Assumes nothing.
 use mathlib.Core.Path.{_≡_}
 use mathlib.Core.List.{List}
 use lib.ListN.{length}
 use Prim.Native.Nat.{ℕ}
-pub use Rattle.canon.proofs.Once.{canonical-once, add-device-once, add-disk-once}
 use Rattle.answer.specs.declared.Answer.{Answer}
 use Rattle.answer.specs.Calls.{verdict, Writes}
 use Rattle.answer.proofs.Once.{equal-once, writes-once}

@@ -7,11 +7,11 @@ use Prim.Native.Nat.{ℕ, _+_, _-_, _*_, _≤_, _<_}
 use native.Mathlib.Omega.{arith}
 use lib.ListN.{length, take, drop, length-append}
 use borrow.Author.Tests.{le-leb, lt-leb}
-use Rattle.answer.specs.declared.Test.{Test}
 use Rattle.answer.specs.Numbers.{ROOM}
 use Rattle.answer.specs.Outcome.{Outcome, taken, refused, after, done, fitting}
-use Rattle.answer.specs.Calls.{testOf, verdict, Writes}
+use Rattle.answer.specs.Calls.{Writes}
 use Rattle.answer.proofs.Checks.{pass-checked}
+use Rattle.answer.proofs.Outcomes.{made-stop, made-taken}
 use Rattle.wire.specs.Numbers.{leAt}
 use Rattle.wire.specs.Parts.{Wrote}
 use Rattle.wire.proofs.Parts.{none}
@@ -30,7 +30,7 @@ use Rattle.aerosnap.specs.Tables.{placed, startsOf, listRows, table, sectionTab
 use Rattle.aerosnap.proofs.Taken.{file-sound}
 use Rattle.aerosnap.proofs.Standing.{stand-start, endAt}
 use Rattle.sections.specs.Walks.{counted, placeOf, placedIn}
-use Rattle.sections.proofs.Found.{made-stop, made-taken, Here, none-there, there, here-list, made-none, made-one}
+use Rattle.sections.proofs.Found.{Here, none-there, there, here-list, made-none, made-one}
 use Rattle.snapshot.specs.Walks.{sectionRows}
 
 -- ---- by the outcome of the file
@@ -44,14 +44,6 @@ module _ (s : List ℕ) where
 
   pub faults-fine : {n : ℕ} → taken n ≡ counted (fileOf s) → taken tt ≡ done (fileOf s)
   faults-fine h = sym (ap done (counted-taken (fileOf s) h .1))
-
-  -- a call that writes nothing
-  pub check-done : (t : Test) → testOf t ≡ done (fileOf s) → verdict (testOf t) ≡ verdict (fileOf s)
-  check-done t h = go (fileOf s) h
-    where
-      go : (o : Outcome (List (List ℕ))) → testOf t ≡ done o → verdict (testOf t) ≡ verdict o
-      go (taken l) h = ap verdict h
-      go (refused n p) h = ap verdict h
 
   -- a file that is refused: nothing is written
   pub stopped : (rows : ℕ × List ℕ → List ℕ) (old : List ℕ) {n p : ℕ} → fileOf s ≡ refused n p → Writes (table rows (length old) s) old (record { number = n; place = p }) old

@@ -1,5 +1,6 @@
+use Rattle.answer.specs.Outcome.{taken}
 -- `aipc::text_at` meets its contract. Assumes nothing.
-use Rattle.aipc.proofs.Going.{after-checked}
+use Rattle.answer.proofs.Checks.{checked-after}
 use Rattle.aipc.specs.Steps.{textPart}
 use Rattle.messages.specs.Reading.{leftOver}
 use Rattle.answer.specs.Calls.{asked}
@@ -18,7 +19,7 @@ first-requires : tie.Need-first-requires
 first-requires c κs = tt
 
 returns : tie.Need-returns
-returns c = let a = c .before .before .before .before .args in c .first .ensures ∙ rw (c .before .before .text-part .ensures, c .before .ended .ensures) (after-checked (textPart (a .start) (a .end) (a .m .now)) tt (λ _. asked (leftOver (a .m .now) (a .end))))
+returns c = let a = c .before .before .before .before .args in c .first .ensures ∙ rw (c .before .before .text-part .ensures, c .before .ended .ensures) (checked-after (textPart (a .start) (a .end) (a .m .now)) (taken tt) (λ _. asked (leftOver (a .m .now) (a .end))))
 
 pub text-at-spec : {M : Type 1} → statement M
 text-at-spec = tie.close (tie.spec text-part-requires ended-requires first-requires returns)

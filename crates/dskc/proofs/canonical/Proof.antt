@@ -1,5 +1,5 @@
 use Rattle.dskc.proofs.Canon.{canon-length, canon-short, canon-done, canon-written}
-use Rattle.dskc.proofs.Reading.{done-stop}
+use Rattle.answer.proofs.Outcomes.{done-stop}
 use Rattle.dskc.specs.Wrapper.{wrapperOf, wrapperBytes, controllersOf}
 use Rattle.entries.specs.Kinds.{controllers as description}
 use Rattle.order.specs.Keyed.{sort}

@@ -1,4 +1,4 @@
-use Rattle.dskc.proofs.Reading.{verdict-done}
+use Rattle.answer.proofs.Outcomes.{verdict-done}
 use Rattle.dskc.specs.Wrapper.{wrapperOf}
 use mathlib.Core.Path.{_∙_}
 use borrow.Author.Needs.{needs}

@@ -1,4 +1,5 @@
-use Rattle.dskc.proofs.Reading.{done-stop, table-same}
+use Rattle.dskc.proofs.Reading.{table-same}
+use Rattle.answer.proofs.Outcomes.{done-stop}
 use Rattle.dskc.specs.Wrapper.{wrapperOf}
 use Rattle.tables.specs.Tables.{rowsAt}
 use Rattle.tables.specs.declared.Table.the-variants.{Controllers}

@@ -1,4 +1,5 @@
-use Rattle.dskc.proofs.Reading.{header-stop, asked-pass, list-stop, list-done}
+use Rattle.dskc.proofs.Reading.{header-stop, list-stop, list-done}
+use Rattle.answer.proofs.Checks.{asked-pass}
 use Rattle.dskc.specs.Wrapper.{headerChecks}
 use native.Mathlib.Omega.{arith}
 use borrow.Author.Needs.{needs}

@@ -1,4 +1,5 @@
-use Rattle.sections.proofs.Found.{made-same, made-read, found-at}
+use Rattle.sections.proofs.Found.{made-read, found-at}
+use Rattle.answer.proofs.Outcomes.{made-same}
 use Rattle.sections.specs.Walks.{placeOf}
 use Rattle.aerosnap.specs.File.{fileOf}
 use lib.ListN.{length}

@@ -1,4 +1,5 @@
-use Rattle.snapshot.proofs.Reading.{check-done}
+use Rattle.answer.proofs.Outcomes.{verdict-done}
+use Rattle.aerosnap.specs.File.{fileOf}
 use mathlib.Core.Path.{_∙_}
 use borrow.Author.Needs.{needs}
 use Rattle.snapshot.proofs.check.Statement.{statement}
@@ -11,7 +12,7 @@ answered-requires : tie.Need-answered-requires
 answered-requires c κs = search needs
 
 returns : tie.Need-returns
-returns c = c .answered .ensures ∙ check-done (c .before .before .before .args .file .now) (c .before .faults .result) (c .before .faults .ensures)
+returns c = c .answered .ensures ∙ verdict-done (fileOf (c .before .before .before .args .file .now)) (c .before .faults .result) (c .before .faults .ensures)
 
 pub check-spec : {M : Type 1} → statement M
 check-spec = tie.close (tie.spec faults-requires answered-requires returns)

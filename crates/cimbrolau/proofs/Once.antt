@@ -1,0 +1,62 @@
+-- Each promise of the boundary fixes its answer and every byte of lent memory: any two that it allows are equal.
+-- A promise here is that of the call behind it, so the laws are those of answers: one for calls that write nothing, one for those that write.
+-- Assumes nothing.
+use mathlib.Core.Path.{_≡_}
+use mathlib.Core.List.{List}
+use Prim.Native.Nat.{ℕ}
+use lib.ListN.{length}
+use Rattle.answer.specs.declared.Answer.{Answer}
+use Rattle.answer.specs.Outcome.{Outcome}
+use Rattle.answer.specs.Calls.{verdict, Writes}
+use Rattle.answer.proofs.Once.{equal-once, writes-once}
+use Rattle.aerosnap.specs.Calls.{checkCall, sectionsCall, devicesCall, disksCall, canonicalCall, addDeviceCall, addDiskCall}
+use Rattle.dskc.specs.Wrapper as wrapped
+use Rattle.messages.specs.Reading.{readMessage, reading}
+use Rattle.numbers.specs.declared.Numbers.{Numbers}
+use Rattle.numbers.specs.declared.Told.{Told}
+use Rattle.numbers.specs.Numbers.{told, writeNumbers}
+
+-- a call that answers by a verdict on its input
+abbrev Judges : {A : Type 0} → (List ℕ → Outcome A) → Type 0
+Judges call = (input : List ℕ) (r s : Answer) → r ≡ verdict (call input) → s ≡ verdict (call input) → r ≡ s
+
+-- a call that writes into one lent buffer
+abbrev Fills : (ℕ → List ℕ → Outcome (List ℕ)) → Type 0
+Fills call = (input old : List ℕ) (r s : Answer) (new now : List ℕ)
+    → Writes (call (length old) input) old r new → Writes (call (length old) input) old s now → (r ≡ s) × (new ≡ now)
+
+pub check-once : Judges checkCall
+check-once file r s e f = equal-once e f
+
+pub sections-once : Fills sectionsCall
+sections-once file old r s new now a b = writes-once a b
+
+pub devices-once : Fills devicesCall
+devices-once file old r s new now a b = writes-once a b
+
+pub disks-once : Fills disksCall
+disks-once file old r s new now a b = writes-once a b
+
+pub canonical-once : Fills canonicalCall
+canonical-once file old r s new now a b = writes-once a b
+
+pub add-device-once : (id version flags : ℕ) (payload : List ℕ) → Fills (λ have file. addDeviceCall have file id version flags payload)
+add-device-once id version flags payload file old r s new now a b = writes-once a b
+
+pub add-disk-once : (id : ℕ) (base overlay : List ℕ) → Fills (λ have file. addDiskCall have file id base overlay)
+add-disk-once id base overlay file old r s new now a b = writes-once a b
+
+pub wrapper-check-once : Judges wrapped.wrapperOf
+wrapper-check-once wrapper r s e f = equal-once e f
+
+pub controllers-once : Fills wrapped.controllersCall
+controllers-once wrapper old r s new now a b = writes-once a b
+
+pub wrapper-canonical-once : Fills wrapped.canonicalCall
+wrapper-canonical-once wrapper old r s new now a b = writes-once a b
+
+pub message-read-once : (message : List ℕ) {r s : Told} → r ≡ told (reading (readMessage message)) → s ≡ told (reading (readMessage message)) → r ≡ s
+message-read-once message e f = equal-once e f
+
+pub message-write-once : (n : Numbers) → Fills (λ have bytes. writeNumbers n bytes have)
+message-write-once n bytes old r s new now a b = writes-once a b

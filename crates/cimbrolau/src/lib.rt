@@ -1,0 +1,123 @@
+// The front door: each call of the library for callers in C and in languages that call C. include/cimbrolau.h is its declaration.
+// Each function hands its parameters to the call of the same meaning and returns what that answers; a slice comes as a pointer and a length.
+use answer::Answer;
+use numbers::Numbers;
+use numbers::Told;
+ghost use mathlib.Core.Path.{_≡_};
+ghost use lib.ListN.{length};
+ghost use Rattle.answer.specs.Calls.{verdict, Writes};
+ghost use Rattle.aerosnap.specs.Calls.{checkCall, sectionsCall, devicesCall, disksCall, canonicalCall, addDeviceCall, addDiskCall};
+ghost use Rattle.dskc.specs.Wrapper as wrapped;
+ghost use Rattle.messages.specs.Reading.{readMessage, reading};
+ghost use Rattle.numbers.specs.Numbers.{told, writeNumbers};
+
+// ---- snapshot files
+
+#[no_mangle]
+pub extern "C" fn cimbrolau_check(file: &[u8]) -> Answer
+    ensures { λ r. ⌜ r ≡ verdict (checkCall (now (file .entry))) ⌝ }
+{
+    snapshot::check(file)
+}
+
+#[no_mangle]
+pub extern "C" fn cimbrolau_sections(file: &[u8], table: &mut [u8]) -> Answer
+    ensures { λ r. ⌜ Writes (sectionsCall (length (now (table .entry))) (now (file .entry))) (now (table .entry)) r (now (table .exit)) ⌝ }
+{
+    snapshot::sections(file, table)
+}
+
+#[no_mangle]
+pub extern "C" fn cimbrolau_devices(file: &[u8], table: &mut [u8]) -> Answer
+    ensures { λ r. ⌜ Writes (devicesCall (length (now (table .entry))) (now (file .entry))) (now (table .entry)) r (now (table .exit)) ⌝ }
+{
+    snapshot::devices(file, table)
+}
+
+#[no_mangle]
+pub extern "C" fn cimbrolau_disks(file: &[u8], table: &mut [u8]) -> Answer
+    ensures { λ r. ⌜ Writes (disksCall (length (now (table .entry))) (now (file .entry))) (now (table .entry)) r (now (table .exit)) ⌝ }
+{
+    snapshot::disks(file, table)
+}
+
+#[no_mangle]
+pub extern "C" fn cimbrolau_canonical(file: &[u8], out: &mut [u8]) -> Answer
+    ensures { λ r. ⌜ Writes (canonicalCall (length (now (out .entry))) (now (file .entry))) (now (out .entry)) r (now (out .exit)) ⌝ }
+{
+    snapshot::canonical(file, out)
+}
+
+#[no_mangle]
+pub extern "C" fn cimbrolau_add_device(
+    file: &[u8],
+    id: u32,
+    version: u16,
+    flags: u16,
+    payload: &[u8],
+    out: &mut [u8],
+) -> Answer
+    ensures { λ r. ⌜ Writes (addDeviceCall (length (now (out .entry))) (now (file .entry)) id version flags (now (payload .entry))) (now (out .entry)) r (now (out .exit)) ⌝ }
+{
+    snapshot::add_device(file, id, version, flags, payload, out)
+}
+
+#[no_mangle]
+pub extern "C" fn cimbrolau_add_disk(
+    file: &[u8],
+    id: u32,
+    base: &[u8],
+    overlay: &[u8],
+    out: &mut [u8],
+) -> Answer
+    ensures { λ r. ⌜ Writes (addDiskCall (length (now (out .entry))) (now (file .entry)) id (now (base .entry)) (now (overlay .entry))) (now (out .entry)) r (now (out .exit)) ⌝ }
+{
+    snapshot::add_disk(file, id, base, overlay, out)
+}
+
+// ---- disk-controller wrappers
+
+#[no_mangle]
+pub extern "C" fn cimbrolau_wrapper_check(wrapper: &[u8]) -> Answer
+    ensures { λ r. ⌜ r ≡ verdict (wrapped.wrapperOf (now (wrapper .entry))) ⌝ }
+{
+    dskc::check(wrapper)
+}
+
+#[no_mangle]
+pub extern "C" fn cimbrolau_controllers(wrapper: &[u8], table: &mut [u8]) -> Answer
+    ensures { λ r. ⌜ Writes (wrapped.controllersCall (length (now (table .entry))) (now (wrapper .entry))) (now (table .entry)) r (now (table .exit)) ⌝ }
+{
+    dskc::controllers(wrapper, table)
+}
+
+#[no_mangle]
+pub extern "C" fn cimbrolau_wrapper_canonical(wrapper: &[u8], out: &mut [u8]) -> Answer
+    ensures { λ r. ⌜ Writes (wrapped.canonicalCall (length (now (out .entry))) (now (wrapper .entry))) (now (out .entry)) r (now (out .exit)) ⌝ }
+{
+    dskc::canonical(wrapper, out)
+}
+
+// ---- messages
+
+#[no_mangle]
+pub extern "C" fn cimbrolau_message_read(message: &[u8]) -> Told
+    ensures { λ r. ⌜ r ≡ told (reading (readMessage (now (message .entry)))) ⌝ }
+{
+    numbers::read(message)
+}
+
+#[no_mangle]
+pub extern "C" fn cimbrolau_message_write(
+    tag: u32,
+    a: u64,
+    b: u64,
+    c: u64,
+    d: u64,
+    bytes: &[u8],
+    out: &mut [u8],
+) -> Answer
+    ensures { λ r. ⌜ Writes (writeNumbers (record { tag = tag; a = a; b = b; c = c; d = d }) (now (bytes .entry)) (length (now (out .entry)))) (now (out .entry)) r (now (out .exit)) ⌝ }
+{
+    numbers::write(Numbers { tag, a, b, c, d }, bytes, out)
+}

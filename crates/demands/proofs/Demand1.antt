@@ -1,0 +1,277 @@
+-- Demand 1, from the numbers of each definition and from the shape that all calls that write have: what is to be written, and then the room for it.
+-- Assumes nothing.
+use mathlib.Core.Path.{_≡_, refl, sym, ap, _∙_}
+use mathlib.Core.Logic.{_≢_, _↔_}
+use mathlib.Core.Bool.{Bool, true, false, cond, _&&_, _||_}
+use mathlib.Core.List.{List, [], _∷_, _++_}
+use Prim.Native.Nat.{ℕ, _≤_, _<_}
+use native.Mathlib.Omega.{arith}
+use borrow.Author.Tests.{leb-true, leb-false, le-leb}
+use lib.Dec.{leb, eqb}
+use lib.ListN.{length, drop}
+use Rattle.answer.specs.declared.Answer.{Answer}
+use Rattle.answer.specs.Numbers.{SHORT, VALUE, ROOM, TAG, ADDRESS, isFault}
+use Rattle.answer.specs.Outcome.{Outcome, taken, refused, Faulty, Checks, checked, after, room, fitting}
+use Rattle.answer.specs.Calls.{verdict, answer, Writes}
+use Rattle.answer.proofs.Checks.{checked-after, checked-append}
+use Rattle.answer.proofs.Outcomes.{after-after}
+use Rattle.answer.proofs.Once.{equal-once, writes-once}
+use Rattle.order.specs.Keyed.{Every, flat, sort}
+use Rattle.order.proofs.Folds.{every-append}
+use Rattle.entries.specs.Kinds.{controllers}
+use Rattle.tables.specs.declared.Table.the-variants.{Controllers}
+use Rattle.tables.specs.Tables.{rowsAt}
+use Rattle.aerosnap.specs.File.{fileOf}
+use Rattle.aerosnap.specs.Content.{Content, contentAt, render, canonical}
+use Rattle.aerosnap.specs.Tables.{placed, table}
+use Rattle.aerosnap.specs.Adding.{Item, device, disk, ownChecks, addChecks, put, addTo, addItem}
+use Rattle.aerosnap.proofs.Named.{file-faulty, content-faulty}
+use Rattle.dskc.specs.Wrapper as wrapped
+use Rattle.kinds.specs.declared.Message.{Message}
+use Rattle.kinds.specs.declared.Message.the-variants.{Nothing}
+use Rattle.kinds.specs.declared.Body.{Body}
+use Rattle.kinds.specs.declared.Body.the-variants.{Empty, Bytes, Text}
+use Rattle.kinds.specs.declared.Cell.{Cell}
+use Rattle.kinds.specs.declared.Form.{Form}
+use Rattle.kinds.specs.Kinds.{Kind, kinds, blank, paper, cells, okOf}
+use Rattle.messages.specs.declared.Reading.{Reading}
+use Rattle.messages.specs.Reading.{Content as MessageContent, reading, readMessage}
+use Rattle.messages.specs.Writing.{valueChecks, dataChecks, writeChecks, written, writeMessage}
+use Rattle.numbers.specs.declared.Numbers.{Numbers}
+use Rattle.numbers.specs.Numbers.{kindIn, allWithin, messageOf, writeNumbers}
+use Rattle.demands.specs.Demands.{Taken, InTable, Answers, Fills, Demand1}
+use Rattle.demands.proofs.Faults.{wrapper-faulty, message-faulty}
+
+-- ---- numbers
+
+-- a number of the table other than ROOM
+abbrev Plain : ℕ → Type 0
+Plain n = (SHORT ≤ n) × (n ≤ ADDRESS) × (n ≢ ROOM)
+
+-- the outcome of a call before its room is looked at
+abbrev Unroomed : {A : Type 0} → Outcome A → Type 0
+Unroomed (taken a) = Unit {0}
+Unroomed (refused n p) = Plain n
+
+plain : (n : ℕ) → isFault n ≡ true → Plain n
+plain n h = go (leb SHORT n) (leb n VALUE) (leb TAG n) (leb n ADDRESS) refl refl refl refl h
+  where
+    go : (a b c d : Bool) → leb SHORT n ≡ a → leb n VALUE ≡ b → leb TAG n ≡ c → leb n ADDRESS ≡ d → ((a && b) || (c && d)) ≡ true → Plain n
+    go true true c d p q r s h = (leb-true SHORT n p, omega (arith, leb-true n VALUE q), λ e. omega (arith, leb-true n VALUE q))
+    go true false true true p q r s h = (leb-true SHORT n p, leb-true n ADDRESS s, λ e. omega (arith, leb-true TAG n r))
+    go true false true false p q r s h = let z : _≡_ {A = ℕ} 0 1 = cc in absurd (omega arith)
+    go true false false d p q r s h = let z : _≡_ {A = ℕ} 0 1 = cc in absurd (omega arith)
+    go false b true true p q r s h = absurd (omega (arith, leb-false SHORT n p, leb-true TAG n r))
+    go false b true false p q r s h = let z : _≡_ {A = ℕ} 0 1 = cc in absurd (omega arith)
+    go false b false d p q r s h = let z : _≡_ {A = ℕ} 0 1 = cc in absurd (omega arith)
+
+faulty-unroomed : {A : Type 0} (o : Outcome A) → Faulty o → Unroomed o
+faulty-unroomed (taken a) h = tt
+faulty-unroomed (refused n p) h = plain n h
+
+-- each of the checks has such a number
+abbrev Rows : Checks → Type 0
+Rows = Every (λ c. Plain (c .1))
+
+checked-unroomed : {A : Type 0} (l : Checks) (a : Outcome A) → Rows l → Unroomed a → Unroomed (checked l a)
+checked-unroomed [] a h k = k
+checked-unroomed (c ∷ l) a h k = go (c .0) (checked-unroomed l a (h .1) k)
+  where
+    go : (b : Bool) → Unroomed (checked l a) → Unroomed (checked ((b, c .1, c .2) ∷ l) a)
+    go true r = r
+    go false r = h .0
+
+after-unroomed : {A B : Type 0} (r : Outcome A) (f : A → Outcome B) → Unroomed r → ((a : A) → Unroomed (f a)) → Unroomed (after r f)
+after-unroomed (taken a) f h k = k a
+after-unroomed (refused n p) f h k = h
+
+-- ---- calls that write nothing
+
+unroomed-zero : {A : Type 0} (o : Outcome A) → Unroomed o → (r : Answer) → r ≡ verdict o → (r .number ≡ 0) ↔ Taken o
+unroomed-zero (taken a) h r e = ((λ z. (a, refl)), λ t. ap (λ (x : Answer). x .number) e)
+unroomed-zero {A} (refused n p) h r e = (
+  (λ z. absurd (omega (arith, ap (λ (x : Answer). x .number) e, h .0))),
+  λ (a, t). let z : _≡_ {A = ℕ} 0 1 = cc in absurd (omega arith),
+)
+
+answers : {A : Type 0} (o : Outcome A) → Faulty o → Answers o
+answers o h = record { faults = h; zero = unroomed-zero o (faulty-unroomed o h); once = λ r s e f. equal-once e f }
+
+reads-zero : (o : Outcome MessageContent) → Unroomed o → (r : Reading) → r ≡ reading o → (r .number ≡ 0) ↔ Taken o
+reads-zero (taken a) h r e = ((λ z. (a, refl)), λ t. ap (λ (x : Reading). x .number) e)
+reads-zero (refused n p) h r e = (
+  (λ z. absurd (omega (arith, ap (λ (x : Reading). x .number) e, h .0))),
+  λ (a, t). let z : _≡_ {A = ℕ} 0 1 = cc in absurd (omega arith),
+)
+
+reads-nothing : (o : Outcome MessageContent) (r : Reading) → r ≡ reading o → r .number ≢ 0 → r .message ≡ Nothing
+reads-nothing (taken a) r e h = absurd (h (ap (λ (x : Reading). x .number) e))
+reads-nothing (refused n p) r e h = ap (λ (x : Reading). x .message) e
+
+-- ---- calls that write
+
+-- what a call is to write, or its first refusal before the room for it is looked at
+record Core (o : ℕ → Outcome (List ℕ)) : Type 0 where
+  core : Outcome (List ℕ)
+  apart : Unroomed core
+  same : (have : ℕ) → o have ≡ after core (fitting have)
+
+-- the numbers of an answer and of what it leaves
+number-is : {o : Outcome (List ℕ)} {old new : List ℕ} {r : Answer} → Writes o old r new → r .number ≡ answer o .number
+number-is w = ap (λ (a : Answer). a .number) (w .answers)
+
+place-is : {o : Outcome (List ℕ)} {old new : List ℕ} {r : Answer} → Writes o old r new → r .place ≡ answer o .place
+place-is w = ap (λ (a : Answer). a .place) (w .answers)
+
+refused-stays : (o : Outcome (List ℕ)) (old new : List ℕ) (r : Answer) → Writes o old r new → r .number ≢ 0 → new ≡ old
+refused-stays (taken b) old new r w h = absurd (h (number-is w))
+refused-stays (refused n p) old new r w h = w .leaves
+
+-- by what is to be written and the room for it
+fitted-table : (have : ℕ) (c : Outcome (List ℕ)) → Unroomed c → InTable (after c (fitting have))
+fitted-table have (taken b) h = go (leb (length b) have)
+  where
+    go : (t : Bool) → InTable {A = List ℕ} (checked ((t, ROOM, length b) ∷ []) (taken b))
+    go true = tt
+    go false = (omega arith, omega arith)
+fitted-table have (refused n p) h = (h .0, h .1)
+
+fitted-writes : (c : Outcome (List ℕ)) → Unroomed c → (old new : List ℕ) (r : Answer) → Writes (after c (fitting (length old))) old r new → r .number ≡ 0
+    → (b : List ℕ) × (after c (fitting (length old)) ≡ taken b) × (length b ≤ length old) × (r .place ≡ length b) × (new ≡ b ++ drop (length b) old)
+fitted-writes (taken b) h old new r w z = go (leb (length b) (length old)) refl w
+  where
+    go : (t : Bool) → leb (length b) (length old) ≡ t → Writes (checked ((t, ROOM, length b) ∷ []) (taken b)) old r new
+        → (a : List ℕ) × (checked ((t, ROOM, length b) ∷ []) (taken b) ≡ taken a) × (length a ≤ length old) × (r .place ≡ length a) × (new ≡ a ++ drop (length a) old)
+    go true e w = (b, refl, leb-true _ _ e, place-is w, w .leaves)
+    go false e w = absurd (omega (arith, number-is w))
+fitted-writes (refused n p) h old new r w z = absurd (omega (arith, number-is w, h .0))
+
+fitted-room : (c : Outcome (List ℕ)) → Unroomed c → (old new : List ℕ) (r : Answer) → Writes (after c (fitting (length old))) old r new → r .number ≡ ROOM
+    → (length old < r .place) × ((b : List ℕ) × (after c (fitting (r .place)) ≡ taken b) × (length b ≡ r .place))
+fitted-room (taken b) h old new r w z = go (leb (length b) (length old)) refl w
+  where
+    go : (t : Bool) → leb (length b) (length old) ≡ t → Writes (checked ((t, ROOM, length b) ∷ []) (taken b)) old r new
+        → (length old < r .place) × ((a : List ℕ) × (fitting (r .place) b ≡ taken a) × (length a ≡ r .place))
+    go true e w = absurd (omega (arith, number-is w))
+    go false e w =
+        let p : r .place ≡ length b = place-is w in
+        (omega (arith, leb-false (length b) (length old) e), (b, rw (le-leb (length b) (r .place) (omega arith)), sym p))
+fitted-room (refused n p) h old new r w z = absurd (h .2 (sym (number-is w) ∙ z))
+
+fills : (o : ℕ → Outcome (List ℕ)) → Core o → Fills o
+fills o k = record {
+  table = λ have. rw (k .same have) (fitted-table have (k .core) (k .apart));
+  stays = λ old new r w h. refused-stays (o (length old)) old new r w h;
+  writes = λ old new r w z. rw (k .same (length old)) (fitted-writes (k .core) (k .apart) old new r (rw (k .same (length old)) at w) z);
+  room = λ old new r w z. rw (k .same (r .place)) (fitted-room (k .core) (k .apart) old new r (rw (k .same (length old)) at w) z);
+  once = λ old new now r s a b. writes-once a b;
+}
+
+-- ---- each of them
+
+-- what is written of what was read
+read-core : {A : Type 0} (r : Outcome A) (f : A → List ℕ) → Faulty r → Core (λ have. after r (λ a. fitting have (f a)))
+read-core r f h = record { core = after r (λ a. taken (f a)); apart = after-unroomed r (λ a. taken (f a)) (faulty-unroomed r h) (λ a. tt); same = λ have. sym (after-after r (λ a. taken (f a)) (fitting have)) }
+
+table-core : (rows : ℕ × List ℕ → List ℕ) (s : List ℕ) → Core (λ have. table rows have s)
+table-core rows s = read-core (fileOf s) (λ l. flat rows (placed 16 l)) (file-faulty s)
+
+canonical-core : (s : List ℕ) → Core (λ have. canonical have s)
+unfolding canonical
+canonical-core s = read-core (contentAt s) render (content-faulty s)
+
+own-rows : (x : Item) → Rows (ownChecks x)
+own-rows (device id v f p) = (plain 12 refl, tt)
+own-rows (disk id x y) = (plain 12 refl, (plain 14 refl, tt))
+
+add-rows : (x : Item) (c : Content) → Rows (ownChecks x ++ addChecks x c (put x c))
+add-rows x c = every-append _ (ownChecks x) (addChecks x c (put x c)) (own-rows x) ((omega arith, omega arith, λ e. omega arith), (plain 12 refl, (plain 12 refl, (plain 8 refl, (plain 6 refl, tt)))))
+
+add-core : (s : List ℕ) (x : Item) → Core (λ have. addItem have s x)
+unfolding addItem addTo
+add-core s x =
+    let rows : Content → Checks = λ c. ownChecks x ++ addChecks x c (put x c) in
+    let all : Content → Outcome (List ℕ) = λ c. checked (rows c) (taken (render (put x c))) in
+    record {
+      core = after (contentAt s) all;
+      apart = after-unroomed (contentAt s) all (faulty-unroomed (contentAt s) (content-faulty s)) (λ c. checked-unroomed (rows c) (taken (render (put x c))) (add-rows x c) tt);
+      same = λ have. by have (contentAt s);
+    }
+  where
+    by : (have : ℕ) (r : Outcome Content)
+        → after r (λ c. checked (ownChecks x ++ addChecks x c (put x c)) (fitting have (render (put x c)))) ≡ after (after r (λ c. checked (ownChecks x ++ addChecks x c (put x c)) (taken (render (put x c))))) (fitting have)
+    by have (taken c) = sym (checked-after (ownChecks x ++ addChecks x c (put x c)) (taken (render (put x c))) (fitting have))
+    by have (refused n p) = refl
+
+value-rows : (ok : ℕ) (cs : List Cell) → Rows (valueChecks ok cs)
+unfolding valueChecks
+value-rows ok [] = tt
+value-rows ok (c ∷ cs) = (plain 15 refl, value-rows ok cs)
+
+data-rows : (b : Body) (d : List ℕ) → Rows (dataChecks b d)
+data-rows Empty d = (plain 15 refl, tt)
+data-rows Bytes d = tt
+data-rows Text d = (plain 14 refl, tt)
+
+write-rows : (f : Form) (d : List ℕ) → Rows (writeChecks f d)
+unfolding writeChecks
+write-rows f d = (plain 15 refl, every-append _ (valueChecks (okOf f) (cells f)) _ (value-rows (okOf f) (cells f)) (every-append _ (dataChecks (f .body) d) _ (data-rows (f .body) d) (plain 12 refl, tt)))
+
+write-core : (k : Message) (d : List ℕ) → Core (writeMessage k d)
+unfolding writeMessage
+write-core k d = record {
+  core = checked (writeChecks (paper k) d) (taken (written k d));
+  apart = checked-unroomed (writeChecks (paper k) d) (taken (written k d)) (write-rows (paper k) d) tt;
+  same = λ have. checked-append (writeChecks (paper k) d) (room have (length (written k d))) (taken (written k d)) ∙ sym (checked-after (writeChecks (paper k) d) (taken (written k d)) (fitting have));
+}
+
+kind-unroomed : (ks : List Kind) (t : ℕ) → Unroomed (kindIn ks t)
+kind-unroomed [] t = plain 18 refl
+kind-unroomed (k ∷ ks) t = go (eqb t (blank k .tag)) (kind-unroomed ks t)
+  where
+    go : (b : Bool) → Unroomed (kindIn ks t) → Unroomed (cond b (taken k) (kindIn ks t))
+    go true h = tt
+    go false h = h
+
+message-unroomed : (n : Numbers) → Unroomed (messageOf n)
+unfolding messageOf
+message-unroomed n =
+    after-unroomed (kindIn kinds (n .tag)) (λ k. checked ((allWithin (blank k) n, VALUE, 0) ∷ []) (taken (k (n .a) (n .b) (n .c) (n .d)))) (kind-unroomed kinds (n .tag))
+    (λ k. checked-unroomed ((allWithin (blank k) n, VALUE, 0) ∷ []) (taken (k (n .a) (n .b) (n .c) (n .d))) (plain 15 refl, tt) tt)
+
+numbers-core : (n : Numbers) (d : List ℕ) → Core (writeNumbers n d)
+unfolding writeNumbers
+numbers-core n d =
+    record {
+      core = after (messageOf n) (λ k. write-core k d .core);
+      apart = after-unroomed (messageOf n) (λ k. write-core k d .core) (message-unroomed n) (λ k. write-core k d .apart);
+      same = λ have. by have (messageOf n);
+    }
+  where
+    by : (have : ℕ) (r : Outcome Message) → after r (λ k. writeMessage k d have) ≡ after (after r (λ k. write-core k d .core)) (fitting have)
+    by have (taken k) = write-core k d .same have
+    by have (refused n p) = refl
+
+-- ---- the demand
+
+pub demand1 : Demand1
+demand1 = record {
+  check = λ file. answers (fileOf file) (file-faulty file);
+  sections = λ file. fills _ (table-core _ file);
+  devices = λ file. fills _ (table-core _ file);
+  disks = λ file. fills _ (table-core _ file);
+  canonical = λ file. fills _ (canonical-core file);
+  add-device = λ file id version flags payload. fills _ (add-core file (device id version flags payload));
+  add-disk = λ file id base overlay. fills _ (add-core file (disk id base overlay));
+  wrapper-check = λ wrapper. answers (wrapped.wrapperOf wrapper) (wrapper-faulty wrapper);
+  controllers = λ wrapper. fills _ (read-core (wrapped.wrapperOf wrapper) (rowsAt Controllers 16 (drop 16 wrapper)) (wrapper-faulty wrapper));
+  wrapper-canonical = λ wrapper. fills _ (read-core (wrapped.wrapperOf wrapper) (λ _. wrapped.wrapperBytes (sort (controllers .key) (wrapped.controllersOf wrapper))) (wrapper-faulty wrapper));
+  message-read = λ message. record {
+    faults = message-faulty message;
+    zero = reads-zero (readMessage message) (faulty-unroomed (readMessage message) (message-faulty message));
+    nothing = reads-nothing (readMessage message);
+    once = λ r s e f. equal-once e f;
+  };
+  message-write = λ message bytes. fills _ (write-core message bytes);
+  by-numbers = λ n bytes. fills _ (numbers-core n bytes);
+}

@@ -1,0 +1,52 @@
+-- Every fault of a wrapper or a message has a number of document 01's table other than ROOM and HAVE, as those of a file have.
+-- Assumes nothing.
+use mathlib.Core.Path.{refl}
+use mathlib.Core.List.{List, [], _∷_}
+use Prim.Native.Nat.{ℕ, _+_}
+use lib.ListN.{drop}
+use Rattle.answer.specs.Outcome.{taken, moved, Faulty}
+use Rattle.order.proofs.Folds.{every-append}
+use Rattle.entries.specs.Kinds.{controllers}
+use Rattle.lists.specs.Lists.{listAt}
+use Rattle.aerosnap.proofs.Named.{Numbered, checked-faulty, moved-faulty, EntryFaults, list-faulty}
+use Rattle.dskc.specs.Wrapper as wrapped
+use Rattle.kinds.specs.declared.Body.{Body as Behind}
+use Rattle.kinds.specs.declared.Body.the-variants.{Empty, Bytes, Text}
+use Rattle.kinds.specs.declared.Cell.{Cell}
+use Rattle.kinds.specs.Kinds.{paper, cells, okOf}
+use Rattle.messages.specs.Fields.{widthOf, messageAt}
+use Rattle.messages.specs.Reading.{fieldChecks, bodyChecks, numbersEnd, contentOf, readChecks, readMessage}
+
+-- ---- the wrapper
+
+controller-faults : EntryFaults controllers
+controller-faults = record {
+  early = λ b. (refl, (refl, tt));
+  form = ((λ e. checked-faulty (controllers .early e) (taken tt) (refl, (refl, tt)) tt), ((λ n. tt), λ e. tt));
+}
+
+pub wrapper-faulty : (s : List ℕ) → Faulty (wrapped.wrapperOf s)
+unfolding wrapped.wrapperOf
+wrapper-faulty s =
+    checked-faulty (wrapped.headerChecks s) (moved 16 (listAt controllers (drop 16 s))) (refl, (refl, (refl, (refl, (refl, (refl, tt)))))) (moved-faulty 16 (listAt controllers (drop 16 s)) (list-faulty controller-faults (drop 16 s)))
+
+-- ---- the message
+
+fields-numbered : (ok : ℕ) (cs : List Cell) (at : ℕ) (m : List ℕ) → Numbered (fieldChecks ok cs at m)
+unfolding fieldChecks
+fields-numbered ok [] at m = tt
+fields-numbered ok (c ∷ cs) at m = (refl, (refl, fields-numbered ok cs (at + widthOf ok (c .0)) m))
+
+body-numbered : (b : Behind) (at : ℕ) (m : List ℕ) → Numbered (bodyChecks b at m)
+unfolding bodyChecks
+body-numbered Empty at m = (refl, tt)
+body-numbered Bytes at m = (refl, (refl, (refl, tt)))
+body-numbered Text at m = (refl, (refl, (refl, (refl, tt))))
+
+pub message-faulty : (m : List ℕ) → Faulty (readMessage m)
+unfolding readMessage readChecks
+message-faulty m =
+    let k = messageAt m in
+    let f = paper k in
+    checked-faulty (readChecks f m) (taken (contentOf k (f .body) (numbersEnd f) m))
+    (refl, (refl, (refl, every-append _ (fieldChecks (okOf f) (cells f) 2 m) (bodyChecks (f .body) (numbersEnd f) m) (fields-numbered (okOf f) (cells f) 2 m) (body-numbered (f .body) (numbersEnd f) m)))) tt

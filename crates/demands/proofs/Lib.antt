@@ -1,0 +1,10 @@
+-- Faults: the numbers of faults. Firsts: the first check that fails. Demand1 to Demand3: the demands. Examples: P1 to P13. RuledOut: wrong answers.
+-- Once: the proofs that promises fix their answers, of every public function.
+pub mod Faults
+pub mod Firsts
+pub mod Demand1
+pub mod Demand2
+pub mod Demand3
+pub mod Examples
+pub mod RuledOut
+pub mod Once

@@ -1,0 +1,40 @@
+-- The promise of every public function determines number, place, reading and each byte of lent memory afterwards, refusals too: any two answers that it
+-- allows are equal. Here are the proofs of that, crate by crate, each behind the functions that it speaks of. No public function lacks one.
+-- Assumes nothing.
+
+-- answer: answered; roomy
+pub use Rattle.answer.proofs.Once.{answered-once, roomy-once}
+-- wire: fits; left; tail; u8_at, u16_at, u32_at, u64_at; put_u8, put_u16, put_u32, put_u64, copy
+pub use Rattle.wire.proofs.Once.{fits-once, left-once, tail-once, load-once, store-once}
+-- utf8: text; is_text
+pub use Rattle.utf8.proofs.Once.{text-once, is-text-once}
+-- format: block_at, part_at, blob_at, text_at; flag_at
+pub use Rattle.format.proofs.Once.{read-once as format-once, flag-once}
+-- entries: most_of; cpu_state; mmu_length; lead_of; lead_at; key_of, key_at; entry_at
+pub use Rattle.entries.proofs.Once.{most-once, cpu-state-once, mmu-length-once, lead-once, lead-at-once, key-once, entry-once}
+-- lists: index; find
+pub use Rattle.lists.proofs.Once.{index-once, find-once}
+-- tables: write; put_section
+pub use Rattle.tables.proofs.Once.{write-once as tables-write-once, section-once}
+-- writer: write; write_with
+pub use Rattle.writer.proofs.Once.{write-once as writer-write-once, write-with-once}
+-- dskc: check; controllers; canonical
+pub use Rattle.dskc.proofs.Once.{check-once as dskc-check-once, controllers-once, canonical-once as dskc-canonical-once}
+-- kinds: form_of
+pub use Rattle.kinds.proofs.Once.{form-of-once}
+-- messages: said
+pub use Rattle.messages.proofs.Once.{said-once}
+-- aipc: read; write
+pub use Rattle.aipc.proofs.Once.{read-once as aipc-read-once, write-once as aipc-write-once}
+-- numbers: numbers_of; message_of; read; write
+pub use Rattle.numbers.proofs.Once.{numbers-of-once, message-of-once, read-once as numbers-read-once, write-once as numbers-write-once}
+-- payloads: read
+pub use Rattle.payloads.proofs.Once.{read-once as payloads-read-once}
+-- sections: small; scan; find
+pub use Rattle.sections.proofs.Once.{small-once, scan-once, find-once as sections-find-once}
+-- canon and snapshot: canonical; add_device; add_disk
+pub use Rattle.canon.proofs.Once.{canonical-once, add-device-once, add-disk-once}
+-- snapshot: check; sections; devices; disks
+pub use Rattle.snapshot.proofs.Once.{check-once, sections-once, devices-once, disks-once}
+-- cimbrolau: the same calls for C, each law named after its function
+pub use Rattle.cimbrolau.proofs.Once.{check-once as cimbrolau-check-once, sections-once as cimbrolau-sections-once, devices-once as cimbrolau-devices-once, disks-once as cimbrolau-disks-once, canonical-once as cimbrolau-canonical-once, add-device-once as cimbrolau-add-device-once, add-disk-once as cimbrolau-add-disk-once, wrapper-check-once as cimbrolau-wrapper-check-once, controllers-once as cimbrolau-controllers-once, wrapper-canonical-once as cimbrolau-wrapper-canonical-once, message-read-once as cimbrolau-message-read-once, message-write-once as cimbrolau-message-write-once}

@@ -1,0 +1,4 @@
+-- Demands: the three demands. Examples: P1 to P13. RuledOut: wrong answers that no call can give.
+pub mod Demands
+pub mod Examples
+pub mod RuledOut

@@ -1,0 +1,159 @@
+/*
+ * Cimbrolau: AEROSNAP version 1 snapshots, DSKC disk-controller wrappers and AIPC messages.
+ *
+ * Link with target/staticlib/libcimbrolau.a, which `rt staticlib cimbrolau` makes. Of other libraries it wants memcpy, memmove and memset.
+ * It keeps no state and allocates nothing, so several threads may call it at once.
+ *
+ * Every call takes every input, ends, and answers with a number and a place:
+ *
+ *   number 0    taken. The place is the number of bytes written to the lent buffer, or 0 for a call that writes nothing.
+ *   else        refused, for the first reason in the order of the rules. The place says where in the input; 0 where nothing names one;
+ *               for CIMBROLAU_ROOM it is the length that the buffer has to have.
+ *
+ * A refused call leaves the lent buffer exactly as it was. A call that is taken writes from the buffer's start on and leaves the bytes
+ * behind the written ones as they were; they are no part of what was written. To learn the length needed, lend a buffer of length 0.
+ *
+ * What a caller owes, and nothing can check:
+ *   - each length is the number of bytes that the pointer before it points to; for a length of 0 any pointer will do, also a null one;
+ *   - a lent buffer (`table`, `out`) overlaps no input of the same call, and nothing else touches either while the call runs.
+ * All else is checked by the call.
+ */
+#ifndef CIMBROLAU_H
+#define CIMBROLAU_H
+
+#include <stddef.h>
+#include <stdint.h>
+
+#ifdef __cplusplus
+extern "C" {
+#endif
+
+/* ---- the refusals */
+
+enum {
+    CIMBROLAU_TAKEN = 0,
+    CIMBROLAU_SHORT = 1,     /* file or wrapper under 16 bytes; at 0 */
+    CIMBROLAU_MAGIC = 2,     /* letters wrong; at 0, or 8 for `DSKC` */
+    CIMBROLAU_VERSION = 3,   /* file version, at 8; in wrappers a pair other than 1, 0, at 4 or 12 */
+    CIMBROLAU_ENDIAN = 4,    /* endianness tag not 1; at 10 */
+    CIMBROLAU_RESERVED = 5,  /* reserved number or known section's flags not 0; at its offset */
+    CIMBROLAU_SIZE = 6,      /* file or wrapper too long; at 0 */
+    CIMBROLAU_CUT = 7,       /* section header or payload passes the end; at the section's start */
+    CIMBROLAU_MANY = 8,      /* 65th section; at its start */
+    CIMBROLAU_TWICE = 9,     /* known id again, CPU with CPUS, MMU with MMUS; at the later section's start */
+    CIMBROLAU_SECVER = 10,   /* version of a section not taken; at its offset */
+    CIMBROLAU_SHAPE = 11,    /* field doesn't fit, at its start; state length wrong; bytes left over, at the first */
+    CIMBROLAU_LIMIT = 12,    /* count or length over its bound, at its offset; message too long, at 0 */
+    CIMBROLAU_KEY = 13,      /* key again; at the later entry's start */
+    CIMBROLAU_TEXT = 14,     /* not UTF-8; at the text's start */
+    CIMBROLAU_VALUE = 15,    /* listed byte or number outside its values; at its offset */
+    CIMBROLAU_ROOM = 16,     /* output shorter than needed; the place is the length needed */
+    CIMBROLAU_HAVE = 17,     /* added key is there; at 0 */
+    CIMBROLAU_TAG = 18,      /* unknown tag; at 0 */
+    CIMBROLAU_ADDRESS = 19   /* controller's device above 31 or function above 7; at the entry's start */
+};
+
+/* ---- what a call answers */
+
+struct cimbrolau_answer {
+    uint32_t number;
+    uint64_t place;
+};
+
+/* ---- snapshot files */
+
+/* Whether a file follows the rules. */
+struct cimbrolau_answer cimbrolau_check(const uint8_t *file, size_t file_length);
+
+/*
+ * Tables: records of 24 bytes with no header, all numbers little-endian, offsets counted from the start of the file.
+ * The whole file is checked first.
+ *
+ *   sections, in file order   u32 id, u16 version, u16 flags, u64 payload offset, u64 length
+ *   devices, in key order     u32 id, u16 version, u16 flags, u64 payload offset, u64 length
+ *   disks, in key order       u32 id, u32 base length, u64 base offset, u32 overlay length, u32 0
+ */
+struct cimbrolau_answer cimbrolau_sections(const uint8_t *file, size_t file_length, uint8_t *table, size_t table_length);
+
+struct cimbrolau_answer cimbrolau_devices(const uint8_t *file, size_t file_length, uint8_t *table, size_t table_length);
+
+struct cimbrolau_answer cimbrolau_disks(const uint8_t *file, size_t file_length, uint8_t *table, size_t table_length);
+
+/* The canonical form of a file. It is never longer than the file. */
+struct cimbrolau_answer cimbrolau_canonical(const uint8_t *file, size_t file_length, uint8_t *out, size_t out_length);
+
+/*
+ * The canonical form of a file's content and one device or one disk more. What is wrong with the file comes first, with its own place; what is
+ * wrong with the new entry or with the result is at 0: CIMBROLAU_LIMIT, CIMBROLAU_TEXT, CIMBROLAU_HAVE, CIMBROLAU_MANY, CIMBROLAU_SIZE.
+ */
+struct cimbrolau_answer cimbrolau_add_device(const uint8_t *file, size_t file_length, uint32_t id, uint16_t version, uint16_t flags, const uint8_t *payload, size_t payload_length, uint8_t *out, size_t out_length);
+
+struct cimbrolau_answer cimbrolau_add_disk(const uint8_t *file, size_t file_length, uint32_t id, const uint8_t *base, size_t base_length, const uint8_t *overlay, size_t overlay_length, uint8_t *out, size_t out_length);
+
+/* ---- disk-controller wrappers */
+
+/* Whether a wrapper follows the rules. */
+struct cimbrolau_answer cimbrolau_wrapper_check(const uint8_t *wrapper, size_t wrapper_length);
+
+/* The controllers in address order: u16 address, u16 0, four tag bytes, u64 payload offset, u64 length; offsets count from the wrapper's start. */
+struct cimbrolau_answer cimbrolau_controllers(const uint8_t *wrapper, size_t wrapper_length, uint8_t *table, size_t table_length);
+
+/* The canonical form of a wrapper, in address order. It is as long as the wrapper. */
+struct cimbrolau_answer cimbrolau_wrapper_canonical(const uint8_t *wrapper, size_t wrapper_length, uint8_t *out, size_t out_length);
+
+/* ---- messages */
+
+/*
+ * A message is its tag and up to four numbers a, b, c, d: those of its kind in the order of its fields, 0 where the kind has fewer. Data
+ * and texts stand beside them; their length field is no number of its own. The error code of DiskReadResp and DiskWriteResp is d, and is 0
+ * where `ok` is 1.
+ *
+ *   tag     kind           a          b             c       d              data
+ *   0x0000  Nop            u32 seq
+ *   0x0001  Shutdown
+ *   0x0100  MmioRead       u32 id     u64 addr      u32 size
+ *   0x0101  MmioWrite      u32 id     u64 addr                             bytes
+ *   0x0102  PortRead       u32 id     u16 port      u32 size
+ *   0x0103  PortWrite      u32 id     u16 port      u32 size  u32 value
+ *   0x0104  DiskRead       u32 id     u64 disk      u32 len   u64 guest
+ *   0x0105  DiskWrite      u32 id     u64 disk      u32 len   u64 guest
+ *   0x1000  Ack            u32 seq
+ *   0x1100  MmioReadResp   u32 id                                          bytes
+ *   0x1101  PortReadResp   u32 id     u32 value
+ *   0x1102  MmioWriteResp  u32 id
+ *   0x1103  PortWriteResp  u32 id
+ *   0x1104  DiskReadResp   u32 id     u8 ok         u32 bytes u32 error
+ *   0x1105  DiskWriteResp  u32 id     u8 ok         u32 bytes u32 error
+ *   0x1200  FrameReady     u64 frame
+ *   0x1300  IrqRaise       u8 irq
+ *   0x1301  IrqLower       u8 irq
+ *   0x1302  A20Set         u8 enabled
+ *   0x1303  ResetRequest
+ *   0x1400  Log            u8 level                                        UTF-8
+ *   0x1500  SerialOutput   u16 port                                        bytes
+ *   0x1FFE  Panic                                                          UTF-8
+ *   0x1FFF  TripleFault
+ */
+
+/* A message read. Unless the number is 0 there is no reading, and all behind the place is 0. The data stands in the message at data_place. */
+struct cimbrolau_message {
+    uint32_t number;
+    uint64_t place;
+    uint32_t tag;
+    uint64_t a, b, c, d;
+    uint64_t data_place, data_length;
+};
+
+struct cimbrolau_message cimbrolau_message_read(const uint8_t *message, size_t message_length);
+
+/*
+ * A message written. Before all else an unknown tag is CIMBROLAU_TAG, and a number too wide for its field, or other than 0 beside a field
+ * that is not there, is CIMBROLAU_VALUE, both at 0. Data for a kind that has none is CIMBROLAU_VALUE too.
+ */
+struct cimbrolau_answer cimbrolau_message_write(uint32_t tag, uint64_t a, uint64_t b, uint64_t c, uint64_t d, const uint8_t *data, size_t data_length, uint8_t *out, size_t out_length);
+
+#ifdef __cplusplus
+}
+#endif
+
+#endif
