@@ -100,7 +100,10 @@ fn wrapper(words: &Words) -> Result<(), Failure> {
         let Controller { address, offset, length, .. } = found;
         let (bus, device, function) = (found.bus(), found.device(), found.function());
         let tag = shown(&found.tag);
-        line(&mut text, format_args!("{address} {bus} {device} {function} {tag} {offset} {length}"));
+        line(
+            &mut text,
+            format_args!("{address} {bus} {device} {function} {tag} {offset} {length}"),
+        );
     }
     files::print(&text)
 }
@@ -149,7 +152,9 @@ fn bytes_of(hex: &OsStr) -> Result<Vec<u8>, Failure> {
     for word in text.split_ascii_whitespace() {
         for pair in word.as_bytes().chunks(2) {
             bytes.push(byte_of(pair).ok_or_else(|| {
-                Failure::Usage(format!("`--hex {text}` is not made of two hexadecimal digits for each byte"))
+                Failure::Usage(format!(
+                    "`--hex {text}` is not made of two hexadecimal digits for each byte"
+                ))
             })?);
         }
     }

@@ -29,7 +29,9 @@ impl Failure {
     /// A fault of the command line, told with the command that it was given to.
     pub fn of_command(self, name: &str) -> Failure {
         match self {
-            Failure::Usage(fault) => Failure::Usage(format!("{name}: {fault}; see `cim {name} --help`")),
+            Failure::Usage(fault) => {
+                Failure::Usage(format!("{name}: {fault}; see `cim {name} --help`"))
+            }
             other => other,
         }
     }

@@ -41,7 +41,9 @@ pub fn read(name: &OsStr, most: u64) -> Result<Vec<u8>, Failure> {
             bytes.reserve_exact(expected as usize + 1);
             file.take(most + 1).read_to_end(&mut bytes)
         })
-        .map_err(|error| Failure::io(format!("cannot read {}", Path::new(name).display()), error))?;
+        .map_err(|error| {
+            Failure::io(format!("cannot read {}", Path::new(name).display()), error)
+        })?;
     Ok(bytes)
 }
 
@@ -111,7 +113,9 @@ impl New {
             let path = folder.join(format!(".cim-{}-{attempt}.part", std::process::id()));
             match OpenOptions::new().write(true).create_new(true).open(&path) {
                 Ok(file) => return Ok(New { path, file, taken: false }),
-                Err(error) if error.kind() == io::ErrorKind::AlreadyExists && attempt < 99 => attempt += 1,
+                Err(error) if error.kind() == io::ErrorKind::AlreadyExists && attempt < 99 => {
+                    attempt += 1
+                }
                 Err(error) => return Err(error),
             }
         }

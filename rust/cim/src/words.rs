@@ -56,12 +56,10 @@ impl Words {
     /// The number of an option that has to be given: decimal, or hexadecimal behind 0x.
     pub fn number(&self, name: &str, most: u32) -> Result<u32, Failure> {
         let value = self.needed(name)?;
-        number_of(value)
-            .filter(|number| *number <= most)
-            .ok_or_else(|| {
-                let word = value.to_string_lossy();
-                Failure::Usage(format!("`{name} {word}` is no number from 0 to {most}"))
-            })
+        number_of(value).filter(|number| *number <= most).ok_or_else(|| {
+            let word = value.to_string_lossy();
+            Failure::Usage(format!("`{name} {word}` is no number from 0 to {most}"))
+        })
     }
 }
 

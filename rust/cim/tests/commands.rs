@@ -39,7 +39,8 @@ fn put(folder: &Path, name: &str, bytes: &[u8]) -> PathBuf {
 
 /// The names of what stands in a folder, sorted.
 fn names(folder: &Path) -> Vec<String> {
-    let name = |entry: std::io::Result<fs::DirEntry>| entry.unwrap().file_name().into_string().unwrap();
+    let name =
+        |entry: std::io::Result<fs::DirEntry>| entry.unwrap().file_name().into_string().unwrap();
     let mut names: Vec<String> = fs::read_dir(folder).unwrap().map(name).collect();
     names.sort();
     names
@@ -102,7 +103,8 @@ fn list_prints_the_listing_of_document_01() {
     let at = folder("list");
     put(&at, "good", TWO_DEVICES);
     put(&at, "bad", &key_again());
-    let listing = "id version flags offset length\n4 1 0 32 39\ndevice 3 1 0 69 2\ndevice 14 1 0 52 1\n";
+    let listing =
+        "id version flags offset length\n4 1 0 32 39\ndevice 3 1 0 69 2\ndevice 14 1 0 52 1\n";
     prints(run(&at, &["list", "good"]), listing);
     prints(fed(&at, &["list", "-"], TWO_DEVICES), listing);
     fails(run(&at, &["list", "bad"]), "refused 13 KEY at 53: key again\n", 1);
@@ -141,10 +143,8 @@ fn the_sample_is_listed_in_key_order() {
     put(&at, "panel", &panel::panel());
     let output = run(&at, &["list", "panel"]);
     let listing = String::from_utf8(output.stdout).unwrap();
-    let starts: Vec<String> = listing
-        .lines()
-        .map(|line| line.split(' ').take(3).collect::<Vec<_>>().join(" "))
-        .collect();
+    let starts: Vec<String> =
+        listing.lines().map(|line| line.split(' ').take(3).collect::<Vec<_>>().join(" ")).collect();
     assert_eq!(
         starts,
         [
@@ -171,7 +171,8 @@ fn canon_writes_the_canonical_form() {
     let at = folder("canon");
     put(&at, "in", TWO_DEVICES);
     prints(run(&at, &["canon", "in", "out"]), "71 bytes written to out\n");
-    let listing = "id version flags offset length\n4 1 0 32 39\ndevice 3 1 0 52 2\ndevice 14 1 0 70 1\n";
+    let listing =
+        "id version flags offset length\n4 1 0 32 39\ndevice 3 1 0 52 2\ndevice 14 1 0 70 1\n";
     prints(run(&at, &["list", "out"]), listing);
     assert_eq!(names(&at), ["in", "out"]);
 
@@ -196,7 +197,19 @@ fn adds_in_any_order_end_in_the_same_bytes() {
     put(&at, "p14", &[0x11]);
     put(&at, "p3", &[0xAB, 0xCD]);
     let device = |from: &str, to: &str, id: &str, payload: &str| {
-        let words = ["add-device", from, to, "--id", id, "--version", "1", "--flags", "0", "--payload", payload];
+        let words = [
+            "add-device",
+            from,
+            to,
+            "--id",
+            id,
+            "--version",
+            "1",
+            "--flags",
+            "0",
+            "--payload",
+            payload,
+        ];
         assert_eq!(run(&at, &words).status.code(), Some(0));
     };
     let disk = |from: &str, to: &str| {
@@ -225,7 +238,19 @@ fn adds_are_refused_as_the_library_refuses() {
     put(&at, "payload", b"x");
     let have = "refused 17 HAVE at 0: added key is there\n";
     let device = |file: &str, id: &str| {
-        let words = ["add-device", file, "out", "--id", id, "--version", "1", "--flags", "0", "--payload", "payload"];
+        let words = [
+            "add-device",
+            file,
+            "out",
+            "--id",
+            id,
+            "--version",
+            "1",
+            "--flags",
+            "0",
+            "--payload",
+            "payload",
+        ];
         run(&at, &words)
     };
     fails(device("in", "3"), have, 1);
@@ -250,14 +275,27 @@ fn an_add_can_take_its_file_or_its_payload_from_standard_input() {
     put(&at, "none", &TWO_DEVICES[..16]);
     put(&at, "payload", b"xy");
     let words = |file, payload| {
-        ["add-device", file, "-", "--id", "1", "--version", "1", "--flags", "0", "--payload", payload]
+        [
+            "add-device",
+            file,
+            "-",
+            "--id",
+            "1",
+            "--version",
+            "1",
+            "--flags",
+            "0",
+            "--payload",
+            payload,
+        ]
     };
     let one = fed(&at, &words("-", "payload"), &TWO_DEVICES[..16]);
     let other = fed(&at, &words("none", "-"), b"xy");
     assert_eq!(one.stdout.len(), 54);
     assert_eq!(one.stdout, other.stdout);
     let both = run(&at, &words("-", "-"));
-    let told = "cim: add-device: only one input can be standard input; see `cim add-device --help`\n";
+    let told =
+        "cim: add-device: only one input can be standard input; see `cim add-device --help`\n";
     fails(both, told, 2);
 }
 
@@ -296,7 +334,11 @@ fn what_is_no_file_or_is_read_only_is_not_replaced() {
     let mut permissions = fs::metadata(&kept).unwrap().permissions();
     permissions.set_readonly(true);
     fs::set_permissions(&kept, permissions).unwrap();
-    fails(run(&at, &["canon", "in", "kept"]), "cim: cannot write kept: it is there, and read-only\n", 3);
+    fails(
+        run(&at, &["canon", "in", "kept"]),
+        "cim: cannot write kept: it is there, and read-only\n",
+        3,
+    );
     assert_eq!(fs::read(&kept).unwrap(), b"old");
     assert_eq!(names(&at), ["folder", "in", "kept"]);
 }
@@ -326,7 +368,11 @@ fn cut_short(at: &Path, guard: &str) -> Output {
     put(at, "in", &file);
     put(at, "out", b"old");
     Command::new("sh")
-        .args(["-c", &format!("{guard} ulimit -f 8; exec \"$0\" canon in out"), env!("CARGO_BIN_EXE_cim")])
+        .args([
+            "-c",
+            &format!("{guard} ulimit -f 8; exec \"$0\" canon in out"),
+            env!("CARGO_BIN_EXE_cim"),
+        ])
         .current_dir(at)
         .output()
         .unwrap()
@@ -372,7 +418,11 @@ fn an_output_with_no_room_is_told() {
     put(&at, "in", TWO_DEVICES);
     let full = fs::OpenOptions::new().write(true).open("/dev/full").unwrap();
     let output = cim(&at).args(["list", "in"]).stdout(full).output().unwrap();
-    fails(output, "cim: cannot write to standard output: No space left on device (os error 28)\n", 3);
+    fails(
+        output,
+        "cim: cannot write to standard output: No space left on device (os error 28)\n",
+        3,
+    );
 }
 
 // ---- wrappers and messages
@@ -454,7 +504,19 @@ fn a_command_line_that_is_not_understood_is_told() {
     usage(&wide, &format!("add-disk: `--id 4294967296` is no number from 0 to 4294967295; {see}"));
     let again = [&disk[..], &["1", "--id", "1"]].concat();
     usage(&again, &format!("add-disk: `--id` is given twice; {see}"));
-    let device = ["add-device", "a", "b", "--id", "1", "--version", "65536", "--flags", "0", "--payload", "p"];
+    let device = [
+        "add-device",
+        "a",
+        "b",
+        "--id",
+        "1",
+        "--version",
+        "65536",
+        "--flags",
+        "0",
+        "--payload",
+        "p",
+    ];
     usage(
         &device,
         "add-device: `--version 65536` is no number from 0 to 65535; see `cim add-device --help`",

@@ -19,10 +19,10 @@
 //! # Ok::<(), cimbrolau::Refusal>(())
 //! ```
 //!
-//! - [`snapshot`]: snapshot files
-//! - [`wrapper`]: disk-controller wrappers
-//! - [`Message`]: messages
-//! - [`raw`]: the calls as the library has them, over lent buffers
+//! - [`snapshot`][]: snapshot files
+//! - [`wrapper`][]: disk-controller wrappers
+//! - [`Message`][]: messages
+//! - [`raw`][]: the calls as the library has them, over lent buffers
 
 #![deny(missing_docs)]
 #![deny(unsafe_code)]

@@ -101,13 +101,17 @@ pub enum Message<'a> {
     TripleFault,
 }
 
-/// A message as the library takes it: the tag, the four numbers (0 where there is none), the data; and what people call them.
-struct Row<'a> {
+/// A row of the protocol's table, filled: the tag and the numbers as the library takes them (0 where there is none), and
+/// what people call them. Where there are fewer names than numbers, the others are not there.
+struct Row {
     tag: u16,
     name: &'static str,
     fields: &'static [&'static str],
     numbers: [u64; 4],
-    data: &'a [u8],
+}
+
+fn row(tag: u16, name: &'static str, fields: &'static [&'static str], numbers: [u64; 4]) -> Row {
+    Row { tag, name, fields, numbers }
 }
 
 impl<'a> Message<'a> {
@@ -220,76 +224,77 @@ impl<'a> Message<'a> {
     }
 
     fn written(&self, out: &mut [u8]) -> raw::Answer {
-        let Row { tag, numbers: [a, b, c, d], data, .. } = self.row();
-        raw::message_write(u32::from(tag), a, b, c, d, data, out)
+        let Row { tag, numbers: [a, b, c, d], .. } = self.row();
+        raw::message_write(u32::from(tag), a, b, c, d, self.data().unwrap_or(&[]), out)
     }
 
-    fn row(&self) -> Row<'a> {
-        let (tag, name, fields, numbers) = self.heading();
-        Row { tag, name, fields, numbers, data: self.data().unwrap_or(&[]) }
-    }
-
-    /// The row of the protocol's table that the message fills: tag, name, names of the numbers, numbers.
-    fn heading(&self) -> (u16, &'static str, &'static [&'static str], [u64; 4]) {
+    /// The row of the protocol's table that the message fills.
+    fn row(&self) -> Row {
         match *self {
-            Message::Nop { seq } => (0x0000, "Nop", &["seq"], [seq.into(), 0, 0, 0]),
-            Message::Shutdown => (0x0001, "Shutdown", &[], [0; 4]),
+            Message::Nop { seq } => row(0x0000, "Nop", &["seq"], [seq.into(), 0, 0, 0]),
+            Message::Shutdown => row(0x0001, "Shutdown", &[], [0; 4]),
             Message::MmioRead { id, addr, size } => {
-                (0x0100, "MmioRead", &["id", "addr", "size"], [id.into(), addr, size.into(), 0])
+                row(0x0100, "MmioRead", &["id", "addr", "size"], [id.into(), addr, size.into(), 0])
             }
             Message::MmioWrite { id, addr, .. } => {
-                (0x0101, "MmioWrite", &["id", "addr"], [id.into(), addr, 0, 0])
+                row(0x0101, "MmioWrite", &["id", "addr"], [id.into(), addr, 0, 0])
             }
             Message::PortRead { id, port, size } => {
                 let numbers = [id.into(), port.into(), size.into(), 0];
-                (0x0102, "PortRead", &["id", "port", "size"], numbers)
+                row(0x0102, "PortRead", &["id", "port", "size"], numbers)
             }
             Message::PortWrite { id, port, size, value } => {
                 let numbers = [id.into(), port.into(), size.into(), value.into()];
-                (0x0103, "PortWrite", &["id", "port", "size", "value"], numbers)
+                row(0x0103, "PortWrite", &["id", "port", "size", "value"], numbers)
             }
-            Message::DiskRead { id, disk_offset, len, guest_offset } => {
-                (0x0104, "DiskRead", TRANSFER, [id.into(), disk_offset, len.into(), guest_offset])
-            }
-            Message::DiskWrite { id, disk_offset, len, guest_offset } => {
-                (0x0105, "DiskWrite", TRANSFER, [id.into(), disk_offset, len.into(), guest_offset])
-            }
-            Message::Ack { seq } => (0x1000, "Ack", &["seq"], [seq.into(), 0, 0, 0]),
+            Message::DiskRead { id, disk_offset, len, guest_offset } => row(
+                0x0104,
+                "DiskRead",
+                TRANSFER,
+                [id.into(), disk_offset, len.into(), guest_offset],
+            ),
+            Message::DiskWrite { id, disk_offset, len, guest_offset } => row(
+                0x0105,
+                "DiskWrite",
+                TRANSFER,
+                [id.into(), disk_offset, len.into(), guest_offset],
+            ),
+            Message::Ack { seq } => row(0x1000, "Ack", &["seq"], [seq.into(), 0, 0, 0]),
             Message::MmioReadResp { id, .. } => {
-                (0x1100, "MmioReadResp", &["id"], [id.into(), 0, 0, 0])
+                row(0x1100, "MmioReadResp", &["id"], [id.into(), 0, 0, 0])
             }
             Message::PortReadResp { id, value } => {
-                (0x1101, "PortReadResp", &["id", "value"], [id.into(), value.into(), 0, 0])
+                row(0x1101, "PortReadResp", &["id", "value"], [id.into(), value.into(), 0, 0])
             }
             Message::MmioWriteResp { id } => {
-                (0x1102, "MmioWriteResp", &["id"], [id.into(), 0, 0, 0])
+                row(0x1102, "MmioWriteResp", &["id"], [id.into(), 0, 0, 0])
             }
             Message::PortWriteResp { id } => {
-                (0x1103, "PortWriteResp", &["id"], [id.into(), 0, 0, 0])
+                row(0x1103, "PortWriteResp", &["id"], [id.into(), 0, 0, 0])
             }
             Message::DiskReadResp { id, bytes, error } => {
                 let (fields, numbers) = response(id, bytes, error);
-                (0x1104, "DiskReadResp", fields, numbers)
+                row(0x1104, "DiskReadResp", fields, numbers)
             }
             Message::DiskWriteResp { id, bytes, error } => {
                 let (fields, numbers) = response(id, bytes, error);
-                (0x1105, "DiskWriteResp", fields, numbers)
+                row(0x1105, "DiskWriteResp", fields, numbers)
             }
             Message::FrameReady { frame_id } => {
-                (0x1200, "FrameReady", &["frame_id"], [frame_id, 0, 0, 0])
+                row(0x1200, "FrameReady", &["frame_id"], [frame_id, 0, 0, 0])
             }
-            Message::IrqRaise { irq } => (0x1300, "IrqRaise", &["irq"], [irq.into(), 0, 0, 0]),
-            Message::IrqLower { irq } => (0x1301, "IrqLower", &["irq"], [irq.into(), 0, 0, 0]),
+            Message::IrqRaise { irq } => row(0x1300, "IrqRaise", &["irq"], [irq.into(), 0, 0, 0]),
+            Message::IrqLower { irq } => row(0x1301, "IrqLower", &["irq"], [irq.into(), 0, 0, 0]),
             Message::A20Set { enabled } => {
-                (0x1302, "A20Set", &["enabled"], [enabled.into(), 0, 0, 0])
+                row(0x1302, "A20Set", &["enabled"], [enabled.into(), 0, 0, 0])
             }
-            Message::ResetRequest => (0x1303, "ResetRequest", &[], [0; 4]),
-            Message::Log { level, .. } => (0x1400, "Log", &["level"], [level as u64, 0, 0, 0]),
+            Message::ResetRequest => row(0x1303, "ResetRequest", &[], [0; 4]),
+            Message::Log { level, .. } => row(0x1400, "Log", &["level"], [level as u64, 0, 0, 0]),
             Message::SerialOutput { port, .. } => {
-                (0x1500, "SerialOutput", &["port"], [port.into(), 0, 0, 0])
+                row(0x1500, "SerialOutput", &["port"], [port.into(), 0, 0, 0])
             }
-            Message::Panic { .. } => (0x1FFE, "Panic", &[], [0; 4]),
-            Message::TripleFault => (0x1FFF, "TripleFault", &[], [0; 4]),
+            Message::Panic { .. } => row(0x1FFE, "Panic", &[], [0; 4]),
+            Message::TripleFault => row(0x1FFF, "TripleFault", &[], [0; 4]),
         }
     }
 }

@@ -245,7 +245,13 @@ pub fn canonical(file: &[u8]) -> Result<Vec<u8>> {
 /// assert_eq!(refusal.kind, Kind::Have);
 /// # Ok::<(), cimbrolau::Refusal>(())
 /// ```
-pub fn add_device(file: &[u8], id: u32, version: u16, flags: u16, payload: &[u8]) -> Result<Vec<u8>> {
+pub fn add_device(
+    file: &[u8],
+    id: u32,
+    version: u16,
+    flags: u16,
+    payload: &[u8],
+) -> Result<Vec<u8>> {
     filled(|out| raw::add_device(file, id, version, flags, payload, out))
 }
 
