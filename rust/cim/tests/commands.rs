@@ -141,27 +141,11 @@ fn the_sample_is_what_its_generator_makes() {
 fn the_sample_is_listed_in_key_order() {
     let at = folder("sample");
     put(&at, "panel", &panel::panel());
-    let output = run(&at, &["list", "panel"]);
-    let listing = String::from_utf8(output.stdout).unwrap();
-    let starts: Vec<String> =
-        listing.lines().map(|line| line.split(' ').take(3).collect::<Vec<_>>().join(" ")).collect();
-    assert_eq!(
-        starts,
-        [
-            "id version flags",
-            "4096 7 1",
-            "6 1 0",
-            "4 1 0",
-            "5 1 0",
-            "1 1 0",
-            "device 3 0",
-            "device 3 1",
-            "device 14 1",
-            "device 256 1",
-            "disk 1 323",
-            "disk 2 288"
-        ]
-    );
+    let listing = "id version flags offset length\n\
+        4096 7 1 32 14\n6 1 0 62 64\n4 1 0 142 120\n5 1 0 278 80\n1 1 0 374 50\n\
+        device 3 0 0 260 2\ndevice 3 1 0 242 2\ndevice 14 1 0 225 1\ndevice 256 1 0 162 47\n\
+        disk 1 326 9 19\ndisk 2 290 24 0\n";
+    prints(run(&at, &["list", "panel"]), listing);
 }
 
 // ---- writing
