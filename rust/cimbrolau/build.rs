@@ -1,10 +1,12 @@
 //! Finds the proved library, which `rt staticlib cimbrolau` writes to the repository's `target/staticlib`.
 
+use std::env::var_os;
 use std::path::PathBuf;
 use std::process::exit;
 
 fn main() {
-    let folder = PathBuf::from(env!("CARGO_MANIFEST_DIR")).join("../../target/staticlib");
+    let here = PathBuf::from(var_os("CARGO_MANIFEST_DIR").expect("cargo says where the crate is"));
+    let folder = here.join("../../target/staticlib");
     let archive = folder.join("libcimbrolau.a");
     println!("cargo:rerun-if-changed=build.rs");
     println!("cargo:rerun-if-changed={}", archive.display());
