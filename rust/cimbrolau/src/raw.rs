@@ -6,6 +6,8 @@
 //! Use it where a buffer is at hand and nothing should be allocated; [`crate::snapshot`], [`crate::wrapper`] and
 //! [`crate::Message`] stand on it and are easier to use.
 
+use std::mem::size_of;
+
 /// What a call answers: number 0 and the bytes written, or the number of a refusal and its place.
 #[repr(C)]
 #[derive(Clone, Copy, Debug, PartialEq, Eq)]
@@ -39,6 +41,9 @@ pub struct Numbers {
     /// How many bytes of data there are.
     pub data_length: u64,
 }
+
+// What the library answers with, by value: these are its sizes on x86-64, the one machine that it is made for.
+const _: () = assert!(size_of::<Answer>() == 16 && size_of::<Numbers>() == 72);
 
 /// The library's own functions. A slice is lent as a pointer and a length, for the time of the call.
 mod c {
