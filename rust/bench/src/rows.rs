@@ -87,8 +87,8 @@ fn counts(tell: Tell) {
             let input = format!("{count} {devices} {}", order.name());
             file_rows(Case { file: &file, input, reading, writing: 1.2 }, tell);
         }
-        let file = inputs::disks(256, order);
-        let input = format!("256 disks {}", order.name());
+        let file = inputs::disks(255, order);
+        let input = format!("255 disks {}", order.name());
         disk_rows(Case { file: &file, input, reading, writing: 1.2 }, tell);
     }
 }
@@ -108,9 +108,17 @@ fn file_rows(case: Case, tell: Tell) {
     ));
 }
 
+/// Check, table, canonical form, and one disk more.
 fn disk_rows(case: Case, tell: Tell) {
     tell(reading_row("check", &case, |file, _| raw::check(file), |file, _| reference::check(file)));
     tell(reading_row("disks", &case, raw::disks, reference::disks));
+    tell(writing_row("canonical", &case, raw::canonical, reference::canonical));
+    tell(writing_row(
+        "add_disk",
+        &case,
+        |file, out| raw::add_disk(file, 0, b"images/added.img", b"", out),
+        |file, out| reference::add_disk(file, 0, b"images/added.img", b"", out),
+    ));
 }
 
 fn reading_row(
