@@ -60,12 +60,15 @@ pub fn controls() -> (f64, f64) {
 
 /// Files from the smallest to a large one.
 fn sizes(tell: Tell) {
-    for (size, name) in [(16, "16 B"), (1024, "1 KiB"), (32 << 10, "32 KiB"), (MIB, "1 MiB")] {
+    let small = [
+        (16, "16 B, no section"),
+        (1024, "1 KiB, RAM"),
+        (32 << 10, "32 KiB, RAM"),
+        (MIB, "1 MiB, RAM"),
+    ];
+    for (size, name) in small {
         let file = inputs::ram(size);
-        file_rows(
-            Case { file: &file, input: format!("{name}, RAM"), reading: 1.25, writing: 1.2 },
-            tell,
-        );
+        file_rows(Case { file: &file, input: name.to_string(), reading: 1.25, writing: 1.2 }, tell);
     }
     for size in [16, 256] {
         let file = inputs::ram(size * MIB);
