@@ -1,0 +1,141 @@
+//! The inputs that are measured: files of a size, lists of a length in an order, texts.
+
+/// In which order of their keys the entries of a list stand.
+#[derive(Clone, Copy, PartialEq, Eq)]
+pub enum Order {
+    Ascending,
+    Random,
+    Descending,
+}
+
+impl Order {
+    pub const ALL: [Order; 3] = [Order::Ascending, Order::Random, Order::Descending];
+
+    pub fn name(self) -> &'static str {
+        match self {
+            Order::Ascending => "ascending",
+            Order::Random => "random",
+            Order::Descending => "descending",
+        }
+    }
+
+    /// The ids 1 to `count` in this order.
+    fn ids(self, count: u32) -> Vec<u32> {
+        let mut ids: Vec<u32> = (1..=count).collect();
+        match self {
+            Order::Ascending => (),
+            Order::Random => shuffle(&mut ids),
+            Order::Descending => ids.reverse(),
+        }
+        ids
+    }
+}
+
+/// Shuffles, in the same way at each run.
+fn shuffle(ids: &mut [u32]) {
+    let mut state = 15u64;
+    for i in (1..ids.len()).rev() {
+        state = state.wrapping_mul(6364136223846793005).wrapping_add(1442695040888963407);
+        ids.swap(i, (state >> 33) as usize % (i + 1));
+    }
+}
+
+const META: u32 = 1;
+const DEVICES: u32 = 4;
+const DISKS: u32 = 5;
+const RAM: u32 = 6;
+
+/// A file of these sections, each an id and a payload.
+fn file(sections: &[(u32, Vec<u8>)]) -> Vec<u8> {
+    let mut file = cimbrolau::snapshot::EMPTY.to_vec();
+    for (id, payload) in sections {
+        framed(&mut file, *id, payload);
+    }
+    file
+}
+
+/// A section or a device: id, version 1, flags 0, length, payload.
+fn framed(bytes: &mut Vec<u8>, id: u32, payload: &[u8]) {
+    bytes.extend(id.to_le_bytes());
+    bytes.extend([1, 0, 0, 0]);
+    bytes.extend((payload.len() as u64).to_le_bytes());
+    bytes.extend(payload);
+}
+
+/// A file of `size` bytes that is nearly all RAM, with a label, two devices and a disk where there is room for them.
+pub fn ram(size: usize) -> Vec<u8> {
+    let small = file(&[(META, meta()), (DEVICES, device_list(&[2, 1], 8)), (DISKS, one_disk())]);
+    if size < small.len() + 16 {
+        return cimbrolau::snapshot::EMPTY.to_vec();
+    }
+    let mut file = small;
+    let rest = size - file.len() - 16;
+    framed(&mut file, RAM, &vec![0xA5; rest]);
+    file
+}
+
+fn meta() -> Vec<u8> {
+    let mut payload = vec![0; 8 + 1 + 8];
+    payload.push(1);
+    payload.extend(20u32.to_le_bytes());
+    payload.extend(b"heating panel, night");
+    payload
+}
+
+fn one_disk() -> Vec<u8> {
+    let mut list = 1u32.to_le_bytes().to_vec();
+    disk(&mut list, 1, b"panel.img");
+    list
+}
+
+fn disk(list: &mut Vec<u8>, id: u32, base: &[u8]) {
+    list.extend(id.to_le_bytes());
+    list.extend((base.len() as u32).to_le_bytes());
+    list.extend(base);
+    list.extend(0u32.to_le_bytes());
+}
+
+fn device_list(ids: &[u32], payload: usize) -> Vec<u8> {
+    let mut list = (ids.len() as u32).to_le_bytes().to_vec();
+    for id in ids {
+        framed(&mut list, *id, &vec![0x5A; payload]);
+    }
+    list
+}
+
+/// A file with `count` devices of `payload` bytes each.
+pub fn devices(count: u32, payload: usize, order: Order) -> Vec<u8> {
+    file(&[(DEVICES, device_list(&order.ids(count), payload))])
+}
+
+/// A file with `count` disks, each with a base image's name and no overlay.
+pub fn disks(count: u32, order: Order) -> Vec<u8> {
+    let mut list = count.to_le_bytes().to_vec();
+    for id in order.ids(count) {
+        disk(&mut list, id, b"images/panel-base.img");
+    }
+    file(&[(DISKS, list)])
+}
+
+/// A text of up to `size` bytes: this one, again and again, in whole characters.
+pub fn text(sample: &str, size: usize) -> String {
+    let mut text = String::new();
+    for character in sample.chars().cycle() {
+        if text.len() + character.len_utf8() > size {
+            return text;
+        }
+        text.push(character);
+    }
+    text
+}
+
+pub const ASCII: &str = "tank 15 level 3840, pump 2 on, valve 7 closed. ";
+pub const MIXED: &str = "Vorlauf 65 °C, température 温度 ➜ 🔥 ok; ";
+
+/// A Panic message with this text.
+pub fn panic(text: &str) -> Vec<u8> {
+    let mut message = 0x1FFEu16.to_le_bytes().to_vec();
+    message.extend((text.len() as u32).to_le_bytes());
+    message.extend(text.as_bytes());
+    message
+}

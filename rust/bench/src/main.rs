@@ -1,0 +1,74 @@
+//! Measures the proved library beside the reference, `memcpy` and `from_utf8`, and prints a table of ratios.
+//!
+//! It fails if the library's copy is no longer a `memmove`, or if the library and the reference answer differently.
+//! A ratio over its target is told, and is no failure: times depend on the machine.
+
+mod contest;
+mod disassembly;
+mod inputs;
+mod rows;
+
+use rows::Row;
+use std::process::ExitCode;
+
+fn main() -> ExitCode {
+    match disassembly::copy_is_memmove() {
+        Ok(found) => println!("The library's copy is a `memmove`: {found}.\n"),
+        Err(fault) => {
+            eprintln!("{fault}");
+            return ExitCode::FAILURE;
+        }
+    }
+    println!("{}\n", machine());
+    let (check, canonical) = rows::controls();
+    println!("Control, the reference beside itself: check {check:.2}, canonical {canonical:.2}\n");
+    println!("| call | input | library | peer | ratio | target | | of memcpy |");
+    println!("|---|---|---:|---:|---:|---:|---|---:|");
+    let (mut met, mut missed) = (0, Vec::new());
+    rows::all(&mut |row| {
+        println!("{}", line(&row));
+        if row.met() {
+            met += 1;
+        } else {
+            missed.push(format!(
+                "- {}, {}: {:.2}, target {}",
+                row.call, row.input, row.ratio, row.target
+            ));
+        }
+    });
+    println!("\n{met} targets met, {} not met; load {} at the end", missed.len(), load());
+    missed.iter().for_each(|row| println!("{row}"));
+    ExitCode::SUCCESS
+}
+
+fn line(row: &Row) -> String {
+    let Row { call, input, peer, ratio, target, .. } = row;
+    let (library, other) = (time(row.library), time(row.other));
+    let verdict = if row.met() { "met" } else { "not met" };
+    let of_memcpy = row.of_memcpy.map_or(String::new(), |ratio| format!("{ratio:.2}"));
+    format!("| {call} | {input} | {library} | {other} ({peer}) | {ratio:.2} | {target} | {verdict} | {of_memcpy} |")
+}
+
+/// A time in a unit that suits it.
+fn time(nanoseconds: f64) -> String {
+    match nanoseconds {
+        n if n < 1e3 => format!("{n:.1} ns"),
+        n if n < 1e6 => format!("{:.1} µs", n / 1e3),
+        n => format!("{:.1} ms", n / 1e6),
+    }
+}
+
+/// The processor, its cores, and how busy they are.
+fn machine() -> String {
+    let about = std::fs::read_to_string("/proc/cpuinfo").unwrap_or_default();
+    let model = about.lines().find_map(|line| line.strip_prefix("model name")).unwrap_or("unknown");
+    let cores = std::thread::available_parallelism().map_or(1, |n| n.get());
+    let model = model.trim_matches([' ', '\t', ':']);
+    format!("{model}, {cores} cores, load {} at the start", load())
+}
+
+/// The mean number of busy processes over the last minute.
+fn load() -> String {
+    let load = std::fs::read_to_string("/proc/loadavg").unwrap_or_default();
+    load.split(' ').next().unwrap_or("unknown").to_string()
+}

@@ -1,0 +1,93 @@
+//! What `--help` prints.
+
+pub const VERSION: &str = concat!("cim ", env!("CARGO_PKG_VERSION"), "\n");
+
+pub const ALL: &str = "\
+cim: checks, lists and writes AEROSNAP snapshots, and reads DSKC wrappers and AIPC messages
+
+  cim check FILE                      whether a snapshot follows the rules
+  cim list FILE                       its sections, devices and disks
+  cim canon FILE OUT                  write its canonical form
+  cim add-device FILE OUT --id N --version N --flags N --payload FILE
+                                      write it with one device more
+  cim add-disk FILE OUT --id N --base TEXT --overlay TEXT
+                                      write it with one disk more
+  cim wrapper FILE                    the controllers of a disk-controller wrapper
+  cim message FILE | --hex BYTES      what a message says
+  cim COMMAND --help                  more about a command
+  cim --version
+
+`-` is standard input or standard output. An output is written beside its target and renamed once it
+is on the disk: the target is the old file or the new one, whole.
+
+Status: 0 done; 1 refused, with the refusal on standard error as `refused NUMBER NAME at PLACE: WHY`;
+2 a command line that is not understood; 3 a file that cannot be read or written.
+";
+
+pub const CHECK: &str = "\
+cim check FILE
+
+Prints `taken` if the snapshot follows the rules. Else it is refused with its first fault: the number
+and the name of the refusal, and the byte at which it stands.
+
+  refused 13 KEY at 53: key again
+";
+
+pub const LIST: &str = "\
+cim list FILE
+
+Prints a heading and a line for each section, in the order of the file; then a line for each device,
+in the order of their keys, and for each disk, in the order of their ids. Numbers are decimal, offsets
+count from the start of the file.
+
+  id version flags offset length
+  device ID VERSION FLAGS OFFSET LENGTH
+  disk ID BASE-OFFSET BASE-LENGTH OVERLAY-LENGTH
+
+The whole file is checked first; a refused file prints no line.
+";
+
+pub const CANON: &str = "\
+cim canon FILE OUT
+
+Writes the canonical form of the snapshot FILE to OUT: the known sections in ascending id, then the
+others as found; devices, disks, CPUs and MMUs in the order of their keys; lists with no entry left
+out. OUT may be FILE. A refused file writes nothing.
+";
+
+pub const ADD_DEVICE: &str = "\
+cim add-device FILE OUT --id N --version N --flags N --payload FILE
+
+Writes the canonical form of the snapshot with one device more to OUT, which may be FILE. The key of a
+device is its id, version and flags; one that is there already is refused as HAVE. Numbers are decimal,
+or hexadecimal behind 0x: the id up to 4294967295, version and flags up to 65535.
+";
+
+pub const ADD_DISK: &str = "\
+cim add-disk FILE OUT --id N --base TEXT --overlay TEXT
+
+Writes the canonical form of the snapshot with one disk more to OUT, which may be FILE. The texts name
+the base and the overlay image; either may be empty (''). A disk that is there already is refused as
+HAVE. The id is decimal, or hexadecimal behind 0x, up to 4294967295.
+";
+
+pub const WRAPPER: &str = "\
+cim wrapper FILE
+
+Checks a disk-controller wrapper and prints a heading and a line for each controller, in the order of
+their addresses. Offsets count from the start of the wrapper. Bytes of a tag that are no letters are
+shown as \\x20.
+
+  address bus device function tag offset length
+";
+
+pub const MESSAGE: &str = "\
+cim message FILE
+cim message --hex BYTES
+
+Prints the kind of the message and its numbers by name. Data is named by its place and its length; the
+text of Log and Panic is shown behind that.
+
+  cim message --hex '01 11 07 00 00 00 0F 00 00 00'
+  PortReadResp id 7 value 15
+";

@@ -1,0 +1,524 @@
+//! Runs `cim` as a person would: every command, its refusals and statuses, and what is left of files when it fails.
+
+#[allow(dead_code)]
+#[path = "../examples/panel.rs"]
+mod panel;
+
+use std::fs;
+use std::io::Write;
+use std::path::{Path, PathBuf};
+use std::process::{Command, Output, Stdio};
+
+/// Document 01's example P4: two devices, saved in descending order of their keys.
+const TWO_DEVICES: &[u8] = b"AEROSNAP\x01\x00\x01\x00\x00\x00\x00\x00\
+    \x04\x00\x00\x00\x01\x00\x00\x00\x27\x00\x00\x00\x00\x00\x00\x00\
+    \x02\x00\x00\x00\
+    \x0E\x00\x00\x00\x01\x00\x00\x00\x01\x00\x00\x00\x00\x00\x00\x00\x11\
+    \x03\x00\x00\x00\x01\x00\x00\x00\x02\x00\x00\x00\x00\x00\x00\x00\xAB\xCD";
+
+/// P6: P4 with both keys (3, 1, 0).
+fn key_again() -> Vec<u8> {
+    let mut file = TWO_DEVICES.to_vec();
+    file[36] = 3;
+    file
+}
+
+/// A folder of its own for one test, empty.
+fn folder(test: &str) -> PathBuf {
+    let folder = Path::new(env!("CARGO_TARGET_TMPDIR")).join(test);
+    let _ = fs::remove_dir_all(&folder);
+    fs::create_dir_all(&folder).unwrap();
+    folder
+}
+
+fn put(folder: &Path, name: &str, bytes: &[u8]) -> PathBuf {
+    let path = folder.join(name);
+    fs::write(&path, bytes).unwrap();
+    path
+}
+
+/// The names of what stands in a folder, sorted.
+fn names(folder: &Path) -> Vec<String> {
+    let name =
+        |entry: std::io::Result<fs::DirEntry>| entry.unwrap().file_name().into_string().unwrap();
+    let mut names: Vec<String> = fs::read_dir(folder).unwrap().map(name).collect();
+    names.sort();
+    names
+}
+
+fn cim(folder: &Path) -> Command {
+    let mut command = Command::new(env!("CARGO_BIN_EXE_cim"));
+    command.current_dir(folder);
+    command
+}
+
+fn run(folder: &Path, words: &[&str]) -> Output {
+    cim(folder).args(words).output().unwrap()
+}
+
+/// Runs with `input` on standard input.
+fn fed(folder: &Path, words: &[&str], input: &[u8]) -> Output {
+    let mut child = cim(folder)
+        .args(words)
+        .stdin(Stdio::piped())
+        .stdout(Stdio::piped())
+        .stderr(Stdio::piped())
+        .spawn()
+        .unwrap();
+    child.stdin.take().unwrap().write_all(input).unwrap();
+    child.wait_with_output().unwrap()
+}
+
+#[track_caller]
+fn prints(output: Output, expected: &str) {
+    assert_eq!(String::from_utf8_lossy(&output.stderr), "");
+    assert_eq!(String::from_utf8_lossy(&output.stdout), expected);
+    assert_eq!(output.status.code(), Some(0));
+}
+
+/// Nothing on standard output, the text on standard error, the status.
+#[track_caller]
+fn fails(output: Output, expected: &str, status: i32) {
+    assert_eq!(String::from_utf8_lossy(&output.stderr), expected);
+    assert_eq!(String::from_utf8_lossy(&output.stdout), "");
+    assert_eq!(output.status.code(), Some(status));
+}
+
+// ---- check and list
+
+#[test]
+fn check_takes_or_refuses() {
+    let at = folder("check");
+    put(&at, "good", TWO_DEVICES);
+    put(&at, "bad", &key_again());
+    put(&at, "short", &TWO_DEVICES[..15]);
+    prints(run(&at, &["check", "good"]), "taken\n");
+    fails(run(&at, &["check", "bad"]), "refused 13 KEY at 53: key again\n", 1);
+    fails(run(&at, &["check", "short"]), "refused 1 SHORT at 0: under 16 bytes\n", 1);
+    prints(fed(&at, &["check", "-"], TWO_DEVICES), "taken\n");
+}
+
+#[test]
+fn list_prints_the_listing_of_document_01() {
+    let at = folder("list");
+    put(&at, "good", TWO_DEVICES);
+    put(&at, "bad", &key_again());
+    let listing =
+        "id version flags offset length\n4 1 0 32 39\ndevice 3 1 0 69 2\ndevice 14 1 0 52 1\n";
+    prints(run(&at, &["list", "good"]), listing);
+    prints(fed(&at, &["list", "-"], TWO_DEVICES), listing);
+    fails(run(&at, &["list", "bad"]), "refused 13 KEY at 53: key again\n", 1);
+}
+
+#[test]
+fn list_has_no_bound_of_its_own() {
+    let at = folder("list_long");
+    let mut file = TWO_DEVICES[..16].to_vec();
+    file.extend(b"\x06\x00\x00\x00\x01\x00\x00\x00\x00\x00\x10\x00\x00\x00\x00\x00"); // RAM, 1 MiB
+    file.resize(32 + (1 << 20), 7);
+    put(&at, "ram", &file);
+    prints(run(&at, &["list", "ram"]), "id version flags offset length\n6 1 0 32 1048576\n");
+}
+
+#[test]
+fn a_file_over_the_bound_is_refused_without_being_read_whole() {
+    let at = folder("endless");
+    let zero = || std::fs::File::open("/dev/zero").unwrap();
+    let run = |words: &[&str]| cim(&at).args(words).stdin(zero()).output().unwrap();
+    fails(run(&["wrapper", "-"]), "refused 6 SIZE at 0: too long\n", 1);
+    fails(run(&["message", "-"]), "refused 12 LIMIT at 0: count or length over its bound\n", 1);
+}
+
+// ---- the sample
+
+#[test]
+fn the_sample_is_what_its_generator_makes() {
+    let sample = Path::new(env!("CARGO_MANIFEST_DIR")).join("../../samples/panel.aerosnap");
+    assert_eq!(fs::read(sample).unwrap(), panel::panel());
+}
+
+#[test]
+fn the_sample_is_listed_in_key_order() {
+    let at = folder("sample");
+    put(&at, "panel", &panel::panel());
+    let listing = "id version flags offset length\n\
+        4096 7 1 32 14\n6 1 0 62 64\n4 1 0 142 120\n5 1 0 278 80\n1 1 0 374 50\n\
+        device 3 0 0 260 2\ndevice 3 1 0 242 2\ndevice 14 1 0 225 1\ndevice 256 1 0 162 47\n\
+        disk 1 326 9 19\ndisk 2 290 24 0\n";
+    prints(run(&at, &["list", "panel"]), listing);
+}
+
+// ---- writing
+
+#[test]
+fn canon_writes_the_canonical_form() {
+    let at = folder("canon");
+    put(&at, "in", TWO_DEVICES);
+    prints(run(&at, &["canon", "in", "out"]), "71 bytes written to out\n");
+    let listing =
+        "id version flags offset length\n4 1 0 32 39\ndevice 3 1 0 52 2\ndevice 14 1 0 70 1\n";
+    prints(run(&at, &["list", "out"]), listing);
+    assert_eq!(names(&at), ["in", "out"]);
+
+    let piped = fed(&at, &["canon", "-", "-"], TWO_DEVICES);
+    assert_eq!(piped.stdout, fs::read(at.join("out")).unwrap());
+    assert_eq!(piped.status.code(), Some(0));
+}
+
+#[test]
+fn canon_may_write_over_its_input() {
+    let at = folder("canon_over");
+    put(&at, "file", TWO_DEVICES);
+    prints(run(&at, &["canon", "file", "file"]), "71 bytes written to file\n");
+    assert_ne!(fs::read(at.join("file")).unwrap(), TWO_DEVICES);
+    assert_eq!(names(&at), ["file"]);
+}
+
+#[test]
+fn adds_in_any_order_end_in_the_same_bytes() {
+    let at = folder("adds");
+    put(&at, "none", &TWO_DEVICES[..16]);
+    put(&at, "p14", &[0x11]);
+    put(&at, "p3", &[0xAB, 0xCD]);
+    let device = |from: &str, to: &str, id: &str, payload: &str| {
+        let words = [
+            "add-device",
+            from,
+            to,
+            "--id",
+            id,
+            "--version",
+            "1",
+            "--flags",
+            "0",
+            "--payload",
+            payload,
+        ];
+        assert_eq!(run(&at, &words).status.code(), Some(0));
+    };
+    let disk = |from: &str, to: &str| {
+        let words = ["add-disk", from, to, "--id", "7", "--base", "base.img", "--overlay", ""];
+        assert_eq!(run(&at, &words).status.code(), Some(0));
+    };
+    device("none", "a", "14", "p14");
+    device("a", "a", "0x3", "p3");
+    let two = fs::read(at.join("a")).unwrap();
+    assert_eq!(two.len(), 71);
+    disk("a", "a");
+    disk("none", "b");
+    device("b", "b", "3", "p3");
+    device("b", "b", "14", "p14");
+    assert_eq!(fs::read(at.join("a")).unwrap(), fs::read(at.join("b")).unwrap());
+    let listing = "id version flags offset length\n4 1 0 32 39\n5 1 0 87 24\n\
+        device 3 1 0 52 2\ndevice 14 1 0 70 1\ndisk 7 99 8 0\n";
+    prints(run(&at, &["list", "a"]), listing);
+}
+
+#[test]
+fn adds_are_refused_as_the_library_refuses() {
+    let at = folder("adds_refused");
+    put(&at, "in", TWO_DEVICES);
+    put(&at, "bad", &key_again());
+    put(&at, "payload", b"x");
+    let have = "refused 17 HAVE at 0: added key is there\n";
+    let device = |file: &str, id: &str| {
+        let words = [
+            "add-device",
+            file,
+            "out",
+            "--id",
+            id,
+            "--version",
+            "1",
+            "--flags",
+            "0",
+            "--payload",
+            "payload",
+        ];
+        run(&at, &words)
+    };
+    fails(device("in", "3"), have, 1);
+    fails(device("bad", "9"), "refused 13 KEY at 53: key again\n", 1);
+    let disk = |base: &std::ffi::OsStr| {
+        cim(&at)
+            .args(["add-disk", "in", "out", "--id", "1", "--overlay", "", "--base"])
+            .arg(base)
+            .output()
+            .unwrap()
+    };
+    use std::os::unix::ffi::OsStrExt;
+    fails(disk(std::ffi::OsStr::from_bytes(b"\xFF")), "refused 14 TEXT at 0: not UTF-8\n", 1);
+    let long = "x".repeat(65_537);
+    fails(disk(long.as_ref()), "refused 12 LIMIT at 0: count or length over its bound\n", 1);
+    assert_eq!(names(&at), ["bad", "in", "payload"]);
+}
+
+#[test]
+fn an_add_can_take_its_file_or_its_payload_from_standard_input() {
+    let at = folder("adds_piped");
+    put(&at, "none", &TWO_DEVICES[..16]);
+    put(&at, "payload", b"xy");
+    let words = |file, payload| {
+        [
+            "add-device",
+            file,
+            "-",
+            "--id",
+            "1",
+            "--version",
+            "1",
+            "--flags",
+            "0",
+            "--payload",
+            payload,
+        ]
+    };
+    let one = fed(&at, &words("-", "payload"), &TWO_DEVICES[..16]);
+    let other = fed(&at, &words("none", "-"), b"xy");
+    assert_eq!(one.stdout.len(), 54);
+    assert_eq!(one.stdout, other.stdout);
+    let both = run(&at, &words("-", "-"));
+    let told =
+        "cim: add-device: only one input can be standard input; see `cim add-device --help`\n";
+    fails(both, told, 2);
+}
+
+// ---- what is left of files
+
+#[test]
+fn a_refusal_keeps_the_target() {
+    let at = folder("kept");
+    put(&at, "bad", &key_again());
+    put(&at, "out", b"old");
+    fails(run(&at, &["canon", "bad", "out"]), "refused 13 KEY at 53: key again\n", 1);
+    assert_eq!(fs::read(at.join("out")).unwrap(), b"old");
+    assert_eq!(names(&at), ["bad", "out"]);
+}
+
+#[test]
+fn a_folder_that_is_not_there_is_told() {
+    let at = folder("nowhere");
+    put(&at, "in", TWO_DEVICES);
+    let told = "cim: cannot write nowhere/out: No such file or directory (os error 2)\n";
+    fails(run(&at, &["canon", "in", "nowhere/out"]), told, 3);
+    let told = "cim: cannot write in/out: Not a directory (os error 20)\n";
+    fails(run(&at, &["canon", "in", "in/out"]), told, 3);
+    assert_eq!(names(&at), ["in"]);
+}
+
+#[test]
+fn what_is_no_file_or_is_read_only_is_not_replaced() {
+    let at = folder("no_file");
+    put(&at, "in", TWO_DEVICES);
+    fs::create_dir(at.join("folder")).unwrap();
+    let told = "cim: cannot write folder: it is there, and not a file (`-` is standard output)\n";
+    fails(run(&at, &["canon", "in", "folder"]), told, 3);
+
+    let kept = put(&at, "kept", b"old");
+    let mut permissions = fs::metadata(&kept).unwrap().permissions();
+    permissions.set_readonly(true);
+    fs::set_permissions(&kept, permissions).unwrap();
+    fails(
+        run(&at, &["canon", "in", "kept"]),
+        "cim: cannot write kept: it is there, and read-only\n",
+        3,
+    );
+    assert_eq!(fs::read(&kept).unwrap(), b"old");
+    assert_eq!(names(&at), ["folder", "in", "kept"]);
+}
+
+#[test]
+fn a_link_stays_and_permissions_too() {
+    use std::os::unix::fs::{symlink, PermissionsExt};
+    let at = folder("link");
+    put(&at, "in", TWO_DEVICES);
+    fs::create_dir(at.join("store")).unwrap();
+    let real = put(&at, "store/real", b"old");
+    fs::set_permissions(&real, fs::Permissions::from_mode(0o640)).unwrap();
+    symlink("store/real", at.join("link")).unwrap();
+    prints(run(&at, &["canon", "in", "link"]), "71 bytes written to link\n");
+    assert!(fs::symlink_metadata(at.join("link")).unwrap().is_symlink());
+    assert_eq!(fs::read(&real).unwrap().len(), 71);
+    assert_eq!(fs::metadata(&real).unwrap().permissions().mode() & 0o777, 0o640);
+    assert_eq!(names(&at.join("store")), ["real"]);
+}
+
+/// Runs `cim canon in out` where no file can grow past a few KiB, so that writing fails half-way. `guard` is what the
+/// shell does first.
+fn cut_short(at: &Path, guard: &str) -> Output {
+    let mut file = TWO_DEVICES[..16].to_vec();
+    file.extend(b"\x06\x00\x00\x00\x01\x00\x00\x00\x00\x00\x10\x00\x00\x00\x00\x00"); // RAM, 1 MiB
+    file.resize(32 + (1 << 20), 7);
+    put(at, "in", &file);
+    put(at, "out", b"old");
+    Command::new("sh")
+        .args([
+            "-c",
+            &format!("{guard} ulimit -f 8; exec \"$0\" canon in out"),
+            env!("CARGO_BIN_EXE_cim"),
+        ])
+        .current_dir(at)
+        .output()
+        .unwrap()
+}
+
+#[test]
+fn a_write_that_fails_half_way_leaves_the_old_file_and_nothing_else() {
+    let at = folder("half");
+    // With the signal ignored, the system reports the fault to the program.
+    let output = cut_short(&at, "trap '' XFSZ;");
+    fails(output, "cim: cannot write out: File too large (os error 27)\n", 3);
+    assert_eq!(fs::read(at.join("out")).unwrap(), b"old");
+    assert_eq!(names(&at), ["in", "out"]);
+}
+
+#[test]
+fn a_kill_half_way_leaves_the_old_file() {
+    let at = folder("killed");
+    // Without, the system kills the program in the middle of its write.
+    let output = cut_short(&at, "");
+    assert_eq!(output.status.code(), None);
+    assert_eq!(fs::read(at.join("out")).unwrap(), b"old");
+}
+
+#[test]
+fn an_output_that_nobody_reads_ends_quietly() {
+    let at = folder("closed");
+    let mut child = cim(&at)
+        .args(["list", "-"])
+        .stdin(Stdio::piped())
+        .stdout(Stdio::piped())
+        .stderr(Stdio::piped())
+        .spawn()
+        .unwrap();
+    drop(child.stdout.take());
+    child.stdin.take().unwrap().write_all(TWO_DEVICES).unwrap();
+    fails(child.wait_with_output().unwrap(), "", 3);
+}
+
+#[test]
+fn an_output_with_no_room_is_told() {
+    let at = folder("full");
+    put(&at, "in", TWO_DEVICES);
+    let full = fs::OpenOptions::new().write(true).open("/dev/full").unwrap();
+    let output = cim(&at).args(["list", "in"]).stdout(full).output().unwrap();
+    fails(
+        output,
+        "cim: cannot write to standard output: No space left on device (os error 28)\n",
+        3,
+    );
+}
+
+// ---- wrappers and messages
+
+#[test]
+fn wrapper_lists_controllers_in_address_order() {
+    let at = folder("wrapper");
+    let wrapper = b"AERO\x01\x00\x00\x00DSKC\x01\x00\x00\x00\x02\x00\x00\x00\
+        \x00\x01\x00\x00NVME\x01\x00\x00\x00\x07\
+        \xFA\x00\x00\x00S T\xFF\x00\x00\x00\x00";
+    put(&at, "good", wrapper);
+    let mut bad = *wrapper;
+    bad[8] = b'X';
+    put(&at, "bad", &bad);
+    let listing = "address bus device function tag offset length\n\
+        250 0 31 2 S\\x20T\\xff 45 0\n256 1 0 0 NVME 32 1\n";
+    prints(run(&at, &["wrapper", "good"]), listing);
+    prints(fed(&at, &["wrapper", "-"], wrapper), listing);
+    fails(run(&at, &["wrapper", "bad"]), "refused 2 MAGIC at 8: letters wrong\n", 1);
+}
+
+#[test]
+fn message_tells_kind_numbers_and_data() {
+    let at = folder("message");
+    let hex = |bytes: &str| run(&at, &["message", "--hex", bytes]);
+    prints(hex("01 11 07 00 00 00 0F 00 00 00"), "PortReadResp id 7 value 15\n");
+    prints(hex("01110700 00000f000000"), "PortReadResp id 7 value 15\n");
+    prints(
+        hex("04 11 09 00 00 00 00 00 00 00 00 02 00 00 00"),
+        "DiskReadResp id 9 ok 0 bytes 0 error_code 2\n",
+    );
+    prints(hex("04 11 09 00 00 00 01 00 02 00 00"), "DiskReadResp id 9 ok 1 bytes 512\n");
+    prints(hex("00 14 03 03 00 00 00 61 0A 62"), "Log level 3 data 7 3 \"a\\nb\"\n");
+    prints(hex("00 15 F8 03 02 00 00 00 68 69"), "SerialOutput port 1016 data 8 2\n");
+    prints(hex("ff 1f"), "TripleFault\n");
+    fails(hex("02 00"), "refused 18 TAG at 0: unknown tag\n", 1);
+    fails(hex(""), "refused 11 SHAPE at 0: field doesn't fit, or bytes left over\n", 1);
+    let two = "04 11 09 00 00 00 02 00 00 00 00 02 00 00 00";
+    fails(hex(two), "refused 15 VALUE at 6: byte or number outside its values\n", 1);
+    let file = b"\x00\x10\x0F\x00\x00\x00";
+    put(&at, "ack", file);
+    prints(run(&at, &["message", "ack"]), "Ack seq 15\n");
+    prints(fed(&at, &["message", "-"], file), "Ack seq 15\n");
+}
+
+// ---- the command line
+
+#[test]
+fn help_and_version_are_printed() {
+    let at = folder("help");
+    for words in [&["--help"][..], &["-h"], &["help"]] {
+        let output = run(&at, words);
+        assert_eq!(output.status.code(), Some(0));
+        assert!(String::from_utf8(output.stdout).unwrap().contains("cim add-disk FILE OUT"));
+    }
+    for name in ["check", "list", "canon", "add-device", "add-disk", "wrapper", "message"] {
+        let output = run(&at, &[name, "--help"]);
+        assert_eq!(output.status.code(), Some(0));
+        assert!(String::from_utf8(output.stdout).unwrap().starts_with(&format!("cim {name} ")));
+    }
+    prints(run(&at, &["--version"]), concat!("cim ", env!("CARGO_PKG_VERSION"), "\n"));
+}
+
+#[test]
+fn a_command_line_that_is_not_understood_is_told() {
+    let at = folder("usage");
+    let usage = |words: &[&str], told: &str| fails(run(&at, words), &format!("cim: {told}\n"), 2);
+    usage(&[], "no command is given; see `cim --help`");
+    usage(&["chek", "f"], "there is no command `chek`; see `cim --help`");
+    usage(&["check"], "check: takes one FILE, and 0 are given; see `cim check --help`");
+    usage(&["check", "a", "b"], "check: takes one FILE, and 2 are given; see `cim check --help`");
+    usage(&["check", "--fast", "a"], "check: there is no option `--fast`; see `cim check --help`");
+    usage(&["canon", "a"], "canon: takes FILE and OUT, and 1 are given; see `cim canon --help`");
+    let see = "see `cim add-disk --help`";
+    let disk = ["add-disk", "a", "b", "--base", "x", "--overlay", "y", "--id"];
+    usage(&disk, &format!("add-disk: `--id` lacks its value; {see}"));
+    usage(&disk[..7], &format!("add-disk: `--id` is missing; {see}"));
+    let wide = [&disk[..], &["4294967296"]].concat();
+    usage(&wide, &format!("add-disk: `--id 4294967296` is no number from 0 to 4294967295; {see}"));
+    let again = [&disk[..], &["1", "--id", "1"]].concat();
+    usage(&again, &format!("add-disk: `--id` is given twice; {see}"));
+    let device = [
+        "add-device",
+        "a",
+        "b",
+        "--id",
+        "1",
+        "--version",
+        "65536",
+        "--flags",
+        "0",
+        "--payload",
+        "p",
+    ];
+    usage(
+        &device,
+        "add-device: `--version 65536` is no number from 0 to 65535; see `cim add-device --help`",
+    );
+    usage(
+        &["message", "--hex", "0x11"],
+        "message: `--hex 0x11` is not made of two hexadecimal digits for each byte; see `cim message --help`",
+    );
+    usage(
+        &["message", "--hex", "02 00", "f"],
+        "message: takes FILE or --hex, not both, and 1 are given; see `cim message --help`",
+    );
+}
+
+#[test]
+fn a_file_that_cannot_be_read_is_told() {
+    let at = folder("unread");
+    let told = "cim: cannot read nothing: No such file or directory (os error 2)\n";
+    fails(run(&at, &["check", "nothing"]), told, 3);
+    fails(run(&at, &["check", "."]), "cim: cannot read .: Is a directory (os error 21)\n", 3);
+}

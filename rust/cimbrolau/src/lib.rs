@@ -1,0 +1,39 @@
+//! Reads and writes AEROSNAP version 1 snapshots, their `DSKC` disk-controller wrappers and AIPC messages.
+//!
+//! The work is done by `libcimbrolau.a`, every function of which is proved to meet its contract: each call takes every
+//! input, ends, and gives a reading exactly for inputs that follow the rules; a refused call leaves all lent memory as it
+//! was. This crate gives it Rust's types. A caller owes nothing: no length to check first, no buffer to size.
+//!
+//! ```
+//! use cimbrolau::{snapshot, Kind};
+//!
+//! let file = snapshot::add_device(&snapshot::EMPTY, 14, 1, 0, &[0x11])?;
+//! let file = snapshot::add_device(&file, 3, 1, 0, &[0xAB, 0xCD])?;
+//!
+//! let devices = snapshot::devices(&file)?;
+//! assert_eq!(devices[0].id, 3); // in the order of their keys, whatever the order of adding
+//! assert_eq!(devices[0].payload(&file), Some(&[0xAB, 0xCD][..]));
+//!
+//! let refusal = snapshot::add_device(&file, 3, 1, 0, &[]).unwrap_err();
+//! assert_eq!(refusal.kind, Kind::Have);
+//! # Ok::<(), cimbrolau::Refusal>(())
+//! ```
+//!
+//! - [`snapshot`][]: snapshot files
+//! - [`wrapper`][]: disk-controller wrappers
+//! - [`Message`][]: messages
+//! - [`raw`][]: the calls as the library has them, over lent buffers
+
+#![deny(missing_docs)]
+#![deny(unsafe_code)]
+
+mod message;
+#[allow(unsafe_code)]
+pub mod raw;
+mod records;
+mod refusal;
+pub mod snapshot;
+pub mod wrapper;
+
+pub use message::{Level, Message};
+pub use refusal::{Kind, Refusal, Result};

@@ -1,0 +1,59 @@
+//! The 24-byte records of tables, and the parts of an input that they name.
+
+/// Bytes in a record.
+const RECORD: usize = 24;
+
+/// The records of a table, each read by `read`.
+pub(crate) fn all<T>(table: &[u8], read: impl Fn(&[u8]) -> T) -> Vec<T> {
+    table.chunks_exact(RECORD).map(read).collect()
+}
+
+/// The `N` bytes at `at` of a record.
+pub(crate) fn bytes<const N: usize>(record: &[u8], at: usize) -> [u8; N] {
+    let mut taken = [0; N];
+    taken.copy_from_slice(&record[at..at + N]);
+    taken
+}
+
+pub(crate) fn u16_at(record: &[u8], at: usize) -> u16 {
+    u16::from_le_bytes(bytes(record, at))
+}
+
+pub(crate) fn u32_at(record: &[u8], at: usize) -> u32 {
+    u32::from_le_bytes(bytes(record, at))
+}
+
+pub(crate) fn u64_at(record: &[u8], at: usize) -> u64 {
+    u64::from_le_bytes(bytes(record, at))
+}
+
+/// The part of an input that a record names; none where the input is not the one that the record came from and is too short.
+pub(crate) fn part(input: &[u8], offset: u64, length: u64) -> Option<&[u8]> {
+    let start = usize::try_from(offset).ok()?;
+    let end = usize::try_from(offset.checked_add(length)?).ok()?;
+    input.get(start..end)
+}
+
+#[cfg(test)]
+mod tests {
+    use super::*;
+
+    #[test]
+    fn a_part_stands_inside_or_not_at_all() {
+        let input = [1, 2, 3, 4];
+        assert_eq!(part(&input, 1, 2), Some(&[2, 3][..]));
+        assert_eq!(part(&input, 4, 0), Some(&[][..]));
+        assert_eq!(part(&input, 4, 1), None);
+        assert_eq!(part(&input, u64::MAX, 2), None);
+    }
+
+    #[test]
+    fn numbers_are_little_endian() {
+        let mut table = [0; 48];
+        table[24..].copy_from_slice(&[
+            15, 0, 0, 0, 0, 1, 2, 0, 0, 0, 0, 0, 1, 0, 0, 0, 9, 0, 0, 0, 0, 0, 0, 128,
+        ]);
+        let read = all(&table, |r| (u32_at(r, 0), u16_at(r, 4), u64_at(r, 8), u64_at(r, 16)));
+        assert_eq!(read, [(0, 0, 0, 0), (15, 256, 1 << 32, (1 << 63) + 9)]);
+    }
+}

@@ -1,0 +1,196 @@
+//! The refusals by name, and answers as `Result`.
+
+use crate::raw::Answer;
+use std::fmt;
+
+/// What a refusal is about: the names and the numbers of the table of refusals.
+#[derive(Clone, Copy, Debug, PartialEq, Eq, Hash, PartialOrd, Ord)]
+#[repr(u32)]
+pub enum Kind {
+    /// The file or the wrapper has under 16 bytes.
+    Short = 1,
+    /// The letters are wrong.
+    Magic = 2,
+    /// The format's version is not taken.
+    Version = 3,
+    /// The endianness tag is not 1.
+    Endian = 4,
+    /// A reserved number or a known section's flags are not 0.
+    Reserved = 5,
+    /// The file or the wrapper is too long.
+    Size = 6,
+    /// A section's header or payload passes the end.
+    Cut = 7,
+    /// There is a 65th section.
+    Many = 8,
+    /// A known section comes again, CPU stands beside CPUS, or MMU beside MMUS.
+    Twice = 9,
+    /// A section's version is not taken.
+    SecVer = 10,
+    /// A field does not fit, a state has the wrong length, or bytes are left over.
+    Shape = 11,
+    /// A count or a length is over its bound, or a message is too long.
+    Limit = 12,
+    /// A key comes again.
+    Key = 13,
+    /// A text is not UTF-8.
+    Text = 14,
+    /// A byte or a number is outside its values.
+    Value = 15,
+    /// The output is shorter than needed; the place is the length needed.
+    Room = 16,
+    /// The added key is there already.
+    Have = 17,
+    /// The message's tag is unknown.
+    Tag = 18,
+    /// A controller's device is above 31 or its function above 7.
+    Address = 19,
+}
+
+/// Each kind with its name and what it says, in the order of the numbers.
+const TABLE: [(Kind, &str, &str); 19] = [
+    (Kind::Short, "SHORT", "under 16 bytes"),
+    (Kind::Magic, "MAGIC", "letters wrong"),
+    (Kind::Version, "VERSION", "format version not taken"),
+    (Kind::Endian, "ENDIAN", "endianness tag not 1"),
+    (Kind::Reserved, "RESERVED", "reserved number or flags not 0"),
+    (Kind::Size, "SIZE", "too long"),
+    (Kind::Cut, "CUT", "section passes the end"),
+    (Kind::Many, "MANY", "65th section"),
+    (Kind::Twice, "TWICE", "section again, or one state beside a list of them"),
+    (Kind::SecVer, "SECVER", "section version not taken"),
+    (Kind::Shape, "SHAPE", "field doesn't fit, or bytes left over"),
+    (Kind::Limit, "LIMIT", "count or length over its bound"),
+    (Kind::Key, "KEY", "key again"),
+    (Kind::Text, "TEXT", "not UTF-8"),
+    (Kind::Value, "VALUE", "byte or number outside its values"),
+    (Kind::Room, "ROOM", "output shorter than needed"),
+    (Kind::Have, "HAVE", "added key is there"),
+    (Kind::Tag, "TAG", "unknown tag"),
+    (Kind::Address, "ADDRESS", "controller's device above 31 or function above 7"),
+];
+
+impl Kind {
+    /// The kind of a number, if there is one.
+    ///
+    /// ```
+    /// use cimbrolau::Kind;
+    /// assert_eq!(Kind::of(13), Some(Kind::Key));
+    /// assert_eq!(Kind::of(0), None);
+    /// ```
+    pub fn of(number: u32) -> Option<Kind> {
+        let row = (number as usize).checked_sub(1)?;
+        TABLE.get(row).map(|(kind, _, _)| *kind)
+    }
+
+    /// The number of the kind.
+    ///
+    /// ```
+    /// assert_eq!(cimbrolau::Kind::Key.number(), 13);
+    /// ```
+    pub fn number(self) -> u32 {
+        self as u32
+    }
+
+    /// The name of the kind, as the refusal card has it.
+    ///
+    /// ```
+    /// assert_eq!(cimbrolau::Kind::SecVer.name(), "SECVER");
+    /// ```
+    pub fn name(self) -> &'static str {
+        TABLE[self as usize - 1].1
+    }
+
+    /// What the kind says, in a few words.
+    ///
+    /// ```
+    /// assert_eq!(cimbrolau::Kind::Key.meaning(), "key again");
+    /// ```
+    pub fn meaning(self) -> &'static str {
+        TABLE[self as usize - 1].2
+    }
+}
+
+/// A refusal: what it is about, and the byte of the input at which it stands.
+///
+/// ```
+/// use cimbrolau::{snapshot, Kind, Refusal};
+/// let refusal = snapshot::check(b"AEROSNAP").unwrap_err();
+/// assert_eq!(refusal, Refusal { kind: Kind::Short, place: 0 });
+/// assert_eq!(refusal.to_string(), "1 SHORT at 0: under 16 bytes");
+/// ```
+#[derive(Clone, Copy, Debug, PartialEq, Eq, Hash)]
+pub struct Refusal {
+    /// What it is about.
+    pub kind: Kind,
+    /// Where, counted in bytes from the start of the input; of ROOM the length needed.
+    pub place: u64,
+}
+
+impl fmt::Display for Refusal {
+    fn fmt(&self, f: &mut fmt::Formatter<'_>) -> fmt::Result {
+        let Refusal { kind, place } = self;
+        write!(f, "{} {} at {}: {}", kind.number(), kind.name(), place, kind.meaning())
+    }
+}
+
+impl std::error::Error for Refusal {}
+
+/// What a call gives, or why it refused.
+pub type Result<T> = std::result::Result<T, Refusal>;
+
+/// An answer as a result: the place of a taken call, which is the bytes written, or the refusal.
+///
+/// A number that is not in the table can only come from a library of another version than this wrapper, so that
+/// nothing it says could be understood.
+pub(crate) fn outcome(number: u32, place: u64) -> Result<u64> {
+    if number == 0 {
+        return Ok(place);
+    }
+    match Kind::of(number) {
+        Some(kind) => Err(Refusal { kind, place }),
+        None => panic!("libcimbrolau.a answered {number}, which this wrapper does not know"),
+    }
+}
+
+/// The whole output of a call that fills a lent buffer: asked first with no room, it names the length needed.
+pub(crate) fn filled(mut call: impl FnMut(&mut [u8]) -> Answer) -> Result<Vec<u8>> {
+    let asked = call(&mut []);
+    let needed = match outcome(asked.number, asked.place) {
+        Ok(_) => return Ok(Vec::new()),
+        Err(Refusal { kind: Kind::Room, place }) => place,
+        Err(refusal) => return Err(refusal),
+    };
+    let mut out = vec![0; needed as usize];
+    let written = call(&mut out);
+    outcome(written.number, written.place)?;
+    Ok(out)
+}
+
+#[cfg(test)]
+mod tests {
+    use super::*;
+
+    #[test]
+    fn the_table_is_in_the_order_of_the_numbers() {
+        for (row, (kind, _, _)) in TABLE.iter().enumerate() {
+            assert_eq!(kind.number() as usize, row + 1);
+            assert_eq!(Kind::of(kind.number()), Some(*kind));
+        }
+        assert_eq!(Kind::of(0), None);
+        assert_eq!(Kind::of(20), None);
+        assert_eq!(Kind::of(u32::MAX), None);
+    }
+
+    #[test]
+    fn a_refusal_reads_as_the_card_has_it() {
+        let refusal = Refusal { kind: Kind::Key, place: 53 };
+        assert_eq!(refusal.to_string(), "13 KEY at 53: key again");
+    }
+
+    #[test]
+    #[should_panic(expected = "answered 20")]
+    fn an_unknown_number_is_not_taken_for_another() {
+        let _ = outcome(20, 0);
+    }
+}

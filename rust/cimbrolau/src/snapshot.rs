@@ -1,0 +1,272 @@
+//! Snapshot files: checking, tables, the canonical form, adding.
+
+use crate::raw;
+use crate::records::{self, u16_at, u32_at, u64_at};
+use crate::refusal::{filled, outcome, Result};
+
+/// The shortest snapshot: the header, and no section.
+///
+/// ```
+/// use cimbrolau::snapshot;
+/// snapshot::check(&snapshot::EMPTY)?;
+/// # Ok::<(), cimbrolau::Refusal>(())
+/// ```
+pub const EMPTY: [u8; 16] = *b"AEROSNAP\x01\x00\x01\x00\x00\x00\x00\x00";
+
+/// The most bytes a snapshot has, 1024 MiB; a longer file is SIZE.
+pub const MOST_BYTES: u64 = 1024 << 20;
+
+/// The most bytes a device's payload has, 64 MiB; a longer one is LIMIT.
+pub const MOST_PAYLOAD_BYTES: u64 = 64 << 20;
+
+/// A section of a snapshot.
+#[derive(Clone, Copy, Debug, PartialEq, Eq, Hash)]
+pub struct Section {
+    /// What it holds: META 1, CPU 2, MMU 3, DEVICES 4, DISKS 5, RAM 6, CPUS 7, MMUS 8; others are carried.
+    pub id: u32,
+    /// The section's version.
+    pub version: u16,
+    /// The section's flags, 0 in the known ones.
+    pub flags: u16,
+    /// Where its payload starts in the file.
+    pub offset: u64,
+    /// How many bytes its payload has.
+    pub length: u64,
+}
+
+impl Section {
+    /// The section's payload in the file that it came from; none in a file too short to be that.
+    ///
+    /// ```
+    /// use cimbrolau::snapshot;
+    /// let file = snapshot::add_disk(&snapshot::EMPTY, 1, b"", b"")?;
+    /// let section = snapshot::sections(&file)?[0];
+    /// assert_eq!(section.payload(&file).map(<[u8]>::len), Some(16));
+    /// assert_eq!(section.payload(b"another file"), None);
+    /// # Ok::<(), cimbrolau::Refusal>(())
+    /// ```
+    pub fn payload<'a>(&self, file: &'a [u8]) -> Option<&'a [u8]> {
+        records::part(file, self.offset, self.length)
+    }
+
+    fn of(record: &[u8]) -> Section {
+        Section {
+            id: u32_at(record, 0),
+            version: u16_at(record, 4),
+            flags: u16_at(record, 6),
+            offset: u64_at(record, 8),
+            length: u64_at(record, 16),
+        }
+    }
+}
+
+/// A device of a snapshot. Its key is its id, version and flags, compared in this order.
+#[derive(Clone, Copy, Debug, PartialEq, Eq, Hash)]
+pub struct Device {
+    /// The device's id.
+    pub id: u32,
+    /// The version of its payload.
+    pub version: u16,
+    /// The device's flags.
+    pub flags: u16,
+    /// Where its payload starts in the file.
+    pub offset: u64,
+    /// How many bytes its payload has.
+    pub length: u64,
+}
+
+impl Device {
+    /// The device's payload in the file that it came from; none in a file too short to be that.
+    ///
+    /// ```
+    /// use cimbrolau::snapshot;
+    /// let file = snapshot::add_device(&snapshot::EMPTY, 3, 1, 0, &[0xAB, 0xCD])?;
+    /// assert_eq!(snapshot::devices(&file)?[0].payload(&file), Some(&[0xAB, 0xCD][..]));
+    /// # Ok::<(), cimbrolau::Refusal>(())
+    /// ```
+    pub fn payload<'a>(&self, file: &'a [u8]) -> Option<&'a [u8]> {
+        records::part(file, self.offset, self.length)
+    }
+
+    fn of(record: &[u8]) -> Device {
+        Device {
+            id: u32_at(record, 0),
+            version: u16_at(record, 4),
+            flags: u16_at(record, 6),
+            offset: u64_at(record, 8),
+            length: u64_at(record, 16),
+        }
+    }
+}
+
+/// A disk of a snapshot: its two images by name. Its key is its id.
+#[derive(Clone, Copy, Debug, PartialEq, Eq, Hash)]
+pub struct Disk {
+    /// The disk's id.
+    pub id: u32,
+    /// Where the base image's name starts in the file.
+    pub base_offset: u64,
+    /// How many bytes the base image's name has.
+    pub base_length: u32,
+    /// How many bytes the overlay image's name has.
+    pub overlay_length: u32,
+}
+
+impl Disk {
+    /// The base image's name in the file that the disk came from; none in a file that cannot be that.
+    ///
+    /// ```
+    /// use cimbrolau::snapshot;
+    /// let file = snapshot::add_disk(&snapshot::EMPTY, 1, b"base.img", b"day.img")?;
+    /// let disk = snapshot::disks(&file)?[0];
+    /// assert_eq!(disk.base(&file), Some("base.img"));
+    /// assert_eq!(disk.overlay(&file), Some("day.img"));
+    /// # Ok::<(), cimbrolau::Refusal>(())
+    /// ```
+    pub fn base<'a>(&self, file: &'a [u8]) -> Option<&'a str> {
+        let name = records::part(file, self.base_offset, u64::from(self.base_length))?;
+        std::str::from_utf8(name).ok()
+    }
+
+    /// Where the overlay image's name starts in the file: behind the base image's name and a length of four bytes.
+    ///
+    /// ```
+    /// use cimbrolau::snapshot;
+    /// let file = snapshot::add_disk(&snapshot::EMPTY, 1, b"base.img", b"")?;
+    /// assert_eq!(snapshot::disks(&file)?[0].overlay_offset(), 56);
+    /// # Ok::<(), cimbrolau::Refusal>(())
+    /// ```
+    pub fn overlay_offset(&self) -> u64 {
+        self.base_offset.saturating_add(u64::from(self.base_length) + 4)
+    }
+
+    /// The overlay image's name in the file that the disk came from; none in a file that cannot be that.
+    /// (See [`Disk::base`] for an example.)
+    pub fn overlay<'a>(&self, file: &'a [u8]) -> Option<&'a str> {
+        let name = records::part(file, self.overlay_offset(), u64::from(self.overlay_length))?;
+        std::str::from_utf8(name).ok()
+    }
+
+    fn of(record: &[u8]) -> Disk {
+        Disk {
+            id: u32_at(record, 0),
+            base_length: u32_at(record, 4),
+            base_offset: u64_at(record, 8),
+            overlay_length: u32_at(record, 16),
+        }
+    }
+}
+
+/// Whether the file follows the rules; else its first fault.
+///
+/// ```
+/// use cimbrolau::{snapshot, Kind};
+/// assert!(snapshot::check(&snapshot::EMPTY).is_ok());
+///
+/// let mut file = snapshot::EMPTY;
+/// file[10] = 2;
+/// let refusal = snapshot::check(&file).unwrap_err();
+/// assert_eq!((refusal.kind, refusal.place), (Kind::Endian, 10));
+/// ```
+pub fn check(file: &[u8]) -> Result<()> {
+    let answer = raw::check(file);
+    outcome(answer.number, answer.place)?;
+    Ok(())
+}
+
+/// Every section of the file, in file order.
+///
+/// ```
+/// use cimbrolau::snapshot;
+/// let file = snapshot::add_device(&snapshot::EMPTY, 3, 1, 0, &[0xAB, 0xCD])?;
+/// let sections = snapshot::sections(&file)?;
+/// assert_eq!(sections.len(), 1);
+/// assert_eq!((sections[0].id, sections[0].offset, sections[0].length), (4, 32, 22));
+/// # Ok::<(), cimbrolau::Refusal>(())
+/// ```
+pub fn sections(file: &[u8]) -> Result<Vec<Section>> {
+    let table = filled(|table| raw::sections(file, table))?;
+    Ok(records::all(&table, Section::of))
+}
+
+/// Every device of the file, in the order of their keys.
+///
+/// ```
+/// use cimbrolau::snapshot;
+/// let file = snapshot::add_device(&snapshot::EMPTY, 256, 1, 0, &[0x11])?;
+/// let file = snapshot::add_device(&file, 1, 1, 0, &[])?;
+/// let ids: Vec<u32> = snapshot::devices(&file)?.iter().map(|device| device.id).collect();
+/// assert_eq!(ids, [1, 256]);
+/// # Ok::<(), cimbrolau::Refusal>(())
+/// ```
+pub fn devices(file: &[u8]) -> Result<Vec<Device>> {
+    let table = filled(|table| raw::devices(file, table))?;
+    Ok(records::all(&table, Device::of))
+}
+
+/// Every disk of the file, in the order of their ids.
+///
+/// ```
+/// use cimbrolau::snapshot;
+/// let file = snapshot::add_disk(&snapshot::EMPTY, 2, b"base.img", b"")?;
+/// let disks = snapshot::disks(&file)?;
+/// assert_eq!(disks.len(), 1);
+/// assert_eq!((disks[0].id, disks[0].base_offset, disks[0].base_length), (2, 44, 8));
+/// # Ok::<(), cimbrolau::Refusal>(())
+/// ```
+pub fn disks(file: &[u8]) -> Result<Vec<Disk>> {
+    let table = filled(|table| raw::disks(file, table))?;
+    Ok(records::all(&table, Disk::of))
+}
+
+/// The file's canonical form: the known sections in ascending id, then the others as found; lists in the order of their
+/// keys; lists with no entry left out.
+///
+/// ```
+/// use cimbrolau::snapshot;
+/// let mut file = snapshot::EMPTY.to_vec();
+/// file.extend([4, 0, 0, 0, 1, 0, 0, 0, 4, 0, 0, 0, 0, 0, 0, 0]); // a DEVICES section
+/// file.extend([0, 0, 0, 0]); // with a count of 0
+/// assert_eq!(snapshot::canonical(&file)?, snapshot::EMPTY);
+/// # Ok::<(), cimbrolau::Refusal>(())
+/// ```
+pub fn canonical(file: &[u8]) -> Result<Vec<u8>> {
+    filled(|out| raw::canonical(file, out))
+}
+
+/// The canonical form of the file with one device more. A key that is there already is HAVE.
+///
+/// ```
+/// use cimbrolau::{snapshot, Kind};
+/// let file = snapshot::add_device(&snapshot::EMPTY, 3, 1, 0, &[0xAB, 0xCD])?;
+/// assert_eq!(file.len(), 54);
+///
+/// let refusal = snapshot::add_device(&file, 3, 1, 0, &[]).unwrap_err();
+/// assert_eq!(refusal.kind, Kind::Have);
+/// # Ok::<(), cimbrolau::Refusal>(())
+/// ```
+pub fn add_device(
+    file: &[u8],
+    id: u32,
+    version: u16,
+    flags: u16,
+    payload: &[u8],
+) -> Result<Vec<u8>> {
+    filled(|out| raw::add_device(file, id, version, flags, payload, out))
+}
+
+/// The canonical form of the file with one disk more: its id and the names of its base and overlay images, in UTF-8.
+/// A disk that is there already is HAVE.
+///
+/// ```
+/// use cimbrolau::{snapshot, Kind};
+/// let file = snapshot::add_disk(&snapshot::EMPTY, 1, "système.img".as_bytes(), b"")?;
+/// assert_eq!(snapshot::disks(&file)?[0].base(&file), Some("système.img"));
+///
+/// let refusal = snapshot::add_disk(&file, 2, b"syst\xE8me.img", b"").unwrap_err();
+/// assert_eq!(refusal.kind, Kind::Text);
+/// # Ok::<(), cimbrolau::Refusal>(())
+/// ```
+pub fn add_disk(file: &[u8], id: u32, base: &[u8], overlay: &[u8]) -> Result<Vec<u8>> {
+    filled(|out| raw::add_disk(file, id, base, overlay, out))
+}

@@ -1,0 +1,97 @@
+//! The examples of document 01 on snapshots and wrappers, through the wrapper's types.
+
+use cimbrolau::snapshot::{self, Device, Disk, Section};
+use cimbrolau::{wrapper, Kind, Refusal};
+
+/// P4: two devices, saved in descending order of their keys.
+const TWO_DEVICES: &[u8] = b"AEROSNAP\x01\0\x01\0\0\0\0\0\
+    \x04\0\0\0\x01\0\0\0\x27\0\0\0\0\0\0\0\
+    \x02\0\0\0\
+    \x0E\0\0\0\x01\0\0\0\x01\0\0\0\0\0\0\0\x11\
+    \x03\0\0\0\x01\0\0\0\x02\0\0\0\0\0\0\0\xAB\xCD";
+
+fn refused<T>(kind: Kind, place: u64) -> Result<T, Refusal> {
+    Err(Refusal { kind, place })
+}
+
+fn changed(at: usize, to: u8) -> Vec<u8> {
+    let mut file = TWO_DEVICES.to_vec();
+    file[at] = to;
+    file
+}
+
+#[test]
+fn p1_to_p3_headers() {
+    assert_eq!(snapshot::check(&snapshot::EMPTY), Ok(()));
+    assert_eq!(snapshot::sections(&snapshot::EMPTY), Ok(vec![]));
+    assert_eq!(snapshot::check(&snapshot::EMPTY[..15]), refused(Kind::Short, 0));
+    assert_eq!(snapshot::check(&changed(10, 2)), refused(Kind::Endian, 10));
+}
+
+#[test]
+fn p4_and_p5_tables_and_canonical_form() {
+    let section = Section { id: 4, version: 1, flags: 0, offset: 32, length: 39 };
+    let three = Device { id: 3, version: 1, flags: 0, offset: 69, length: 2 };
+    let fourteen = Device { id: 14, version: 1, flags: 0, offset: 52, length: 1 };
+    assert_eq!(snapshot::sections(TWO_DEVICES), Ok(vec![section]));
+    assert_eq!(snapshot::devices(TWO_DEVICES), Ok(vec![three, fourteen]));
+    assert_eq!(snapshot::disks(TWO_DEVICES), Ok(vec![]));
+
+    let canonical = snapshot::canonical(TWO_DEVICES).unwrap();
+    let moved = [Device { offset: 52, ..three }, Device { offset: 70, ..fourteen }];
+    assert_eq!(snapshot::devices(&canonical), Ok(moved.to_vec()));
+    assert_eq!(snapshot::canonical(&canonical), Ok(canonical));
+}
+
+#[test]
+fn p6_to_p9_refusals_and_empty_lists() {
+    assert_eq!(snapshot::check(&changed(36, 3)), refused(Kind::Key, 53));
+    let canonical = snapshot::canonical(TWO_DEVICES).unwrap();
+    assert_eq!(snapshot::add_device(&canonical, 3, 1, 0, b""), refused(Kind::Have, 0));
+    assert_eq!(snapshot::check(&changed(24, 40)), refused(Kind::Cut, 16));
+
+    let mut none = TWO_DEVICES[..36].to_vec();
+    none[24] = 4;
+    none[32] = 0;
+    assert_eq!(snapshot::canonical(&none).as_deref(), Ok(&snapshot::EMPTY[..]));
+}
+
+#[test]
+fn adds_in_any_order_end_in_the_same_bytes() {
+    let tank = |file: &[u8]| snapshot::add_device(file, 3, 1, 0, &[15, 0]).unwrap();
+    let pump = |file: &[u8]| snapshot::add_device(file, 14, 1, 0, &[0x11]).unwrap();
+    let disk = |file: &[u8]| snapshot::add_disk(file, 7, b"base.img", b"night.img").unwrap();
+    let file = tank(&pump(&disk(&snapshot::EMPTY)));
+    assert_eq!(disk(&pump(&tank(&snapshot::EMPTY))), file);
+    assert_eq!(pump(&disk(&tank(&snapshot::EMPTY))), file);
+    assert_eq!(snapshot::devices(&file).unwrap().len(), 2);
+    let seven = Disk { id: 7, base_offset: 99, base_length: 8, overlay_length: 9 };
+    assert_eq!(snapshot::disks(&file), Ok(vec![seven]));
+    assert_eq!((seven.base(&file), seven.overlay(&file)), (Some("base.img"), Some("night.img")));
+}
+
+#[test]
+fn a_part_is_not_taken_from_another_file() {
+    let device = snapshot::devices(TWO_DEVICES).unwrap()[0];
+    assert_eq!(device.payload(TWO_DEVICES), Some(&[0xAB, 0xCD][..]));
+    assert_eq!(device.payload(&TWO_DEVICES[..70]), None);
+    let disk = Disk { id: 0, base_offset: u64::MAX, base_length: 9, overlay_length: 9 };
+    assert_eq!((disk.base(TWO_DEVICES), disk.overlay(TWO_DEVICES)), (None, None));
+}
+
+#[test]
+fn p13_addresses() {
+    let mut file = wrapper::EMPTY.to_vec();
+    file[16] = 2;
+    file.extend(b"\x00\x01\0\0NVME\x01\0\0\0\x07");
+    file.extend(b"\xFA\x00\0\0SATA\0\0\0\0");
+    let found = wrapper::controllers(&file).unwrap();
+    let parts = |i: usize| (found[i].bus(), found[i].device(), found[i].function());
+    assert_eq!((found[0].address, parts(0)), (250, (0, 31, 2)));
+    assert_eq!((found[1].address, parts(1)), (256, (1, 0, 0)));
+    let canonical = wrapper::canonical(&file).unwrap();
+    assert_eq!(wrapper::canonical(&canonical), Ok(canonical.clone()));
+    assert_eq!(&canonical[20..22], b"\xFA\x00");
+    file[22] = 1;
+    assert_eq!(wrapper::check(&file), refused(Kind::Reserved, 22));
+}
