@@ -54,7 +54,10 @@ fn read_entry<'a>(kind: Kind, cursor: &mut Cursor<'a>, list: &mut List<'a>) -> T
         Slot::Occupied(_) => ask(false, KEY, start),
         Slot::Vacant(slot) => {
             kind.read_rest(fixed, start, cursor)?;
-            slot.insert(Entry { start, bytes: cursor.since(start) });
+            slot.insert(Entry {
+                start,
+                bytes: cursor.since(start),
+            });
             Ok(())
         }
     }

@@ -54,30 +54,30 @@ fn form_of(tag: u32) -> Option<(&'static [Field], Data)> {
     use Data::{Bytes, None as Nothing, Text};
     use Field::{Error, Ok, To, U16, U32, U64, U8};
     let form: (&[Field], Data) = match tag {
-        0x0000 => (&[U32], Nothing),                // Nop
-        0x0001 => (&[], Nothing),                   // Shutdown
-        0x0100 => (&[U32, U64, U32], Nothing),      // MmioRead
-        0x0101 => (&[U32, U64], Bytes),             // MmioWrite
-        0x0102 => (&[U32, U16, U32], Nothing),      // PortRead
-        0x0103 => (&[U32, U16, U32, U32], Nothing), // PortWrite
-        0x0104 => (&[U32, U64, U32, U64], Nothing), // DiskRead
-        0x0105 => (&[U32, U64, U32, U64], Nothing), // DiskWrite
-        0x1000 => (&[U32], Nothing),                // Ack
-        0x1100 => (&[U32], Bytes),                  // MmioReadResp
-        0x1101 => (&[U32, U32], Nothing),           // PortReadResp
-        0x1102 => (&[U32], Nothing),                // MmioWriteResp
-        0x1103 => (&[U32], Nothing),                // PortWriteResp
+        0x0000 => (&[U32], Nothing),                 // Nop
+        0x0001 => (&[], Nothing),                    // Shutdown
+        0x0100 => (&[U32, U64, U32], Nothing),       // MmioRead
+        0x0101 => (&[U32, U64], Bytes),              // MmioWrite
+        0x0102 => (&[U32, U16, U32], Nothing),       // PortRead
+        0x0103 => (&[U32, U16, U32, U32], Nothing),  // PortWrite
+        0x0104 => (&[U32, U64, U32, U64], Nothing),  // DiskRead
+        0x0105 => (&[U32, U64, U32, U64], Nothing),  // DiskWrite
+        0x1000 => (&[U32], Nothing),                 // Ack
+        0x1100 => (&[U32], Bytes),                   // MmioReadResp
+        0x1101 => (&[U32, U32], Nothing),            // PortReadResp
+        0x1102 => (&[U32], Nothing),                 // MmioWriteResp
+        0x1103 => (&[U32], Nothing),                 // PortWriteResp
         0x1104 => (&[U32, Ok, U32, Error], Nothing), // DiskReadResp
         0x1105 => (&[U32, Ok, U32, Error], Nothing), // DiskWriteResp
-        0x1200 => (&[U64], Nothing),                // FrameReady
-        0x1300 => (&[U8], Nothing),                 // IrqRaise
-        0x1301 => (&[U8], Nothing),                 // IrqLower
-        0x1302 => (&[To(1)], Nothing),              // A20Set
-        0x1303 => (&[], Nothing),                   // ResetRequest
-        0x1400 => (&[To(4)], Text),                 // Log
-        0x1500 => (&[U16], Bytes),                  // SerialOutput
-        0x1FFE => (&[], Text),                      // Panic
-        0x1FFF => (&[], Nothing),                   // TripleFault
+        0x1200 => (&[U64], Nothing),                 // FrameReady
+        0x1300 => (&[U8], Nothing),                  // IrqRaise
+        0x1301 => (&[U8], Nothing),                  // IrqLower
+        0x1302 => (&[To(1)], Nothing),               // A20Set
+        0x1303 => (&[], Nothing),                    // ResetRequest
+        0x1400 => (&[To(4)], Text),                  // Log
+        0x1500 => (&[U16], Bytes),                   // SerialOutput
+        0x1FFE => (&[], Text),                       // Panic
+        0x1FFF => (&[], Nothing),                    // TripleFault
         _ => return None,
     };
     Some(form)
@@ -112,7 +112,11 @@ impl Field {
 pub fn message_read(message: &[u8]) -> Reading {
     match read(message) {
         Ok(reading) => reading,
-        Err(Answer { number, place }) => Reading { number, place, ..Reading::default() },
+        Err(Answer { number, place }) => Reading {
+            number,
+            place,
+            ..Reading::default()
+        },
     }
 }
 
@@ -120,7 +124,10 @@ fn read(message: &[u8]) -> Taken<Reading> {
     ask(message.len() <= MOST_MESSAGE, LIMIT, 0)?;
     ask(message.len() >= 2, SHAPE, 0)?;
     let tag = u32::from(u16_at(message, 0));
-    let (fields, data) = form_of(tag).ok_or(Answer { number: TAG, place: 0 })?;
+    let (fields, data) = form_of(tag).ok_or(Answer {
+        number: TAG,
+        place: 0,
+    })?;
     let mut cursor = Cursor::new(message, 2, message.len());
     let mut numbers = Numbers::default();
     for (at, field) in fields.iter().enumerate() {
@@ -129,13 +136,26 @@ fn read(message: &[u8]) -> Taken<Reading> {
     let (data_place, data_length) = read_data(data, &mut cursor)?;
     cursor.finish()?;
     let [a, b, c, d] = numbers;
-    Ok(Reading { number: 0, place: 0, tag, a, b, c, d, data_place, data_length })
+    Ok(Reading {
+        number: 0,
+        place: 0,
+        tag,
+        a,
+        b,
+        c,
+        d,
+        data_place,
+        data_length,
+    })
 }
 
 fn read_number(field: Field, ok: u64, cursor: &mut Cursor) -> Taken<u64> {
     let place = cursor.place();
     let bytes = cursor.take(field.width(ok) as u64)?;
-    let number = bytes.iter().rev().fold(0, |number, byte| number << 8 | u64::from(*byte));
+    let number = bytes
+        .iter()
+        .rev()
+        .fold(0, |number, byte| number << 8 | u64::from(*byte));
     ask(number <= field.most(ok), VALUE, place)?;
     Ok(number)
 }
@@ -166,15 +186,25 @@ pub fn message_write(
 }
 
 fn write(tag: u32, numbers: Numbers, bytes: &[u8], out: &mut [u8]) -> Taken<usize> {
-    let (fields, data) = form_of(tag).ok_or(Answer { number: TAG, place: 0 })?;
+    let (fields, data) = form_of(tag).ok_or(Answer {
+        number: TAG,
+        place: 0,
+    })?;
     let ok = numbers[1];
     let (used, unused) = numbers.split_at(fields.len());
-    let fit = fields.iter().zip(used).all(|(field, number)| *number <= field.most(ok));
+    let fit = fields
+        .iter()
+        .zip(used)
+        .all(|(field, number)| *number <= field.most(ok));
     ask(fit && unused.iter().all(|number| *number == 0), VALUE, 0)?;
     ask(data != Data::None || bytes.is_empty(), VALUE, 0)?;
     ask(data != Data::Text || is_text(bytes), TEXT, 0)?;
     let numbers_length: usize = fields.iter().map(|field| field.width(ok)).sum();
-    let data_length = if data == Data::None { 0 } else { 4 + bytes.len() };
+    let data_length = if data == Data::None {
+        0
+    } else {
+        4 + bytes.len()
+    };
     let needed = 2 + numbers_length + data_length;
     ask(needed <= MOST_MESSAGE, LIMIT, 0)?;
 
