@@ -33,21 +33,49 @@ pub struct Comparison {
     theirs: Vec<u8>,
 }
 
+/// A call that takes a file or a wrapper and lent memory.
+type Call = fn(&[u8], &mut [u8]) -> Answer;
+
+/// The calls on a file with an output: the library's and the reference's.
+const FILE_CALLS: [(&str, Call, Call); 6] = [
+    ("sections", library::sections, reference::sections),
+    ("devices", library::devices, reference::devices),
+    ("disks", library::disks, reference::disks),
+    ("canonical", library::canonical, reference::canonical),
+    (
+        "add_device of (3, 1, 0)",
+        |file, out| library::add_device(file, 3, 1, 0, b"new", out),
+        |file, out| reference::add_device(file, 3, 1, 0, b"new", out),
+    ),
+    (
+        "add_disk of 256",
+        |file, out| library::add_disk(file, 256, b"base", b"", out),
+        |file, out| reference::add_disk(file, 256, b"base", b"", out),
+    ),
+];
+
+/// The same for wrappers.
+const WRAPPER_CALLS: [(&str, Call, Call); 2] = [
+    ("controllers", library::controllers, reference::controllers),
+    (
+        "wrapper_canonical",
+        library::wrapper_canonical,
+        reference::wrapper_canonical,
+    ),
+];
+
 impl Comparison {
     pub fn new(name: &'static str, seed: u64) -> Self {
-        let random = Random::new(seed);
-        let (inputs, calls, answers, exact) = (0, 0, [0; 20], false);
-        let (ours, theirs) = (vec![], vec![]);
         Comparison {
             name,
             seed,
-            random,
-            inputs,
-            calls,
-            answers,
-            exact,
-            ours,
-            theirs,
+            random: Random::new(seed),
+            inputs: 0,
+            calls: 0,
+            answers: [0; 20],
+            exact: false,
+            ours: vec![],
+            theirs: vec![],
         }
     }
 
@@ -55,49 +83,24 @@ impl Comparison {
     pub fn file(&mut self, file: &[u8]) -> Answer {
         self.inputs += 1;
         let before = fingerprint(file);
-        let answer = self.answer(
-            "check",
-            &[file],
-            library::check(file),
-            reference::check(file),
-        );
-        self.output(
-            "sections",
-            &[file],
-            |t| library::sections(file, t),
-            |t| reference::sections(file, t),
-        );
-        self.output(
-            "devices",
-            &[file],
-            |t| library::devices(file, t),
-            |t| reference::devices(file, t),
-        );
-        self.output(
-            "disks",
-            &[file],
-            |t| library::disks(file, t),
-            |t| reference::disks(file, t),
-        );
-        self.output(
-            "canonical",
-            &[file],
-            |o| library::canonical(file, o),
-            |o| reference::canonical(file, o),
-        );
-        self.output(
-            "add_device of (3, 1, 0)",
-            &[file],
-            |out| library::add_device(file, 3, 1, 0, b"new", out),
-            |out| reference::add_device(file, 3, 1, 0, b"new", out),
-        );
-        self.output(
-            "add_disk of 256",
-            &[file],
-            |out| library::add_disk(file, 256, b"base", b"", out),
-            |out| reference::add_disk(file, 256, b"base", b"", out),
-        );
+        let (ours, theirs) = (library::check(file), reference::check(file));
+        let answer = self.answer("check", &[file], ours, theirs);
+        self.outputs(&FILE_CALLS, file);
         self.unchanged(before, file);
+        answer
+    }
+
+    /// Every call that takes a wrapper; the answer to `wrapper_check`.
+    pub fn wrapper(&mut self, wrapper: &[u8]) -> Answer {
+        self.inputs += 1;
+        let before = fingerprint(wrapper);
+        let (ours, theirs) = (
+            library::wrapper_check(wrapper),
+            reference::wrapper_check(wrapper),
+        );
+        let answer = self.answer("wrapper_check", &[wrapper], ours, theirs);
+        self.outputs(&WRAPPER_CALLS, wrapper);
+        self.unchanged(before, wrapper);
         answer
     }
 
@@ -139,33 +142,6 @@ impl Comparison {
             self.unchanged(before, input);
         }
         (answer, self.lent())
-    }
-
-    /// Every call that takes a wrapper; the answer to `wrapper_check`.
-    pub fn wrapper(&mut self, wrapper: &[u8]) -> Answer {
-        self.inputs += 1;
-        let before = fingerprint(wrapper);
-        let ours = library::wrapper_check(wrapper);
-        let answer = self.answer(
-            "wrapper_check",
-            &[wrapper],
-            ours,
-            reference::wrapper_check(wrapper),
-        );
-        self.output(
-            "controllers",
-            &[wrapper],
-            |table| library::controllers(wrapper, table),
-            |table| reference::controllers(wrapper, table),
-        );
-        self.output(
-            "wrapper_canonical",
-            &[wrapper],
-            |out| library::wrapper_canonical(wrapper, out),
-            |out| reference::wrapper_canonical(wrapper, out),
-        );
-        self.unchanged(before, wrapper);
-        answer
     }
 
     /// Reads a message, and writes what was read: that gives its bytes again.
@@ -250,6 +226,18 @@ impl Comparison {
             );
         }
         theirs
+    }
+
+    /// Each of the calls on one input.
+    fn outputs(&mut self, calls: &[(&str, Call, Call)], input: &[u8]) {
+        for (name, library, reference) in calls {
+            self.output(
+                name,
+                &[input],
+                |out| library(input, out),
+                |out| reference(input, out),
+            );
+        }
     }
 
     /// A call with lent memory, whose length is chosen about what the reference needs.
@@ -388,4 +376,108 @@ fn hex(bytes: &[u8]) -> String {
         .collect();
     let more = if bytes.len() > SHOWN { " ..." } else { "" };
     format!("{} bytes: {shown}{more}", bytes.len())
+}
+
+/// The comparison itself can fail: each of these is what a faulty library would do.
+#[cfg(test)]
+mod tests {
+    use super::*;
+
+    const TAKEN: Answer = Answer {
+        number: 0,
+        place: 4,
+    };
+    const SHORT_OF_ROOM: Answer = Answer {
+        number: ROOM,
+        place: 4,
+    };
+
+    /// Writes four bytes if there is room for them.
+    fn four(out: &mut [u8]) -> Answer {
+        match out.get_mut(..4) {
+            None => SHORT_OF_ROOM,
+            Some(part) => {
+                part.copy_from_slice(b"four");
+                TAKEN
+            }
+        }
+    }
+
+    /// Compares calls of the library with `four`, until all lengths of output have come.
+    fn against_four(library: impl Fn(&mut [u8]) -> Answer) {
+        let mut run = Comparison::new("four", 1);
+        for _ in 0..200 {
+            run.output("four", &[b"input"], &library, four);
+        }
+    }
+
+    #[test]
+    fn the_same_is_taken() {
+        against_four(four);
+    }
+
+    #[test]
+    #[should_panic(expected = "first difference at 3")]
+    fn another_byte() {
+        against_four(|out| {
+            let answer = four(out);
+            out.iter_mut().skip(3).take(1).for_each(|byte| *byte = b'R');
+            answer
+        });
+    }
+
+    #[test]
+    #[should_panic(expected = "first difference at 4")]
+    fn a_byte_behind_the_written_ones() {
+        against_four(|out| {
+            let answer = four(out);
+            out.iter_mut().skip(4).take(1).for_each(|byte| *byte ^= 1);
+            answer
+        });
+    }
+
+    #[test]
+    #[should_panic(expected = "first difference at 0")]
+    fn a_refusal_that_writes() {
+        against_four(|out| {
+            let answer = four(out);
+            if answer == SHORT_OF_ROOM {
+                out.iter_mut().for_each(|byte| *byte ^= 1);
+            }
+            answer
+        });
+    }
+
+    #[test]
+    #[should_panic(expected = "library Answer { number: 16, place: 3 }")]
+    fn another_place() {
+        against_four(|out| match four(out) {
+            SHORT_OF_ROOM => Answer {
+                number: ROOM,
+                place: 3,
+            },
+            answer => answer,
+        });
+    }
+
+    #[test]
+    #[should_panic(expected = "both wrote beside their 4 bytes")]
+    fn both_write_too_much() {
+        let five = |out: &mut [u8]| {
+            let answer = four(out);
+            out.iter_mut().skip(4).take(1).for_each(|byte| *byte ^= 1);
+            answer
+        };
+        let mut run = Comparison::new("five", 1);
+        for _ in 0..200 {
+            run.output("five", &[b"input"], five, five);
+        }
+    }
+
+    #[test]
+    #[should_panic(expected = "the input was changed")]
+    fn an_input_that_changes() {
+        let before = fingerprint(b"an input of some length");
+        Comparison::new("changed", 1).unchanged(before, b"an input of some lengtH");
+    }
 }

@@ -48,10 +48,10 @@ const GROUPS: [Group; 26] = [
     ("messages: written at random", messages::written),
     ("adds: chains in several orders", adds::chains),
     ("adds: to any file", adds::to_any_file),
-    ("bounds: counts", bounds::counts),
-    ("bounds: texts and messages", bounds::texts),
-    ("bounds: payloads", bounds::payloads),
-    ("bounds: the whole file", bounds::whole_file),
+    ("bounds: counts", bounds::counts::all),
+    ("bounds: texts and messages", bounds::texts::all),
+    ("bounds: payloads", bounds::payloads::all),
+    ("bounds: the whole file", bounds::whole_file::all),
 ];
 
 fn main() {
