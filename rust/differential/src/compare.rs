@@ -170,7 +170,7 @@ impl Comparison {
         lay_pattern(&mut self.ours, message.len(), 0);
         let out = &mut self.ours[MARGIN..MARGIN + message.len()];
         let ours = library::message_write(read.tag, [read.a, read.b, read.c, read.d], data, out);
-        let again = &*out == message;
+        let again = &*out == message && pattern_stands(&self.ours, message.len(), 0);
         let theirs = Answer {
             number: 0,
             place: message.len() as u64,
@@ -248,7 +248,8 @@ impl Comparison {
         library: impl Fn(&mut [u8]) -> Answer,
         reference: impl Fn(&mut [u8]) -> Answer,
     ) -> Answer {
-        let length = self.lent_length(reference(&mut []));
+        let input = inputs.iter().map(|input| input.len()).sum();
+        let length = self.lent_length(reference(&mut []), input);
         let salt = self.random.u8();
         lay_pattern(&mut self.ours, length, salt);
         lay_pattern(&mut self.theirs, length, salt);
@@ -277,15 +278,16 @@ impl Comparison {
         self.answer(call, inputs, ours, theirs)
     }
 
-    /// None, one too few, exactly enough, more, or anything, when `probe` was answered to none.
-    fn lent_length(&mut self, probe: Answer) -> usize {
+    /// None, one too few, exactly enough, more, or anything, when `probe` was answered to none. Where the
+    /// input itself is refused there is mostly room for a copy of it, so that a hasty writer shows.
+    fn lent_length(&mut self, probe: Answer, input: usize) -> usize {
         let more = 1 + self.random.below(40);
-        if probe.number != ROOM {
-            return if self.random.once_in(4) { 0 } else { more };
-        }
         let needed = probe.place as usize;
-        if self.exact {
-            return needed;
+        match (probe.number, self.exact) {
+            (ROOM, true) => return needed,
+            (ROOM, false) => {}
+            (_, true) => return more,
+            (_, false) => return self.random.pick(&[0, more, input + more, input + more]),
         }
         match self.random.below(16) {
             0 => 0,
