@@ -387,57 +387,52 @@ fn add(sections: &[Section], new: New, out: &mut [u8]) -> Taken<usize> {
     let (others, home): (Vec<&Section>, Vec<&Section>) = canonical_order(sections)
         .into_iter()
         .partition(|section| section.id != new.id);
-    let list = home.first().and_then(|section| section.list.as_ref());
-    let old_entries = home
+    let none = List::new();
+    let list = home.first().and_then(|home| home.list.as_ref());
+    let list = list.unwrap_or(&none);
+    let old_payload = home
         .first()
-        .map_or(&[][..], |section| &section.bytes[SECTION_HEADER + 4..]);
-    let count = list.map_or(0, |list| list.len()) + 1;
-    let payload = 4 + old_entries.len() as u64 + new.length();
+        .map_or(4, |home| home.bytes.len() - SECTION_HEADER);
+    let payload = old_payload as u64 + new.length();
+    let needed = length_of(&others) + SECTION_HEADER + payload as usize;
 
-    ask(
-        !list.is_some_and(|list| list.contains_key(&new.key)),
-        HAVE,
-        0,
-    )?;
-    ask(count <= new.kind.most() as usize, LIMIT, 0)?;
+    ask(!list.contains_key(&new.key), HAVE, 0)?;
+    ask(list.len() < new.kind.most() as usize, LIMIT, 0)?;
     ask(
         new.id != DEVICES || payload <= MOST_DEVICES_PAYLOAD,
         LIMIT,
         0,
     )?;
     ask(others.len() < MOST_SECTIONS, MANY, 0)?;
-    let needed = length_of(&others) + SECTION_HEADER + payload as usize;
     ask(needed <= MOST_FILE, SIZE, 0)?;
 
     let mut output = Output::with_room(out, needed)?;
     output.put(HEADER);
-    let later = others
-        .iter()
-        .position(|section| section.rank() > new.id)
-        .unwrap_or(others.len());
-    others[..later]
-        .iter()
-        .for_each(|section| put_section(section, &mut output));
-    put_grown_list(list, count as u32, payload, &new, &mut output);
-    others[later..]
-        .iter()
-        .for_each(|section| put_section(section, &mut output));
+    let (before, after) = others.split_at(others.partition_point(|other| other.rank() < new.id));
+    for section in before {
+        put_section(section, &mut output);
+    }
+    put_grown_list(list, payload, &new, &mut output);
+    for section in after {
+        put_section(section, &mut output);
+    }
     Ok(needed)
 }
 
 /// Writes the section of version 1 that holds the list's entries and the new one.
-fn put_grown_list(list: Option<&List>, count: u32, payload: u64, new: &New, output: &mut Output) {
+fn put_grown_list(list: &List, payload: u64, new: &New, output: &mut Output) {
+    let count = list.len() as u32 + 1;
     output.put(&new.id.to_le_bytes());
     output.put(&[1, 0, 0, 0]);
     output.put(&payload.to_le_bytes());
     output.put(&count.to_le_bytes());
-    if let Some(list) = list {
-        list.range(..new.key)
-            .for_each(|(_, entry)| output.put(entry.bytes));
+    for (_, entry) in list.range(..new.key) {
+        output.put(entry.bytes);
     }
-    new.parts.iter().for_each(|part| output.put(part));
-    if let Some(list) = list {
-        list.range(new.key..)
-            .for_each(|(_, entry)| output.put(entry.bytes));
+    for part in new.parts {
+        output.put(part);
+    }
+    for (_, entry) in list.range(new.key..) {
+        output.put(entry.bytes);
     }
 }

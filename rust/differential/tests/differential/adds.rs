@@ -18,7 +18,8 @@ enum New {
 
 fn new(random: &mut Random, broken: usize) -> New {
     if random.once_in(2) {
-        let length = random.below(10);
+        let most = random.pick(&[10, 10, 10, 2_000]);
+        let length = random.below(most);
         New::Device(make::device_key(random), random.bytes(length))
     } else {
         let [base, overlay] = [0; 2].map(|_| text::either(random, 5, broken));

@@ -22,7 +22,7 @@ const AT_LEAST: u64 = 1_000_000;
 
 type Group = (&'static str, fn(&mut Comparison));
 
-const GROUPS: [Group; 26] = [
+const GROUPS: [Group; 27] = [
     ("snapshots: valid files", snapshots::valid),
     ("snapshots: every byte changed", snapshots::every_byte),
     ("snapshots: every length cut", snapshots::every_cut),
@@ -43,6 +43,7 @@ const GROUPS: [Group; 26] = [
     ("messages: every tag", messages::every_tag),
     ("messages: every short length", messages::every_length),
     ("messages: texts", messages::texts),
+    ("messages: long texts", messages::long_texts),
     ("messages: damaged", messages::damaged),
     ("messages: written at the edges", messages::written_edges),
     ("messages: written at random", messages::written),

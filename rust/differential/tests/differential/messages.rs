@@ -51,9 +51,13 @@ fn short_message(random: &mut Random, tag: u16) -> Vec<u8> {
     message
 }
 
+/// The message Panic with this text, of less than 256 bytes.
+fn panic(text: &[u8]) -> Vec<u8> {
+    [&[0xFE, 0x1F, text.len() as u8, 0, 0, 0], text].concat()
+}
+
 /// Panic with every text of two bytes, and with all strings of up to four bytes at the edges of UTF-8.
 pub fn texts(run: &mut Comparison) {
-    let panic = |text: &[u8]| [&[0xFE, 0x1F, text.len() as u8, 0, 0, 0], text].concat();
     for two in 0..=u16::MAX {
         run.message(&panic(&two.to_be_bytes()));
     }
@@ -69,11 +73,28 @@ pub fn texts(run: &mut Comparison) {
     }
 }
 
+/// Panic with a character, or what is none, behind so many plain ones and before some more: a reader that
+/// takes plain text in steps of several bytes meets it at every place in a step.
+pub fn long_texts(run: &mut Comparison) {
+    for before in 0..=40 {
+        for one in EDGES {
+            for two in EDGES {
+                let after = run.random.below(40);
+                let text = [&[b'x'; 40][..before], &[one, two], &[b'y'; 40][..after]].concat();
+                run.message(&panic(&text));
+                let middle = text::either(&mut run.random, 4, 2);
+                run.message(&panic(
+                    &[&text[..before], &middle, &text[before + 2..]].concat(),
+                ));
+            }
+        }
+    }
+}
+
 /// Valid messages of every kind, as they are and with up to two bytes changed, cut or added.
 pub fn damaged(run: &mut Comparison) {
     for _ in 0..100_000 {
-        let message = random_message(&mut run.random);
-        let mut bytes = message;
+        let mut bytes = random_message(&mut run.random);
         for _ in 0..run.random.below(3) {
             let place = run.random.below(bytes.len().max(1));
             match run.random.below(4) {

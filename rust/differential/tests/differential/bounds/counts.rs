@@ -3,7 +3,7 @@
 use differential::compare::Comparison;
 use differential::make::{self, Made};
 
-use super::{empty_list, expect, file_of, HAVE, LIMIT, MANY};
+use super::{empty_list, expect, file_of, HAVE, LIMIT, MANY, TEXT};
 
 pub fn all(run: &mut Comparison) {
     sections(run);
@@ -35,6 +35,9 @@ fn sections(run: &mut Comparison) {
     expect(run.add_disk(&of_63, 1, b"", b"").0, 0, written + 12);
     expect(run.add_device(&of_64, (1, 1, 0), b"").0, MANY, 0);
     expect(run.add_disk(&of_64, 1, b"", b"").0, MANY, 0);
+    // An entry that is wrong in itself comes before MANY.
+    expect(run.add_disk(&of_64, 1, b"\xFF", b"").0, TEXT, 0);
+    expect(run.add_disk(&of_64, 1, &[0xFF; 65_537], b"").0, LIMIT, 0);
     // Of 64 sections one is an empty list, of devices or of another sort: there is room for one.
     for id in [4, 5, 7, 8] {
         let file = [of_63.clone(), empty_list(id)].concat();

@@ -85,30 +85,29 @@ const WITH_DATA: [(u32, usize, bool); 5] = [
     (0x1FFE, 0, true),
 ];
 
+/// Lengths of whole messages about the bound, and far above it.
+const LENGTHS: [usize; 4] = [65_535, 65_536, 65_537, 200_000];
+const MOST_MESSAGE: usize = 65_536;
+
 fn messages_read(run: &mut Comparison) {
     for (tag, numbers, is_text) in WITH_DATA {
-        for (length, broken) in [
-            (65_535, false),
-            (65_536, false),
-            (65_536, true),
-            (65_537, true),
-        ] {
-            let data = long_text(length - 2 - numbers - 4, broken);
+        for (length, broken) in LENGTHS.into_iter().flat_map(|n| [(n, false), (n, true)]) {
             let mut made = Made::default();
-            made.number(2, u64::from(tag))
-                .raw(&[1; 12][..numbers])
-                .sized(4, &data);
+            made.number(2, u64::from(tag)).raw(&[1; 12][..numbers]);
+            made.sized(4, &long_text(length - 6 - numbers, broken));
             let reading = run.message(&made.bytes);
-            let expected = match (length, broken && is_text) {
-                (65_537, _) => (LIMIT, 0),
-                (_, true) => (TEXT, 6 + numbers as u64),
-                _ => (0, 0),
+            let expected = if length > MOST_MESSAGE {
+                (LIMIT, 0)
+            } else if broken && is_text {
+                (TEXT, 6 + numbers as u64)
+            } else {
+                (0, 0)
             };
             assert_eq!((reading.number, reading.place), expected);
         }
     }
     for tag in 0..=0x2000u16 {
-        let mut message = vec![0; 65_537];
+        let mut message = vec![0; MOST_MESSAGE + 1];
         message[..2].copy_from_slice(&tag.to_le_bytes());
         assert_eq!(run.message(&message).number, LIMIT);
     }
@@ -117,20 +116,16 @@ fn messages_read(run: &mut Comparison) {
 fn messages_written(run: &mut Comparison) {
     run.exact = true;
     for (tag, numbers, is_text) in WITH_DATA {
-        for (length, broken) in [
-            (65_535, false),
-            (65_536, false),
-            (65_536, true),
-            (65_537, false),
-            (65_537, true),
-        ] {
-            let data = long_text(length - 2 - numbers - 4, broken);
+        for (length, broken) in LENGTHS.into_iter().flat_map(|n| [(n, false), (n, true)]) {
+            let data = long_text(length - 6 - numbers, broken);
             let first = u64::from(numbers > 0);
             let (answer, _) = run.write_message(tag, [first, 0, 0, 0], &data);
-            match (length, broken && is_text) {
-                (_, true) => expect(answer, TEXT, 0),
-                (65_537, _) => expect(answer, LIMIT, 0),
-                _ => expect(answer, 0, length),
+            if broken && is_text {
+                expect(answer, TEXT, 0);
+            } else if length > MOST_MESSAGE {
+                expect(answer, LIMIT, 0);
+            } else {
+                expect(answer, 0, length);
             }
         }
     }
