@@ -52,7 +52,7 @@ fn add_roomy(run: &mut Comparison, file: &[u8], new: &New) -> Result<Vec<u8>, u3
 /// From one file, a set of new entries in three orders: all refused, or all the same bytes, which are
 /// their own canonical form.
 pub fn chains(run: &mut Comparison) {
-    for _ in 0..6_000 {
+    for _ in 0..15_000 {
         let file = make::file(&mut run.random).bytes;
         let mut set = vec![];
         for _ in 0..1 + run.random.below(5) {
@@ -94,7 +94,7 @@ fn chain(run: &mut Comparison, file: &[u8], set: &[New]) -> Result<Vec<u8>, u32>
 
 /// Entries with good and broken texts added to valid and damaged files.
 pub fn to_any_file(run: &mut Comparison) {
-    for _ in 0..80_000 {
+    for _ in 0..150_000 {
         let made = make::file(&mut run.random);
         let faults = run.random.pick(&[0, 0, 0, 1, 2]);
         let file = several(&mut run.random, &made, faults);

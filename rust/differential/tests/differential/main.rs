@@ -2,7 +2,7 @@
 //!
 //! Runs each group of inputs from its own fixed seed and prints how many inputs it had. The first
 //! difference ends the run with the input, the seed and both answers. A word as argument runs only the
-//! groups whose name has it.
+//! groups whose name has it; `DIFFERENTIAL_SEED`, a number, tries other inputs.
 //!
 //! In the end it asks that there were a million inputs, and that every refusal came but ADDRESS, which
 //! no wrapper can yield.
@@ -59,6 +59,7 @@ fn main() {
     let wanted = std::env::args()
         .skip(1)
         .find(|argument| !argument.starts_with('-'));
+    let seed = seed();
     let start = Instant::now();
     let mut total = Total::default();
     for (at, (name, run)) in GROUPS.into_iter().enumerate() {
@@ -66,7 +67,7 @@ fn main() {
             .as_ref()
             .is_none_or(|word| name.contains(word.as_str()))
         {
-            let mut comparison = Comparison::new(name, SEED + at as u64);
+            let mut comparison = Comparison::new(name, seed.wrapping_add(at as u64));
             let begun = Instant::now();
             run(&mut comparison);
             total.add(&comparison, begun.elapsed().as_secs_f64());
@@ -81,6 +82,14 @@ fn main() {
     );
     if wanted.is_none() {
         total.suffices();
+    }
+}
+
+/// The seed of every run, unless the caller names another.
+fn seed() -> u64 {
+    match std::env::var("DIFFERENTIAL_SEED") {
+        Ok(number) => number.parse().expect("DIFFERENTIAL_SEED is a number"),
+        Err(_) => SEED,
     }
 }
 

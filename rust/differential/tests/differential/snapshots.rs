@@ -179,7 +179,7 @@ pub fn pairs(run: &mut Comparison) {
 }
 
 pub fn damaged(run: &mut Comparison) {
-    for _ in 0..180_000 {
+    for _ in 0..300_000 {
         let made = make::file(&mut run.random);
         let faults = 1 + run.random.below(3);
         let file = several(&mut run.random, &made, faults);

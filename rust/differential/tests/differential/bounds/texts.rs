@@ -48,6 +48,12 @@ fn images(run: &mut Comparison) {
     let [most, over] = [65_536, 65_537].map(|length| long_text(length, false));
     let broken = long_text(65_536, true);
     expect(run.file(&of(&most, &most)), 0, 0);
+    let two = file_of(5, 1, |made| {
+        made.number(4, 2)
+            .disk(7, &most, &most)
+            .disk(6, &most, &most);
+    });
+    expect(run.file(&two), 0, 0);
     expect(run.file(&of(&over, &most)), LIMIT, 40);
     expect(run.file(&of(&most, &over)), LIMIT, 44 + 65_536);
     expect(run.file(&of(&broken, &over)), TEXT, 44);
