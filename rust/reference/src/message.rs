@@ -32,9 +32,7 @@ enum Field {
     U64,
     /// A byte with a largest value.
     To(u8),
-    /// `ok`, a byte 0 or 1.
-    Ok,
-    /// The u32 error code, there exactly if `ok`, two fields before it, is 0.
+    /// The u32 error code, there exactly if `ok`, the second number of its kind, is 0.
     Error,
 }
 
@@ -52,32 +50,32 @@ type Numbers = [u64; 4];
 /// The fields of the kind with a tag.
 fn form_of(tag: u32) -> Option<(&'static [Field], Data)> {
     use Data::{Bytes, None as Nothing, Text};
-    use Field::{Error, Ok, To, U16, U32, U64, U8};
+    use Field::{Error, To, U16, U32, U64, U8};
     let form: (&[Field], Data) = match tag {
-        0x0000 => (&[U32], Nothing),                 // Nop
-        0x0001 => (&[], Nothing),                    // Shutdown
-        0x0100 => (&[U32, U64, U32], Nothing),       // MmioRead
-        0x0101 => (&[U32, U64], Bytes),              // MmioWrite
-        0x0102 => (&[U32, U16, U32], Nothing),       // PortRead
-        0x0103 => (&[U32, U16, U32, U32], Nothing),  // PortWrite
-        0x0104 => (&[U32, U64, U32, U64], Nothing),  // DiskRead
-        0x0105 => (&[U32, U64, U32, U64], Nothing),  // DiskWrite
-        0x1000 => (&[U32], Nothing),                 // Ack
-        0x1100 => (&[U32], Bytes),                   // MmioReadResp
-        0x1101 => (&[U32, U32], Nothing),            // PortReadResp
-        0x1102 => (&[U32], Nothing),                 // MmioWriteResp
-        0x1103 => (&[U32], Nothing),                 // PortWriteResp
-        0x1104 => (&[U32, Ok, U32, Error], Nothing), // DiskReadResp
-        0x1105 => (&[U32, Ok, U32, Error], Nothing), // DiskWriteResp
-        0x1200 => (&[U64], Nothing),                 // FrameReady
-        0x1300 => (&[U8], Nothing),                  // IrqRaise
-        0x1301 => (&[U8], Nothing),                  // IrqLower
-        0x1302 => (&[To(1)], Nothing),               // A20Set
-        0x1303 => (&[], Nothing),                    // ResetRequest
-        0x1400 => (&[To(4)], Text),                  // Log
-        0x1500 => (&[U16], Bytes),                   // SerialOutput
-        0x1FFE => (&[], Text),                       // Panic
-        0x1FFF => (&[], Nothing),                    // TripleFault
+        0x0000 => (&[U32], Nothing),                    // Nop
+        0x0001 => (&[], Nothing),                       // Shutdown
+        0x0100 => (&[U32, U64, U32], Nothing),          // MmioRead
+        0x0101 => (&[U32, U64], Bytes),                 // MmioWrite
+        0x0102 => (&[U32, U16, U32], Nothing),          // PortRead
+        0x0103 => (&[U32, U16, U32, U32], Nothing),     // PortWrite
+        0x0104 => (&[U32, U64, U32, U64], Nothing),     // DiskRead
+        0x0105 => (&[U32, U64, U32, U64], Nothing),     // DiskWrite
+        0x1000 => (&[U32], Nothing),                    // Ack
+        0x1100 => (&[U32], Bytes),                      // MmioReadResp
+        0x1101 => (&[U32, U32], Nothing),               // PortReadResp
+        0x1102 => (&[U32], Nothing),                    // MmioWriteResp
+        0x1103 => (&[U32], Nothing),                    // PortWriteResp
+        0x1104 => (&[U32, To(1), U32, Error], Nothing), // DiskReadResp
+        0x1105 => (&[U32, To(1), U32, Error], Nothing), // DiskWriteResp
+        0x1200 => (&[U64], Nothing),                    // FrameReady
+        0x1300 => (&[U8], Nothing),                     // IrqRaise
+        0x1301 => (&[U8], Nothing),                     // IrqLower
+        0x1302 => (&[To(1)], Nothing),                  // A20Set
+        0x1303 => (&[], Nothing),                       // ResetRequest
+        0x1400 => (&[To(4)], Text),                     // Log
+        0x1500 => (&[U16], Bytes),                      // SerialOutput
+        0x1FFE => (&[], Text),                          // Panic
+        0x1FFF => (&[], Nothing),                       // TripleFault
         _ => return None,
     };
     Some(form)
@@ -87,7 +85,7 @@ impl Field {
     /// The bytes that the field takes beside `ok`.
     fn width(self, ok: u64) -> usize {
         match self {
-            Field::U8 | Field::To(_) | Field::Ok => 1,
+            Field::U8 | Field::To(_) => 1,
             Field::U16 => 2,
             Field::U32 => 4,
             Field::U64 => 8,
@@ -99,7 +97,6 @@ impl Field {
     fn most(self, ok: u64) -> u64 {
         match self {
             Field::To(most) => u64::from(most),
-            Field::Ok => 1,
             _ => match self.width(ok) {
                 8 => u64::MAX,
                 width => (1 << (8 * width)) - 1,
