@@ -3,8 +3,6 @@
 //! A list is a u32 count and so many entries. An entry opens with a fixed part that holds its key; a key
 //! comes once. What the kinds of entry differ in is asked of [`Kind`].
 
-use std::collections::btree_map::{BTreeMap, Entry as Slot};
-
 use crate::answer::{ask, Taken, ADDRESS, KEY, LIMIT, RESERVED, SHAPE, VALUE};
 use crate::cursor::{u16_at, u32_at, u64_at, Cursor, Output};
 
@@ -25,41 +23,57 @@ pub enum Kind {
     Controllers,
 }
 
-/// An entry: its bytes, and where they start in the input.
+/// An entry: its key, where it starts in the input, and its bytes.
 #[derive(Clone, Copy)]
 pub struct Entry<'a> {
+    pub key: u64,
     pub start: usize,
     pub bytes: &'a [u8],
 }
 
 /// The entries of a list in key order. Keys are compared as numbers, the first field weighing most.
-pub type List<'a> = BTreeMap<u64, Entry<'a>>;
+pub type List<'a> = Vec<Entry<'a>>;
 
 /// Reads the list that the cursor's part is, up to its last byte.
-pub fn read_list<'a>(kind: Kind, mut cursor: Cursor<'a>) -> Taken<List<'a>> {
-    let count = cursor.u32_to(kind.most())?;
-    let mut list = List::new();
-    for _ in 0..count {
-        read_entry(kind, &mut cursor, &mut list)?;
-    }
+pub fn read_list(kind: Kind, mut cursor: Cursor) -> Taken<List> {
+    let count = cursor.u32_to(kind.most())? as usize;
+    let mut list = List::with_capacity(count.min(cursor.left() / kind.fixed_length()));
+    let walked = read_entries(kind, count, &mut cursor, &mut list);
+    // An entry is in the list as soon as its key is read. So a key that comes again in it was there
+    // before whatever ended the walk, and one sort finds it.
+    list.sort_by_key(|entry| entry.key);
+    check_keys(&list)?;
+    walked?;
     cursor.finish()?;
     Ok(list)
 }
 
-fn read_entry<'a>(kind: Kind, cursor: &mut Cursor<'a>, list: &mut List<'a>) -> Taken<()> {
-    let start = cursor.place();
-    let fixed = cursor.take(kind.fixed_length())?;
-    kind.check_fixed(fixed, start)?;
-    match list.entry(kind.key(fixed)) {
-        Slot::Occupied(_) => ask(false, KEY, start),
-        Slot::Vacant(slot) => {
-            kind.read_rest(fixed, start, cursor)?;
-            slot.insert(Entry {
-                start,
-                bytes: cursor.since(start),
-            });
-            Ok(())
-        }
+/// Reads so many entries in file order, and asks everything of them but that keys come once.
+fn read_entries<'a>(
+    kind: Kind,
+    count: usize,
+    cursor: &mut Cursor<'a>,
+    list: &mut List<'a>,
+) -> Taken<()> {
+    for at in 0..count {
+        let start = cursor.place();
+        let bytes = cursor.take(kind.fixed_length() as u64)?;
+        kind.check_fixed(bytes, start)?;
+        let key = kind.key(bytes);
+        list.push(Entry { key, start, bytes });
+        kind.read_rest(bytes, start, cursor)?;
+        list[at].bytes = cursor.since(start);
+    }
+    Ok(())
+}
+
+/// Of the entries in key order, those with one key in file order, none has the key of another; else the
+/// first in the file that has.
+fn check_keys(list: &List) -> Taken<()> {
+    let again = list.windows(2).filter(|pair| pair[0].key == pair[1].key);
+    match again.map(|pair| pair[1].start).min() {
+        Some(start) => ask(false, KEY, start),
+        None => Ok(()),
     }
 }
 
@@ -72,12 +86,12 @@ impl Kind {
         }
     }
 
-    fn fixed_length(self) -> u64 {
+    fn fixed_length(self) -> usize {
         match self {
             Kind::Devices => 16,
             Kind::Disks => 4,
             Kind::Cpus(_) => 8,
-            Kind::Mmus(version) => 4 + mmu_length(version) as u64,
+            Kind::Mmus(version) => 4 + mmu_length(version),
             Kind::Controllers => 12,
         }
     }
@@ -186,7 +200,7 @@ pub fn read_cpu_state(version: u16, length: usize, cursor: &mut Cursor) -> Taken
 pub fn write_table(list: &List, record: fn(Entry) -> [u8; 24], table: &mut [u8]) -> Taken<usize> {
     let needed = 24 * list.len();
     let mut output = Output::with_room(table, needed)?;
-    for entry in list.values() {
+    for entry in list {
         output.put(&record(*entry));
     }
     Ok(needed)

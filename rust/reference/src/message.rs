@@ -4,7 +4,7 @@
 //! there is none. Its data, if its kind has any, stands behind a u32 length as the last field.
 
 use crate::answer::{answered, ask, Answer, Taken, LIMIT, SHAPE, TAG, TEXT, VALUE};
-use crate::cursor::{is_text, u16_at, Cursor, Output};
+use crate::cursor::{is_text, u16_at, u32_at, u64_at, Cursor, Output};
 
 const MOST_MESSAGE: usize = 65_536;
 
@@ -149,10 +149,13 @@ fn read(message: &[u8]) -> Taken<Reading> {
 fn read_number(field: Field, ok: u64, cursor: &mut Cursor) -> Taken<u64> {
     let place = cursor.place();
     let bytes = cursor.take(field.width(ok) as u64)?;
-    let number = bytes
-        .iter()
-        .rev()
-        .fold(0, |number, byte| number << 8 | u64::from(*byte));
+    let number = match bytes.len() {
+        0 => 0,
+        1 => u64::from(bytes[0]),
+        2 => u64::from(u16_at(bytes, 0)),
+        4 => u64::from(u32_at(bytes, 0)),
+        _ => u64_at(bytes, 0),
+    };
     ask(number <= field.most(ok), VALUE, place)?;
     Ok(number)
 }

@@ -306,7 +306,7 @@ fn put_section(section: &Section, output: &mut Output) {
         None => output.put(section.bytes),
         Some(list) => {
             output.put(&section.bytes[..SECTION_HEADER + 4]);
-            for entry in list.values() {
+            for entry in list {
                 output.put(entry.bytes);
             }
         }
@@ -396,7 +396,7 @@ fn add(sections: &[Section], new: New, out: &mut [u8]) -> Taken<usize> {
     let payload = old_payload as u64 + new.length();
     let needed = length_of(&others) + SECTION_HEADER + payload as usize;
 
-    ask(!list.contains_key(&new.key), HAVE, 0)?;
+    ask(list.iter().all(|entry| entry.key != new.key), HAVE, 0)?;
     ask(list.len() < new.kind.most() as usize, LIMIT, 0)?;
     ask(
         new.id != DEVICES || payload <= MOST_DEVICES_PAYLOAD,
@@ -426,13 +426,14 @@ fn put_grown_list(list: &List, payload: u64, new: &New, output: &mut Output) {
     output.put(&[1, 0, 0, 0]);
     output.put(&payload.to_le_bytes());
     output.put(&count.to_le_bytes());
-    for (_, entry) in list.range(..new.key) {
+    let (before, after) = list.split_at(list.partition_point(|entry| entry.key < new.key));
+    for entry in before {
         output.put(entry.bytes);
     }
     for part in new.parts {
         output.put(part);
     }
-    for (_, entry) in list.range(new.key..) {
+    for entry in after {
         output.put(entry.bytes);
     }
 }

@@ -49,7 +49,7 @@ fn write_wrapper(list: &List, needed: usize, out: &mut [u8]) -> Taken<usize> {
     let mut output = Output::with_room(out, needed)?;
     output.put(HEADER);
     output.put(&(list.len() as u32).to_le_bytes());
-    for entry in list.values() {
+    for entry in list {
         output.put(entry.bytes);
     }
     Ok(needed)
