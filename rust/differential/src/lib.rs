@@ -1,0 +1,19 @@
+//! The proved library compared with the independent reference.
+//!
+//! What is proved of the library ends where its compiler and its C boundary begin. Here the compiled
+//! calls are run beside a reader and writer that another hand wrote from the rules, on more than a
+//! million inputs from a fixed seed: answers, readings, and every byte of lent memory have to be the same.
+//!
+//! - [`library`]: the calls of the library, in one place;
+//! - [`random`]: the numbers that inputs are made of;
+//! - [`make`]: valid files and wrappers, [`text`]: valid and broken UTF-8, [`damage`]: faults in them;
+//! - [`compare`]: one input given to both, and what is compared.
+//!
+//! The inputs themselves stand in `tests/differential`, a module for each format.
+
+pub mod compare;
+pub mod damage;
+pub mod library;
+pub mod make;
+pub mod random;
+pub mod text;

@@ -1,0 +1,126 @@
+//! The library against the reference on more than a million inputs.
+//!
+//! Runs each group of inputs from its own fixed seed and prints how many inputs it had. The first
+//! difference ends the run with the input, the seed and both answers. A word as argument runs only the
+//! groups whose name has it; `DIFFERENTIAL_SEED`, a number, tries other inputs.
+//!
+//! In the end it asks that there were a million inputs, and that every refusal came but ADDRESS, which
+//! no wrapper can yield.
+
+mod adds;
+mod bounds;
+mod messages;
+mod snapshots;
+mod wrappers;
+
+use std::time::Instant;
+
+use differential::compare::Comparison;
+
+const SEED: u64 = 0x4149_5043_4145_524F;
+const AT_LEAST: u64 = 1_000_000;
+
+type Group = (&'static str, fn(&mut Comparison));
+
+const GROUPS: [Group; 27] = [
+    ("snapshots: valid files", snapshots::valid),
+    ("snapshots: every byte changed", snapshots::every_byte),
+    ("snapshots: every length cut", snapshots::every_cut),
+    (
+        "snapshots: every number at its extremes",
+        snapshots::extremes,
+    ),
+    ("snapshots: two faults at once", snapshots::pairs),
+    ("snapshots: random damage", snapshots::damaged),
+    ("snapshots: joined", snapshots::joined),
+    ("snapshots: crowded", snapshots::crowded),
+    ("snapshots: texts", snapshots::texts),
+    ("wrappers: valid", wrappers::valid),
+    ("wrappers: every byte changed", wrappers::every_byte),
+    ("wrappers: every length cut", wrappers::every_cut),
+    ("wrappers: every number at its extremes", wrappers::extremes),
+    ("wrappers: random damage", wrappers::damaged),
+    ("messages: every tag", messages::every_tag),
+    ("messages: every short length", messages::every_length),
+    ("messages: texts", messages::texts),
+    ("messages: long texts", messages::long_texts),
+    ("messages: damaged", messages::damaged),
+    ("messages: written at the edges", messages::written_edges),
+    ("messages: written at random", messages::written),
+    ("adds: chains in several orders", adds::chains),
+    ("adds: to any file", adds::to_any_file),
+    ("bounds: counts", bounds::counts::all),
+    ("bounds: texts and messages", bounds::texts::all),
+    ("bounds: payloads", bounds::payloads::all),
+    ("bounds: the whole file", bounds::whole_file::all),
+];
+
+fn main() {
+    let wanted = std::env::args()
+        .skip(1)
+        .find(|argument| !argument.starts_with('-'));
+    let seed = seed();
+    let start = Instant::now();
+    let mut total = Total::default();
+    for (at, (name, run)) in GROUPS.into_iter().enumerate() {
+        if wanted
+            .as_ref()
+            .is_none_or(|word| name.contains(word.as_str()))
+        {
+            let mut comparison = Comparison::new(name, seed.wrapping_add(at as u64));
+            let begun = Instant::now();
+            run(&mut comparison);
+            total.add(&comparison, begun.elapsed().as_secs_f64());
+        }
+    }
+    println!("answers by number: {:?}", total.answers);
+    println!(
+        "{} inputs, {} calls, no difference, {:.1} s",
+        total.inputs,
+        total.calls,
+        start.elapsed().as_secs_f64()
+    );
+    if wanted.is_none() {
+        total.suffices();
+    }
+}
+
+/// The seed of every run, unless the caller names another.
+fn seed() -> u64 {
+    match std::env::var("DIFFERENTIAL_SEED") {
+        Ok(number) => number.parse().expect("DIFFERENTIAL_SEED is a number"),
+        Err(_) => SEED,
+    }
+}
+
+/// The counts of all groups.
+#[derive(Default)]
+struct Total {
+    inputs: u64,
+    calls: u64,
+    answers: [u64; 20],
+}
+
+impl Total {
+    fn add(&mut self, group: &Comparison, seconds: f64) {
+        println!(
+            "{}: {} inputs, {} calls, {seconds:.1} s",
+            group.name, group.inputs, group.calls
+        );
+        self.inputs += group.inputs;
+        self.calls += group.calls;
+        for (sum, count) in self.answers.iter_mut().zip(group.answers) {
+            *sum += count;
+        }
+    }
+
+    fn suffices(&self) {
+        assert!(self.inputs >= AT_LEAST, "fewer than {AT_LEAST} inputs");
+        let (address, others) = self.answers.split_last().expect("twenty numbers");
+        assert!(
+            others.iter().all(|count| *count > 0),
+            "some refusal never came"
+        );
+        assert_eq!(*address, 0, "ADDRESS came");
+    }
+}

@@ -1,0 +1,22 @@
+//! An independent reader and writer of AEROSNAP files, DSKC wrappers and AIPC messages.
+//!
+//! It is written from the rules alone, never from the proved library, so that the two can be compared:
+//! it is the oracle of the differential tests and the peer of the benchmarks. Each call reads its input
+//! once into slices of it, and answers a number and a place.
+//!
+//! - [`answer`]: the refusals by name;
+//! - [`cursor`]: fields read one after the other, and bytes written one after the other;
+//! - [`list`]: the lists of devices, disks, CPUs, MMUs and controllers;
+//! - [`snapshot`], [`wrapper`], [`message`]: the three formats and their calls.
+
+pub mod answer;
+pub mod cursor;
+pub mod list;
+pub mod message;
+pub mod snapshot;
+pub mod wrapper;
+
+pub use answer::Answer;
+pub use message::{message_read, message_write, Reading};
+pub use snapshot::{add_device, add_disk, canonical, check, devices, disks, sections};
+pub use wrapper::{controllers, wrapper_canonical, wrapper_check};

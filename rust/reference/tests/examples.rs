@@ -1,0 +1,194 @@
+//! The examples P1 to P13 of the rules.
+
+use reference::*;
+
+const P1: [u8; 16] = *b"AEROSNAP\x01\x00\x01\x00\x00\x00\x00\x00";
+
+fn answer(number: u32, place: u64) -> Answer {
+    Answer { number, place }
+}
+
+/// A device's entry.
+fn device(id: u32, version: u16, flags: u16, payload: &[u8]) -> Vec<u8> {
+    let mut entry = id.to_le_bytes().to_vec();
+    entry.extend(version.to_le_bytes());
+    entry.extend(flags.to_le_bytes());
+    entry.extend((payload.len() as u64).to_le_bytes());
+    entry.extend(payload);
+    entry
+}
+
+/// The header, and a DEVICES section of these entries.
+fn with_devices(entries: &[Vec<u8>]) -> Vec<u8> {
+    let body = entries.concat();
+    let mut file = P1.to_vec();
+    file.extend([4, 0, 0, 0, 1, 0, 0, 0]);
+    file.extend((body.len() as u64 + 4).to_le_bytes());
+    file.extend((entries.len() as u32).to_le_bytes());
+    file.extend(body);
+    file
+}
+
+fn p4() -> Vec<u8> {
+    with_devices(&[device(14, 1, 0, &[0x11]), device(3, 1, 0, &[0xAB, 0xCD])])
+}
+
+fn p5() -> Vec<u8> {
+    let mut out = [0; 71];
+    assert_eq!(canonical(&p4(), &mut out), answer(0, 71));
+    out.to_vec()
+}
+
+fn record(id: u32, version: u16, flags: u16, offset: u64, length: u64) -> Vec<u8> {
+    let mut record = id.to_le_bytes().to_vec();
+    record.extend(version.to_le_bytes());
+    record.extend(flags.to_le_bytes());
+    record.extend(offset.to_le_bytes());
+    record.extend(length.to_le_bytes());
+    record
+}
+
+#[test]
+fn p1_the_header_alone_is_taken_with_no_record() {
+    assert_eq!(check(&P1), answer(0, 0));
+    assert_eq!(sections(&P1, &mut []), answer(0, 0));
+    assert_eq!(devices(&P1, &mut []), answer(0, 0));
+    assert_eq!(disks(&P1, &mut []), answer(0, 0));
+}
+
+#[test]
+fn p2_fifteen_bytes_are_short() {
+    assert_eq!(check(&P1[..15]), answer(1, 0));
+}
+
+#[test]
+fn p3_another_endianness() {
+    let mut file = P1;
+    file[10] = 2;
+    assert_eq!(check(&file), answer(4, 10));
+}
+
+#[test]
+fn p4_two_devices() {
+    let file = p4();
+    assert_eq!(file.len(), 71);
+    assert_eq!(check(&file), answer(0, 0));
+    let mut table = [0xEE; 50];
+    assert_eq!(sections(&file, &mut table), answer(0, 24));
+    assert_eq!(table[..24], record(4, 1, 0, 32, 39)[..]);
+    assert_eq!(devices(&file, &mut table), answer(0, 48));
+    assert_eq!(table[..24], record(3, 1, 0, 69, 2)[..]);
+    assert_eq!(table[24..48], record(14, 1, 0, 52, 1)[..]);
+    assert_eq!(table[48..], [0xEE; 2]);
+    assert_eq!(devices(&file, &mut table[..47]), answer(16, 48));
+}
+
+#[test]
+fn p5_canonical_devices() {
+    let mut table = [0; 48];
+    assert_eq!(devices(&p5(), &mut table), answer(0, 48));
+    assert_eq!(table[..24], record(3, 1, 0, 52, 2)[..]);
+    assert_eq!(table[24..], record(14, 1, 0, 70, 1)[..]);
+    assert_eq!(
+        p5(),
+        with_devices(&[device(3, 1, 0, &[0xAB, 0xCD]), device(14, 1, 0, &[0x11])])
+    );
+}
+
+#[test]
+fn p6_a_key_again() {
+    let file = with_devices(&[device(3, 1, 0, &[0x11]), device(3, 1, 0, &[0xAB, 0xCD])]);
+    assert_eq!(check(&file), answer(13, 53));
+}
+
+#[test]
+fn p7_an_added_key_that_is_there() {
+    assert_eq!(add_device(&p5(), 3, 1, 0, &[], &mut []), answer(17, 0));
+}
+
+#[test]
+fn p8_a_section_that_is_cut() {
+    let mut file = p4();
+    file[24] = 40;
+    assert_eq!(check(&file), answer(7, 16));
+}
+
+#[test]
+fn p9_an_empty_list_is_absent() {
+    let file = with_devices(&[]);
+    assert_eq!(file.len(), 36);
+    let mut out = [0; 36];
+    assert_eq!(canonical(&file, &mut out), answer(0, 16));
+    assert_eq!(out[..16], P1);
+    assert_eq!(out[16..], [0; 20]);
+}
+
+#[test]
+fn p10_a_port_read_response() {
+    let reading = message_read(&[0x01, 0x11, 7, 0, 0, 0, 0x0F, 0, 0, 0]);
+    assert_eq!(
+        reading,
+        Reading {
+            tag: 0x1101,
+            a: 7,
+            b: 15,
+            ..Reading::default()
+        }
+    );
+}
+
+#[test]
+fn p11_an_unknown_tag() {
+    assert_eq!(
+        message_read(&[2, 0]),
+        Reading {
+            number: 18,
+            ..Reading::default()
+        }
+    );
+}
+
+#[test]
+fn p12_a_disk_read_that_failed() {
+    let mut message = [0x04, 0x11, 9, 0, 0, 0, 0, 0, 0, 0, 0, 2, 0, 0, 0];
+    let reading = Reading {
+        tag: 0x1104,
+        a: 9,
+        b: 0,
+        c: 0,
+        d: 2,
+        ..Reading::default()
+    };
+    assert_eq!(message_read(&message), reading);
+    message[6] = 1;
+    assert_eq!(
+        message_read(&message),
+        Reading {
+            number: 11,
+            place: 11,
+            ..Reading::default()
+        }
+    );
+    message[6] = 2;
+    assert_eq!(
+        message_read(&message),
+        Reading {
+            number: 15,
+            place: 6,
+            ..Reading::default()
+        }
+    );
+}
+
+#[test]
+fn p13_addresses() {
+    let mut wrapper = b"AERO\x01\0\0\0DSKC\x01\0\0\0\x02\0\0\0".to_vec();
+    // Bus 1, device 0, function 0, and behind it bus 0, device 31, function 2, which is 250.
+    wrapper.extend(*b"\x00\x01\0\0AHCP\x01\0\0\0\x99");
+    wrapper.extend(*b"\xFA\x00\0\0IDE0\x00\0\0\0");
+    let mut table = [0; 48];
+    assert_eq!(controllers(&wrapper, &mut table), answer(0, 48));
+    assert_eq!(table[..8], *b"\xFA\x00\0\0IDE0");
+    assert_eq!(table[24..32], *b"\x00\x01\0\0AHCP");
+    assert_eq!(table[32..40], 32u64.to_le_bytes());
+}
