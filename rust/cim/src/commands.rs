@@ -10,6 +10,7 @@ use cimbrolau::Message;
 use std::ffi::OsStr;
 use std::fmt::Write;
 use std::os::unix::ffi::OsStrExt;
+use std::path::Path;
 
 /// A command: its name, its help, the options that it knows, and what it does.
 pub struct Command {
@@ -115,8 +116,11 @@ fn message(words: &Words) -> Result<(), Failure> {
             bytes_of(hex)?
         }
         None => {
-            let [name] = words.plain("one FILE, or --hex BYTES")?;
-            files::read(name, Message::MOST_BYTES)?
+            let [word] = words.plain("one FILE or HEX")?;
+            match said(word) {
+                Some(bytes) => bytes,
+                None => files::read(word, Message::MOST_BYTES)?,
+            }
         }
     };
     let message = Message::read(&bytes)?;
@@ -132,6 +136,14 @@ fn message(words: &Words) -> Result<(), Failure> {
     }
     text.push('\n');
     files::print(&text)
+}
+
+/// The bytes that a word says in hexadecimal, if it names no file.
+fn said(word: &OsStr) -> Option<Vec<u8>> {
+    if Path::new(word).exists() {
+        return None;
+    }
+    bytes_of(word).ok()
 }
 
 /// Adds a line to a text.

@@ -13,7 +13,7 @@ cim: checks, lists and writes AEROSNAP snapshots, and reads DSKC wrappers and AI
   cim add-disk FILE OUT --id N --base TEXT --overlay TEXT
                                       write it with one disk more
   cim wrapper FILE                    the controllers of a disk-controller wrapper
-  cim message FILE | --hex BYTES      what a message says
+  cim message FILE|HEX                what a message says
   cim COMMAND --help                  more about a command
   cim --version
 
@@ -82,12 +82,13 @@ shown as \\x20.
 ";
 
 pub const MESSAGE: &str = "\
-cim message FILE
-cim message --hex BYTES
+cim message FILE|HEX
+cim message --hex HEX
 
-Prints the kind of the message and its numbers by name. Data is named by its place and its length; the
-text of Log and Panic is shown behind that.
+Prints the kind of the message and its numbers by name. HEX is the message itself, two digits for each
+byte, where no file has that name; behind --hex it is so whatever files there are. Data is named by its
+place and its length; the text of Log and Panic is shown behind that.
 
-  cim message --hex '01 11 07 00 00 00 0F 00 00 00'
+  cim message '01 11 07 00 00 00 0F 00 00 00'
   PortReadResp id 7 value 15
 ";

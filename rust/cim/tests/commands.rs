@@ -434,6 +434,11 @@ fn message_tells_kind_numbers_and_data() {
     let hex = |bytes: &str| run(&at, &["message", "--hex", bytes]);
     prints(hex("01 11 07 00 00 00 0F 00 00 00"), "PortReadResp id 7 value 15\n");
     prints(hex("01110700 00000f000000"), "PortReadResp id 7 value 15\n");
+    // Without the option too, unless a file has that name.
+    prints(run(&at, &["message", "01110700 00000f000000"]), "PortReadResp id 7 value 15\n");
+    fs::write(at.join("0200"), [0xff, 0x1f]).unwrap();
+    prints(run(&at, &["message", "0200"]), "TripleFault\n");
+    fails(hex("0200"), "refused 18 TAG at 0: unknown tag\n", 1);
     prints(
         hex("04 11 09 00 00 00 00 00 00 00 00 02 00 00 00"),
         "DiskReadResp id 9 ok 0 bytes 0 error_code 2\n",
