@@ -1,4 +1,4 @@
-//! Whether the library's copy is still a `memmove`, found in its machine code.
+//! Whether the library's copy is still a `memmove`, and how much stack a call takes, found in its machine code.
 //!
 //! The library copies bytes in parts of 64 KiB, each through an array of its own, which the compiler sees through: what
 //! is left is one `memmove` of 65,536 bytes for each part, and no array. Were it not to, every byte would be copied twice
@@ -25,6 +25,9 @@ const PART: u64 = 0x10000;
 /// An instruction that sets how many bytes a `memmove` moves stands at most this many before its call.
 const NEAR: usize = 8;
 
+/// The bytes of an address to return to, and of a register that is pushed.
+const RETURN: u64 = 8;
+
 /// What is of interest in a function.
 #[derive(Default)]
 struct Function {
@@ -33,8 +36,16 @@ struct Function {
     stack: u64,
 }
 
-/// Where the copies were found, or what is wrong.
-pub fn copy_is_memmove() -> Result<String, String> {
+/// What was found in the machine code.
+pub struct Found {
+    /// Where the copies are.
+    pub copies: String,
+    /// The most bytes of stack that a call takes.
+    pub stack: u64,
+}
+
+/// What the library's machine code shows, or what is wrong with it.
+pub fn look() -> Result<Found, String> {
     let output = Command::new("objdump")
         .args(["-dr", "--no-show-raw-insn", ARCHIVE])
         .output()
@@ -46,7 +57,7 @@ pub fn copy_is_memmove() -> Result<String, String> {
 }
 
 /// Each writer reaches a function that moves parts, and no function has an array of that size on its stack.
-fn judged(listing: &str) -> Result<String, String> {
+fn judged(listing: &str) -> Result<Found, String> {
     let functions = functions(listing);
     for (name, function) in &functions {
         if function.stack >= PART {
@@ -63,7 +74,16 @@ fn judged(listing: &str) -> Result<String, String> {
             None => return Err(format!("the copy of {writer} is no longer a memmove")),
         }
     }
-    Ok(found.join(", "))
+    let calls = functions.keys().filter(|name| name.starts_with("cimbrolau_"));
+    let stack = calls.map(|call| depth(call, &functions)).max().unwrap_or(0);
+    Ok(Found { copies: found.join(", "), stack })
+}
+
+/// The stack of a function and of those it calls, with the addresses that they return to. No function of the library calls itself.
+fn depth(name: &str, functions: &BTreeMap<String, Function>) -> u64 {
+    let Some(function) = functions.get(name) else { return 0 };
+    let below = function.calls.iter().filter(|call| *call != name);
+    RETURN + function.stack + below.map(|call| depth(call, functions)).max().unwrap_or(0)
 }
 
 /// The first function that moves parts, among a function and those it calls.
@@ -121,11 +141,12 @@ fn relocation(line: &str) -> Option<&str> {
     Some(name.rsplit_once(['-', '+']).map_or(name, |(name, _)| name))
 }
 
-/// The bytes that an instruction takes on the stack: `sub $0x1000,%rsp`, or all at once `lea -0x10000(%rsp),%r11`.
+/// The bytes that an instruction takes on the stack: `push %rbx`, `sub $0x1000,%rsp`, or all at once `lea -0x10000(%rsp),%r11`.
 fn stack(line: &str) -> u64 {
     let Some((_, instruction)) = line.split_once(":\t") else { return 0 };
     let words: Vec<&str> = instruction.split_ascii_whitespace().collect();
     let digits = match words[..] {
+        ["push", _] => return RETURN,
         ["sub", operands] => operands.strip_prefix("$0x").and_then(|o| o.strip_suffix(",%rsp")),
         ["lea", operands] => {
             operands.strip_prefix("-0x").and_then(|o| o.split_once("(%rsp)")).map(|(d, _)| d)
@@ -156,9 +177,13 @@ mod tests {
 
     #[test]
     fn a_memmove_of_parts_is_found_behind_calls() {
-        assert!(judged(&listing(MOVES))
-            .unwrap()
-            .contains("`cimbrolau_canonical` in `writer::write`"));
+        assert!(judged(&listing(MOVES)).unwrap().copies.contains("`cimbrolau_canonical` in `writer::write`"));
+    }
+
+    #[test]
+    fn the_stack_of_a_call_is_that_of_all_below_it() {
+        let pushed = MOVES.replace("   9:", "   8:\tpush   %rbx\n   9:");
+        assert_eq!(judged(&listing(&pushed)).unwrap().stack, 8 + (8 + 8 + 0x20));
     }
 
     #[test]

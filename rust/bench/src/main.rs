@@ -12,8 +12,11 @@ use rows::Row;
 use std::process::ExitCode;
 
 fn main() -> ExitCode {
-    match disassembly::copy_is_memmove() {
-        Ok(found) => println!("The library's copy is a `memmove`: {found}.\n"),
+    match disassembly::look() {
+        Ok(found) => {
+            println!("The library's copy is a `memmove`: {}.\n", found.copies);
+            println!("A call takes at most {} bytes of stack.\n", found.stack);
+        }
         Err(fault) => {
             eprintln!("{fault}");
             return ExitCode::FAILURE;
