@@ -1,12 +1,12 @@
 -- Lent memory that is filled part by part, each part into the tail from where the last one ended.
 -- Assumes nothing.
-use mathlib.Core.Path.{_≡_, sym, _∙_, ap}
-use mathlib.Core.List.{List, _++_, append-assoc, append-nil}
+use mathlib.Core.Path.{_≡_, refl, sym, _∙_, ap}
+use mathlib.Core.List.{List, [], _++_, append-assoc, append-nil}
 use Prim.Native.Nat.{ℕ, _+_, _-_, _≤_}
 use native.Mathlib.Omega.{arith}
 use lib.ListN.{length, take, drop, length-append, drop-of-length-le}
 use Rattle.wire.specs.Parts.{Wrote}
-use Rattle.wire.proofs.Parts.{wrote-tail, wrote-length, length-tail}
+use Rattle.wire.proofs.Parts.{none, wrote-tail, wrote-length, length-tail}
 
 -- of all that goes into old, there is room for it and the first part, t bytes, stands in new; the rest is to come
 pub record Filling (all old : List ℕ) (rest : List ℕ) (t : ℕ) (new : List ℕ) : Type 0 where
@@ -14,6 +14,14 @@ pub record Filling (all old : List ℕ) (rest : List ℕ) (t : ℕ) (new : List 
   pub whole : all ≡ part ++ rest
   pub room : length all ≤ length old
   pub wrote : Wrote part old new t
+
+-- nothing is written yet
+pub filling-none : (all old : List ℕ) → length all ≤ length old → Filling all old all 0 old
+filling-none all old h = record { part = []; whole = refl; room = h; wrote = none old }
+
+-- nothing is to come
+pub filling-end : {all old : List ℕ} {t : ℕ} {new : List ℕ} → Filling all old [] t new → Wrote all old new t
+filling-end v = rw (v .whole ∙ append-nil (v .part)) (v .wrote)
 
 module _ {all old rest : List ℕ} {t : ℕ} {new : List ℕ} (v : Filling all old rest t new) where
   sum : length all ≡ length (v .part) + length rest
