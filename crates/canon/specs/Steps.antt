@@ -1,7 +1,7 @@
 -- What the parts of the code that writes a file ask and give.
 -- Assumes nothing.
 use mathlib.Core.Path.{_≡_}
-use mathlib.Core.Bool.{Bool, cond, not, _||_}
+use mathlib.Core.Bool.{Bool, false, cond, not, _||_}
 use mathlib.Core.List.{List, [], _∷_, _++_}
 use Prim.Native.Nat.{ℕ, zero, suc, _+_, _-_, _≤_}
 use lib.Dec.{eqb, leb}
@@ -9,11 +9,13 @@ use lib.ListN.{length}
 use Rattle.answer.specs.Numbers.{SIZE, MANY, LIMIT}
 use Rattle.answer.specs.Outcome.{Outcome, Checks, checked, Pass, room, fitting}
 use Rattle.wire.specs.Numbers.{leAt, bytesOf}
-use Rattle.order.specs.Keyed.{flat, sort}
+use Rattle.order.specs.Keyed.{flat, has, sort}
 use Rattle.order.specs.Entries.{join}
 use Rattle.entries.specs.declared.Kind.{Kind}
+use Rattle.entries.specs.Kinds.{Description}
 use Rattle.entries.specs.Code.{describe}
 use Rattle.lists.specs.Lists.{IsList, entries}
+use Rattle.writer.specs.Writer.{withBytes}
 use Rattle.aerosnap.specs.Known.{DEVICES, DISKS, CPUS, MMUS}
 use Rattle.aerosnap.specs.File.{fileMost, sectionsMost, devicesMost, header}
 use Rattle.aerosnap.specs.Rules.{IsSection}
@@ -59,6 +61,26 @@ listSection id b = frame id 1 0 (length b) ++ b
 abbrev pub fileWith : List (List ℕ) → ℕ → List ℕ → List ℕ
 fileWith l id b = header ++ (ranks l 0 (id - 1) ++ (listSection id b ++ ranks l id (9 - id)))
 
+-- an entry e may be put into the list p: both are at most as long as a file
+pub record Joins (d : Description) (p e : List ℕ) : Type 0 where
+  pub list : IsList d p
+  pub short : length p ≤ fileMost
+  pub small : length e ≤ fileMost
+
+-- how long the list p is with the entry e; 0 where its key is there
+abbrev pub lengthWith : Description → List ℕ → List ℕ → ℕ
+lengthWith d p e = cond (has (d .key) (d .key e) (entries d p)) 0 (length (withBytes d p e))
+
+-- its key is not there, and the list with it has m bytes
+pub record Longer (d : Description) (p e : List ℕ) (m : ℕ) : Type 0 where
+  pub new : has (d .key) (d .key e) (entries d p) ≡ false
+  pub long : m ≡ length (withBytes d p e)
+
+-- an output of so many bytes holds the file b
+pub record Holds (have : ℕ) (b : List ℕ) : Type 0 where
+  pub most : length b ≤ fileMost
+  pub room : length b ≤ have
+
 -- how many sections and bytes a file of n has when its list p, an empty one where it has none, becomes one of m bytes
 abbrev pub moreSections : List ℕ → ℕ → ℕ
 moreSections p n = cond (eqb (leAt 4 p 0) 0) (n + 1) n
@@ -85,8 +107,7 @@ pub record New (x : Item) (kind : Kind) (id : ℕ) (e : List ℕ) : Type 0 where
 -- and p is that list in a file with the sections l, or an empty one where it has none
 pub record Adds (x : Item) (kind : Kind) (id : ℕ) (l : List (List ℕ)) (p e : List ℕ) : Type 0 where
   pub new : New x kind id e
-  pub list : IsList (describe kind) p
-  pub small : length p ≤ fileMost
+  pub joins : Joins (describe kind) p e
   pub same : listIn x (contentOf l) ≡ sort (describe kind .key) (entries (describe kind) p)
 
 -- the add of an item whose own checks passed, for an output of so many bytes
