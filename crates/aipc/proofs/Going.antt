@@ -6,7 +6,7 @@ use Rattle.answer.specs.declared.Piece.{Piece}
 use Rattle.answer.specs.declared.Piece.the-variants.{Stop, Ends}
 use Rattle.answer.specs.declared.Test.{Test}
 use Rattle.answer.specs.declared.Test.the-variants.{Fault, Fine}
-use Rattle.answer.specs.Outcome.{Outcome, taken, refused, Checks, checked, Pass, after}
+use Rattle.answer.specs.Outcome.{Outcome, taken, refused, Checks, checked, Pass}
 use Rattle.answer.specs.Calls.{pieceOf, testOf, asked}
 use Rattle.answer.proofs.Checks.{pass-checked, checked-pass, stops}
 use Rattle.answer.proofs.Outcomes.{taken-is}

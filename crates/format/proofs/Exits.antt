@@ -10,13 +10,13 @@ use lib.Seq.{length-take-le}
 use lib.Dec.{leb, eqb}
 use borrow.Author.Tests.{leb-true, le-leb, lt-leb}
 use Rattle.answer.specs.Numbers.{SHAPE, TEXT, VALUE}
-use Rattle.answer.specs.Outcome.{Outcome, taken, refused, Checks, checked, Pass, after, moved, shift}
+use Rattle.answer.specs.Outcome.{Outcome, taken, refused, Checks, checked, Pass, after, moved}
 use Rattle.answer.proofs.Checks.{checked-pass, pass-checked, checked-append}
 use Rattle.answer.proofs.Outcomes.{shift-taken, moved-taken}
 use Rattle.wire.specs.Numbers.{leAt}
 use Rattle.wire.proofs.Numbers.{leAt-here, leAt-one}
 use Rattle.utf8.specs.Scan.{isText}
-use Rattle.format.specs.Format.{Asks, any, Format, block, sized, option, pair, bytes, atMost, blob, utf8, text, read, Is, optionChecks, sizedChecks}
+use Rattle.format.specs.Format.{Asks, any, Format, sized, option, pair, bytes, atMost, blob, utf8, text, read, Is, optionChecks, sizedChecks}
 use Rattle.format.specs.Places.{readAt, presentAt}
 use Rattle.format.proofs.Meaning.{sound, least-le}
 use Rattle.format.proofs.Placed.{pair-at, option-at, askedAt, sized-at}

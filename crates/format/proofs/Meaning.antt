@@ -11,7 +11,7 @@ use lib.Seq.{take-add, take-at, drop-at, length-take-le, take-append-seam}
 use lib.Dec.{leb, eqb}
 use borrow.Author.Tests.{leb-true, le-leb, eqb-true, eqb-false}
 use Rattle.answer.specs.Numbers.{SHAPE}
-use Rattle.answer.specs.Outcome.{Outcome, taken, Checks, checked, Pass, after, moved, shift}
+use Rattle.answer.specs.Outcome.{Outcome, taken, Checks, Pass, after, moved, shift}
 use Rattle.answer.proofs.Checks.{checked-pass, pass-checked, pass-append, append-pass}
 use Rattle.answer.proofs.Outcomes.{after-taken, moved-taken, shift-taken, taken-is}
 use Rattle.wire.specs.Numbers.{le, leAt}

@@ -10,7 +10,7 @@ use lib.Seq.{length-take-le}
 use lib.Dec.{leb, eqb}
 use borrow.Author.Tests.{leb-true}
 use Rattle.answer.specs.Numbers.{SHAPE, TEXT, VALUE}
-use Rattle.answer.specs.Outcome.{Outcome, taken, Checks, checked, Pass, after, moved, shift}
+use Rattle.answer.specs.Outcome.{Outcome, taken, Checks, Pass, after, moved, shift}
 use Rattle.answer.proofs.Within.{Within, Bounded, within-more, checked-within, after-within, moved-within, shift-within}
 use Rattle.wire.specs.Numbers.{leAt}
 use Rattle.utf8.specs.Scan.{isText}

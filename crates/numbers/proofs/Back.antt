@@ -19,7 +19,7 @@ use Rattle.messages.proofs.Cells.{Fit, Typed}
 use Rattle.messages.proofs.Again.{dataOf, written-read}
 use Rattle.messages.proofs.Back.{writable}
 use Rattle.messages.proofs.Exactly.{read-write}
-use Rattle.numbers.specs.Numbers.{rowNumbers, numbersOf, within, allWithin, messageOf, writeNumbers}
+use Rattle.numbers.specs.Numbers.{rowNumbers, numbersOf, allWithin, messageOf, writeNumbers}
 
 -- numbers within their types are within their fields
 fit-within : (f : Form) → Fit 0 (cells f) → allWithin f (rowNumbers f) ≡ true

@@ -20,7 +20,7 @@ use Rattle.numbers.specs.declared.Numbers.{Numbers}
 use Rattle.numbers.specs.declared.Made.{Made as Code}
 use Rattle.numbers.specs.declared.Made.the-variants.{Refused, Is}
 use Rattle.numbers.specs.Numbers.{kindIn, within, allWithin, messageOf, madeOf, writeNumbers}
-use Rattle.numbers.specs.Steps.{low, narrowIn, sameNumbers}
+use Rattle.numbers.specs.Steps.{narrowIn, sameNumbers}
 use Rattle.numbers.proofs.Rows.{narrowed, within-low, Row, Looked, none, one, looked, wide-tag}
 
 -- what `messageOf` asks once the kind is known

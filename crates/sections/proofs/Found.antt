@@ -14,7 +14,7 @@ use Rattle.answer.specs.Outcome.{Outcome, taken, refused, after}
 use Rattle.answer.proofs.Outcomes.{made-taken}
 use Rattle.wire.specs.Numbers.{leAt}
 use Rattle.wire.proofs.Numbers.{leAt-here}
-use Rattle.order.specs.Keyed.{Every, flat, keep}
+use Rattle.order.specs.Keyed.{flat, keep}
 use Rattle.order.specs.Entries.{join}
 use Rattle.order.proofs.Folds.{every-imp}
 use Rattle.order.proofs.Keeps.{keep-none}

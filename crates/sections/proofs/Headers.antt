@@ -2,15 +2,14 @@
 -- Assumes nothing.
 use mathlib.Core.Path.{_≡_, refl, sym, _∙_, ap}
 use mathlib.Core.Logic.{_≢_}
-use mathlib.Core.Bool.{Bool, true, false}
 use mathlib.Core.List.{List, [], _∷_}
 use Prim.Native.Nat.{ℕ, zero, suc, _≤_, _<_}
 use native.Mathlib.Omega.{arith}
-use lib.ListN.{length, take, drop}
+use lib.ListN.{length, take}
 use lib.Dec.{eqb}
 use borrow.Author.Tests.{le-leb, lt-leb, eq-eqb, ne-eqb, leb-true}
 use Rattle.answer.specs.Numbers.{SHORT, MAGIC, VERSION, ENDIAN, RESERVED, SIZE}
-use Rattle.answer.specs.Outcome.{Outcome, taken, refused, Checks, checked, Pass, after}
+use Rattle.answer.specs.Outcome.{Outcome, taken, refused, after}
 use Rattle.answer.specs.Calls.{asked}
 use Rattle.answer.proofs.Checks.{checked-pass}
 use Rattle.wire.specs.Numbers.{Bytes, le, leAt}

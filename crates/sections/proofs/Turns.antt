@@ -4,19 +4,17 @@ use mathlib.Core.Path.{_≡_, refl, sym, _∙_, ap}
 use mathlib.Core.List.{List, [], _∷_, _++_}
 use mathlib.Core.Bool.{Bool, true, false, _&&_}
 use mathlib.Core.Logic.{_≢_}
-use Prim.Native.Nat.{ℕ, zero, suc, _+_, _-_, _≤_, _<_}
+use Prim.Native.Nat.{ℕ, suc, _+_, _-_, _≤_, _<_}
 use native.Mathlib.Omega.{arith}
-use native.Mathlib.Numerals.{add-one}
-use lib.ListN.{length, take, drop, getD, set, length-set, length-append, length-drop, replicate, getD-replicate}
+use lib.ListN.{length, take, drop, getD, set, length-set, length-append, replicate, getD-replicate}
 use lib.Seq.{getD-set-same, getD-set-other, take-take}
 use lib.Dec.{leb, eqb}
 use borrow.Author.Tests.{eq-eqb, ne-eqb, eqb-true, eqb-false, leb-false}
 use Rattle.answer.specs.Outcome.{Outcome, taken, refused, after}
 use Rattle.wire.specs.Numbers.{leAt, le}
-use Rattle.wire.proofs.Numbers.{leAt-here}
 use Rattle.order.specs.Keyed.{has}
 use Rattle.aerosnap.specs.Known.{known, slot}
-use Rattle.aerosnap.specs.File.{sectionsMost, idOf, slotOf, sectionOf, sections}
+use Rattle.aerosnap.specs.File.{idOf, slotOf, sectionOf}
 use Rattle.aerosnap.proofs.Turns.{sectionsAt, walk-end, walk-stop, walk-next}
 use Rattle.sections.specs.Walks.{Marks, sectionAt, counted, walkedFrom}
 use Rattle.sections.proofs.Rules.{Ended, section-ends}

@@ -1,13 +1,12 @@
 -- The loop that writes the records of the sections.
 -- Assumes nothing.
 use mathlib.Core.Path.{_≡_, refl, sym, _∙_, ap}
-use mathlib.Core.List.{List, [], _∷_, _++_, append-nil, append-assoc}
+use mathlib.Core.List.{List, [], _++_, append-nil, append-assoc}
 use Prim.Native.Nat.{ℕ, _+_, _-_, _*_, _≤_, _<_}
 use native.Mathlib.Omega.{arith}
 use lib.ListN.{length, take, drop, length-append}
 use Rattle.answer.specs.Outcome.{taken}
 use Rattle.answer.proofs.Outcomes.{taken-is}
-use Rattle.wire.specs.Numbers.{leAt}
 use Rattle.wire.specs.Parts.{put, Wrote}
 use Rattle.wire.proofs.Numbers.{leAt-append}
 use Rattle.wire.proofs.Parts.{none, wrote-put, wrote-tail, wrote-length, length-tail}

@@ -1,9 +1,8 @@
 -- The ends of a call that writes: refused, with nothing written, or taken, with its bytes over the start of the lent memory.
 -- Assumes nothing.
-use mathlib.Core.Path.{_≡_, refl, sym, _∙_, ap}
+use mathlib.Core.Path.{_≡_, sym, _∙_, ap}
 use mathlib.Core.List.{List}
 use Prim.Native.Nat.{ℕ}
-use Rattle.answer.specs.declared.Answer.{Answer}
 use Rattle.answer.specs.Outcome.{Outcome, taken, refused}
 use Rattle.answer.specs.Calls.{answer, memory, Writes}
 use Rattle.wire.specs.Parts.{Wrote}

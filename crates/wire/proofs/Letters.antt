@@ -3,15 +3,15 @@
 use mathlib.Core.Path.{_≡_, refl, sym, _∙_, ap}
 use mathlib.Core.Bool.{Bool, true, false, _&&_}
 use mathlib.Core.List.{List, [], _∷_, _++_}
-use Prim.Native.Nat.{ℕ, _+_, _≤_, _<_, _^_}
+use Prim.Native.Nat.{ℕ, _+_, _≤_}
 use native.Mathlib.Omega.{arith}
 use lib.Dec.{eqb}
 use borrow.Author.Tests.{eq-eqb, eqb-true, eqb-false}
-use lib.ListN.{length, take, drop, length-drop, take-append-drop}
-use lib.Seq.{drop-drop, length-take-le}
+use lib.ListN.{length, take, drop, take-append-drop}
+use lib.Seq.{drop-drop}
 use Rattle.wire.specs.Numbers.{Bytes, le, leAt, bytesOf}
 use Rattle.wire.specs.Parts.{same}
-use Rattle.wire.proofs.Numbers.{bytes-part, bytesOf-le, bytesOf-leAt}
+use Rattle.wire.proofs.Numbers.{bytesOf-le, bytesOf-leAt}
 
 pub same-true : (l m : List ℕ) → same l m ≡ true → l ≡ m
 same-true [] [] h = refl

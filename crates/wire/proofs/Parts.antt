@@ -10,7 +10,7 @@ use native.Mathlib.Omega.{arith}
 use lib.Dec.{leb}
 use borrow.Author.Tests.{le-leb, lt-leb, leb-true, leb-false}
 use lib.ListN.{length, take, drop, set, length-take, length-append, length-drop, take-append-drop, drop-of-length-le}
-use lib.Seq.{sets, sets-eq, paste, take-length, length-take-le, take-add, take-all, take-append-seam, drop-append-seam, drop-append-add, drop-drop, drop-at, take-at}
+use lib.Seq.{sets, sets-eq, paste, take-length, length-take-le, take-add, take-all, take-append-seam, drop-append-seam, drop-append-add, drop-drop, drop-at}
 use Rattle.wire.specs.Numbers.{leAt, bytesOf}
 use Rattle.wire.specs.Parts.{splice, put, Wrote}
 use Rattle.wire.proofs.Numbers.{length-bytesOf, bytesOf-halves, leAt-bytesOf, leAt-here}

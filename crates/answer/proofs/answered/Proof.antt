@@ -1,6 +1,5 @@
 -- `answer::answered` meets its contract, by the two cases of a test. Assumes nothing.
 use borrow.Author.Needs.{needs}
-use Rattle.answer.specs.Calls.{testOf, verdict}
 use Rattle.answer.proofs.answered.Statement.{statement}
 use Rattle.answer.proofs.answered.Tie as tie
 

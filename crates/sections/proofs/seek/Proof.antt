@@ -1,8 +1,7 @@
 use Rattle.sections.proofs.Found.{Seeking, seeking-start, seeking-goes, seeking-none, seeking-found, seeking-next}
 use Rattle.sections.specs.Walks.{sectionsIn}
-use mathlib.Core.Path.{ap}
 use lib.ListN.{length}
-use Prim.Native.Nat.{ℕ, _+_, _-_}
+use Prim.Native.Nat.{_-_}
 use native.Mathlib.Omega.{arith}
 use borrow.Author.Needs.{needs}
 use Rattle.sections.proofs.seek.Statement.{statement}

@@ -1,7 +1,6 @@
 use lib.ListN.{length}
 use Prim.Native.Nat.{_+_}
 use borrow.Author.Tests.{leb-true, leb-false}
-use native.Mathlib.Omega.{arith}
 use mathlib.Core.Path.{sym, _∙_}
 use borrow.Author.Needs.{needs}
 use Rattle.wire.proofs.u64_at.Statement.{statement}
