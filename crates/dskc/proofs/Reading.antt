@@ -1,28 +1,19 @@
 -- A wrapper by its header and its list, and the exits of the calls that read it.
 -- Assumes nothing.
-use mathlib.Core.Path.{_≡_, refl, sym, _∙_, ap}
-use mathlib.Core.Bool.{Bool, true, false}
-use mathlib.Core.List.{List, [], _∷_}
+use mathlib.Core.Path.{_≡_, sym, _∙_, ap}
+use mathlib.Core.List.{List}
 use Prim.Native.Nat.{ℕ, _+_, _≤_}
-use native.Mathlib.Nat.{le-refl}
 use native.Mathlib.Omega.{arith}
 use lib.ListN.{length, drop, length-drop}
 use borrow.Author.Tests.{leb-true, le-leb}
-use Rattle.answer.specs.declared.Answer.{Answer}
-use Rattle.answer.specs.declared.Piece.the-variants.{Stop, Ends}
-use Rattle.answer.specs.declared.Test.{Test}
-use Rattle.answer.specs.declared.Test.the-variants.{Fault, Fine}
-use Rattle.answer.specs.Outcome.{Outcome, taken, refused, Checks, checked, Pass, after, moved, done, fitting}
+use Rattle.answer.specs.Outcome.{Outcome, taken, refused, checked, Pass, after, moved, done, fitting}
 use Rattle.answer.specs.Calls.{asked}
 use Rattle.answer.proofs.Checks.{checked-pass, pass-checked, asked-stop}
-use Rattle.answer.proofs.Outcomes.{moved-taken, done-taken}
-use Rattle.answer.proofs.Within.{Within}
+use Rattle.answer.proofs.Outcomes.{moved-taken, done-taken, done-stop}
 use Rattle.entries.specs.Kinds.{controllers}
 use Rattle.entries.specs.declared.Kind.the-variants as kind
 use Rattle.entries.proofs.Lawful.{lawful}
-use Rattle.lists.specs.Lists.{listAt, partChecks, indexOf}
-use Rattle.lists.specs.Promises.{Indexed}
-use Rattle.lists.proofs.Callers.{indexed-stop, indexed-done, listOf, index-roomy}
+use Rattle.lists.specs.Lists.{listAt, partChecks}
 use Rattle.lists.proofs.Within.{list-within}
 use Rattle.tables.specs.declared.Table.the-variants.{Controllers}
 use Rattle.tables.specs.Tables.{rowsAt, tableOf}
@@ -45,21 +36,18 @@ module _ (s : List ℕ) where
     pub list-whole : {A : Type 0} (next : Outcome A) → checked (partChecks (drop 16 s)) next ≡ next
     list-whole next = pass-checked (partChecks (drop 16 s)) next small
 
-    by-index : indexOf controllers 256 (drop 16 s) ≡ listAt controllers (drop 16 s)
-    by-index = index-roomy (lawful kind.Controllers) 256 (drop 16 s) (le-refl 256) ∙ list-whole (listAt controllers (drop 16 s))
+    module _ {b : List ℕ} (e : b ≡ drop 16 s) where
+      judged : {r : Outcome (Unit {0})} → r ≡ checked (partChecks b) (done (listAt controllers b)) → r ≡ done (listAt controllers (drop 16 s))
+      judged t = (rw e at t) ∙ list-whole (done (listAt controllers (drop 16 s)))
 
-    module _ {b old new : List ℕ} (e : b ≡ drop 16 s) where
-      found : {r : _} → Indexed (indexOf controllers 256 b) old r new → Indexed (listAt controllers (drop 16 s)) old r new
-      found i = rw (e, by-index) at i
-
-      pub list-stop : {n p : ℕ} → Indexed (indexOf controllers 256 b) old (Stop n p) new → (refused n (16 + p) ≡ done (wrapperOf s)) × (16 + p ≤ length s)
-      list-stop i =
-          let f = indexed-stop (listAt controllers (drop 16 s)) (found i) .0 in
+      pub list-stop : {n p : ℕ} → refused n p ≡ checked (partChecks b) (done (listAt controllers b)) → (refused n (16 + p) ≡ done (wrapperOf s)) × (16 + p ≤ length s)
+      list-stop t =
+          let f = done-stop (listAt controllers (drop 16 s)) (judged t) in
           let w = rw f at (list-within (lawful kind.Controllers) (drop 16 s)) in
           (sym (ap done (behind ∙ ap (moved 16) f)), omega (arith, leb-true 16 (length s) (g .1 .0), length-drop 16 s, w))
 
-      pub list-done : {n : ℕ} → Indexed (indexOf controllers 256 b) old (Ends n) new → taken tt ≡ done (wrapperOf s)
-      list-done i = sym (ap done (behind ∙ ap (moved 16) (indexed-done (listAt controllers (drop 16 s)) (found i))))
+      pub list-done : taken tt ≡ checked (partChecks b) (done (listAt controllers b)) → taken tt ≡ done (wrapperOf s)
+      list-done t = let f = done-taken (listAt controllers (drop 16 s)) (sym (judged t)) in sym (ap done (behind ∙ ap (moved 16) (f .1)))
 
 -- a wrapper that is taken has a header that passes, and a list that is taken
 pub whole : (s : List ℕ) {l : List ℕ} → wrapperOf s ≡ taken l → Pass (headerChecks s) × (listAt controllers (drop 16 s) ≡ taken l)

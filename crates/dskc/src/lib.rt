@@ -1,7 +1,6 @@
 // The disk-controller wrapper: checked, listed, and written in address order.
 use answer::Answer;
 use answer::MAGIC;
-use answer::Piece;
 use answer::ROOM;
 use answer::SHORT;
 use answer::SIZE;
@@ -70,13 +69,10 @@ fn faults(s: &[u8]) -> Test
 {
     match header(s) {
         Test::Fault(number, place) => Test::Fault(number, place),
-        Test::Fine => {
-            let mut starts = [0u32; 256];
-            match lists::index(Kind::Controllers, wire::tail(s, 16), &mut starts) {
-                Piece::Stop(number, place) => Test::Fault(number, 16 + place),
-                Piece::Ends(_) => Test::Fine,
-            }
-        }
+        Test::Fine => match lists::check(Kind::Controllers, wire::tail(s, 16)) {
+            Test::Fault(number, place) => Test::Fault(number, 16 + place),
+            Test::Fine => Test::Fine,
+        },
     }
 }
 

@@ -1,4 +1,4 @@
--- What a caller of `index` learns: from any promise of its kind, and with room for the most entries that a list may have.
+-- What a caller of `index` learns: from any promise of its kind, and with room for the starts.
 -- Assumes nothing.
 use mathlib.Core.Path.{_≡_, refl, sym, _∙_, ap}
 use mathlib.Core.List.{List}
@@ -14,6 +14,7 @@ use Rattle.entries.specs.Kinds.{Description}
 use Rattle.entries.proofs.Lawful.{Lawful}
 use Rattle.lists.specs.Lists.{listAt, partChecks, indexOf}
 use Rattle.lists.specs.Promises.{Indexed}
+use Rattle.lists.specs.Steps.{Room}
 use Rattle.lists.proofs.Taken.{list-sound}
 use Rattle.lists.proofs.Ordered.{index-length}
 use Rattle.lists.proofs.Shift.{take-over}
@@ -28,7 +29,7 @@ pub indexed-done : (o : Outcome (List ℕ)) {old new : List ℕ} {n : ℕ} → I
 indexed-done (taken l) {old} {new} {n} i = ap taken (sym (ap (take n) (i .leaves) ∙ take-over l old n (sym (taken-is (i .answers)))))
 indexed-done (refused n p) i = absurd (taken-refused (i .answers))
 
--- ---- with room for the most
+-- ---- with room for the starts
 
 -- the list that a slice is, if it is no longer than a file may be
 abbrev pub listOf : Description → List ℕ → Outcome (List ℕ)
@@ -38,10 +39,10 @@ listOf d s = checked (partChecks s) (listAt d s)
 pub list-then : {A : Type 0} (d : Description) (s : List ℕ) (f : List ℕ → Outcome A) → checked (partChecks s) (after (listAt d s) f) ≡ after (listOf d s) f
 list-then d s f = sym (checked-after (partChecks s) (listAt d s) f)
 
--- where there is room for the most, ROOM never comes
-pub index-roomy : {d : Description} → Lawful d → (m : ℕ) (s : List ℕ) → d .most ≤ m → indexOf d m s ≡ listOf d s
+-- where there is room, ROOM never comes
+pub index-roomy : {d : Description} → Lawful d → (m : ℕ) (s : List ℕ) → Room s m → indexOf d m s ≡ listOf d s
 index-roomy {d} K m s h = ap (checked (partChecks s)) (go (listAt d s) refl)
   where
     go : (o : Outcome (List ℕ)) → listAt d s ≡ o → after o (fitting m) ≡ o
-    go (taken l) e = let n : length l ≤ m = omega (arith, index-length K s e, list-sound K s e .few) in rw (le-leb (length l) m n)
+    go (taken l) e = let n : length l ≤ m = omega (arith, index-length K s e, h (omega (arith, K .bounded, list-sound K s e .few))) in rw (le-leb (length l) m n)
     go (refused n p) e = refl

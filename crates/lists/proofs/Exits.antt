@@ -5,9 +5,10 @@ use mathlib.Core.Bool.{Bool, true, false, not}
 use mathlib.Core.List.{List, [], _∷_, _++_}
 use Prim.Native.Nat.{ℕ, suc, _+_, _≤_, _<_}
 use native.Mathlib.Omega.{arith}
+use lib.Dec.{leb}
 use lib.ListN.{length, drop}
-use borrow.Author.Tests.{le-leb, lt-leb}
-use Rattle.answer.specs.Numbers.{SHAPE, LIMIT, KEY}
+use borrow.Author.Tests.{leb-true, le-leb, lt-leb}
+use Rattle.answer.specs.Numbers.{SHAPE, LIMIT, KEY, SIZE}
 use Rattle.answer.specs.Outcome.{Outcome, taken, refused, Checks, checked, Pass, moved, shift}
 use Rattle.answer.specs.Calls.{asked}
 use Rattle.answer.proofs.Checks.{fails, pass-checked, checked-pass, pass-append}
@@ -17,7 +18,8 @@ use Rattle.format.specs.Format.{read}
 use Rattle.format.specs.Places.{readAt}
 use Rattle.order.specs.Keyed.{insert, has}
 use Rattle.entries.specs.Kinds.{Description, leadChecks}
-use Rattle.lists.specs.Lists.{keyAt, entryChecks, entryAt, walk, listAt}
+use Rattle.lists.specs.Lists.{keyAt, entryChecks, entryAt, walk, listAt, partChecks}
+use Rattle.lists.specs.Steps.{Room}
 
 -- checks that were asked at a place, before others
 
@@ -84,3 +86,16 @@ module _ (d : Description) (s : List ℕ) where
     pub walk-done : length s ≤ at → walk d s 0 at seen ≡ taken seen
     unfolding walk
     walk-done h = rw (le-leb (length s) at h)
+
+-- ---- a part, too long or not
+
+pub part-long : {A : Type 0} (p : List ℕ) (next : Outcome A) → 1073741824 < length p → refused SIZE 0 ≡ checked (partChecks p) next
+part-long p next h = sym (rw (lt-leb (length p) 1073741824 h))
+
+pub part-fine : {A : Type 0} (p : List ℕ) {next r : Outcome A} → length p ≤ 1073741824 → r ≡ next → r ≡ checked (partChecks p) next
+part-fine p {next} h e = e ∙ sym (pass-checked (partChecks p) next (le-leb (length p) 1073741824 h, tt))
+
+-- ---- room for the starts
+
+pub few-room : (s : List ℕ) → leb (leAt 4 s 0) 256 ≡ true → Room s 256
+few-room s h _ = leb-true (leAt 4 s 0) 256 h

@@ -1,16 +1,30 @@
 -- Each promise fixes its answer and all of the lent memory: any two that it allows are equal.
 -- Assumes nothing.
 use mathlib.Core.Path.{_≡_}
+use mathlib.Core.Bool.{Bool}
 use mathlib.Core.List.{List}
 use Prim.Native.Nat.{ℕ}
+use lib.Dec.{leb}
 use Rattle.answer.specs.declared.Piece.{Piece}
-use Rattle.answer.specs.Outcome.{Outcome}
-use Rattle.answer.proofs.Once.{equal-once, piece-once}
+use Rattle.answer.specs.declared.Test.{Test}
+use Rattle.answer.specs.Outcome.{Outcome, checked, done}
+use Rattle.answer.specs.Calls.{testOf}
+use Rattle.answer.proofs.Once.{equal-once, piece-once, test-once}
+use Rattle.wire.specs.Numbers.{leAt}
+use Rattle.entries.specs.Kinds.{Description}
+use Rattle.lists.specs.Lists.{listAt, partChecks}
 use Rattle.lists.specs.declared.Found.{Found}
 use Rattle.lists.specs.Promises.{Indexed, findIn}
 
 pub index-once : {o : Outcome (List ℕ)} {old : List ℕ} (r q : Piece) {new now : List ℕ} → Indexed o old r new → Indexed o old q now → (r ≡ q) × (new ≡ now)
 index-once r q a b = (piece-once r q (equal-once (a .answers) (b .answers)), equal-once (a .leaves) (b .leaves))
+
+pub check-once : (d : Description) (s : List ℕ) (r q : Test)
+    → testOf r ≡ checked (partChecks s) (done (listAt d s)) → testOf q ≡ checked (partChecks s) (done (listAt d s)) → r ≡ q
+check-once d s r q e f = test-once r q (equal-once e f)
+
+pub few-once : (s : List ℕ) {r q : Bool} → r ≡ leb (leAt 4 s 0) 256 → q ≡ leb (leAt 4 s 0) 256 → r ≡ q
+few-once s e f = equal-once e f
 
 pub find-once : (key : ℕ → ℕ) (k : ℕ) (starts : List ℕ) {r q : Found} → r ≡ findIn key k starts → q ≡ findIn key k starts → r ≡ q
 find-once key k starts e f = equal-once e f

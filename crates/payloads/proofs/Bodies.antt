@@ -1,30 +1,23 @@
 -- The payloads by the exits of the code that reads them.
 -- Assumes nothing.
-use mathlib.Core.Path.{_≡_, refl, sym, _∙_, ap}
+use mathlib.Core.Path.{_≡_, sym, _∙_, ap}
 use mathlib.Core.Logic.{_≢_}
-use mathlib.Core.Bool.{Bool, true, false}
+use mathlib.Core.Bool.{Bool}
 use mathlib.Core.List.{List, [], _∷_}
 use Prim.Native.Nat.{ℕ, _≤_, _<_}
-use native.Mathlib.Omega.{arith}
 use lib.ListN.{length}
-use lib.Dec.{leb, eqb}
 use borrow.Author.Tests.{le-leb, lt-leb, eq-eqb, ne-eqb}
-use Rattle.answer.specs.declared.Piece.the-variants.{Stop, Ends}
-use Rattle.answer.specs.Numbers.{SHAPE, SIZE}
+use Rattle.answer.specs.Numbers.{SHAPE}
 use Rattle.answer.specs.Outcome.{Outcome, taken, refused, checked, after, done}
 use Rattle.answer.specs.Calls.{asked}
 use Rattle.answer.proofs.Checks.{pass-checked}
-use Rattle.format.specs.Format.{read}
 use Rattle.format.specs.Places.{readAt}
 use Rattle.format.proofs.Placed.{at-zero}
 use Rattle.entries.specs.States.{mmuLength}
 use Rattle.entries.specs.declared.Kind.{Kind}
 use Rattle.entries.specs.Code.{describe}
-use Rattle.entries.proofs.Lawful.{lawful}
-use Rattle.lists.specs.Lists.{leftOver, listAt, partChecks, indexOf}
-use Rattle.lists.specs.Promises.{Indexed}
-use Rattle.lists.proofs.Callers.{indexed-stop, indexed-done, index-roomy}
-use Rattle.aerosnap.specs.Payloads.{metaForm, meta, mmu, opaque, bodyBy, bodyOf, payload}
+use Rattle.lists.specs.Lists.{leftOver, listAt, partChecks}
+use Rattle.aerosnap.specs.Payloads.{metaForm, meta, mmu, bodyOf, payload}
 
 -- ---- META
 
@@ -58,15 +51,8 @@ module _ (v : ℕ) (p : List ℕ) where
 
 -- ---- lists
 
-module _ (k : Kind) (p : List ℕ) (h : length p ≤ 1073741824) where
-  whole : indexOf (describe k) 4096 p ≡ listAt (describe k) p
-  whole = index-roomy (lawful k) 4096 p (lawful k .bounded) ∙ pass-checked (partChecks p) (listAt (describe k) p) (le-leb (length p) 1073741824 h, tt)
-
-  pub list-stop : {old new : List ℕ} {a b : ℕ} → Indexed (indexOf (describe k) 4096 p) old (Stop a b) new → refused a b ≡ done (listAt (describe k) p)
-  list-stop i = sym (ap done (sym whole ∙ indexed-stop (indexOf (describe k) 4096 p) i .0))
-
-  pub list-done : {old new : List ℕ} {n : ℕ} → Indexed (indexOf (describe k) 4096 p) old (Ends n) new → taken tt ≡ done (listAt (describe k) p)
-  list-done i = sym (ap done (sym whole ∙ indexed-done (indexOf (describe k) 4096 p) i))
+pub list-judged : (k : Kind) (p : List ℕ) {r : Outcome (Unit {0})} → length p ≤ 1073741824 → r ≡ checked (partChecks p) (done (listAt (describe k) p)) → r ≡ done (listAt (describe k) p)
+list-judged k p h e = e ∙ pass-checked (partChecks p) (done (listAt (describe k) p)) (le-leb (length p) 1073741824 h, tt)
 
 -- ---- by the id
 
@@ -78,11 +64,3 @@ by-id v p e = ap (λ (i : ℕ). payload (bodyOf i v) p) (sym e)
 pub other-id : (id v : ℕ) (p : List ℕ) → id ≢ 1 → id ≢ 2 → id ≢ 3 → id ≢ 4 → id ≢ 5 → id ≢ 7 → id ≢ 8 → taken tt ≡ payload (bodyOf id v) p
 unfolding payload
 other-id id v p a b c d e f g = rw (ne-eqb id 1 a, ne-eqb id 2 b, ne-eqb id 3 c, ne-eqb id 4 d, ne-eqb id 5 e, ne-eqb id 7 f, ne-eqb id 8 g)
-
--- ---- a part that is too long
-
-pub part-long : {A : Type 0} (p : List ℕ) (next : Outcome A) → 1073741824 < length p → refused SIZE 0 ≡ checked (partChecks p) next
-part-long p next h = sym (rw (lt-leb (length p) 1073741824 h))
-
-pub part-fine : {A : Type 0} (p : List ℕ) {next r : Outcome A} → length p ≤ 1073741824 → r ≡ next → r ≡ checked (partChecks p) next
-part-fine p {next} h e = e ∙ sym (pass-checked (partChecks p) next (le-leb (length p) 1073741824 h, tt))

@@ -101,11 +101,7 @@ fn entries_of(kind: Kind, p: &[u8]) -> Test
     requires { ⌜ length (now p) ≤ 1073741824 ⌝ }
     ensures { λ r. ⌜ testOf r ≡ done (listAt (describe kind) (now (p .entry))) ⌝ }
 {
-    let mut starts = [0u32; 4096];
-    match lists::index(kind, p, &mut starts) {
-        Piece::Stop(number, place) => Test::Fault(number, place),
-        Piece::Ends(_) => Test::Fine,
-    }
+    lists::check(kind, p)
 }
 
 fn body(id: u32, version: u16, p: &[u8]) -> Test

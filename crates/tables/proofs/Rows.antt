@@ -23,6 +23,7 @@ use Rattle.entries.specs.Code.{describe}
 use Rattle.entries.proofs.Lawful.{lawful}
 use Rattle.lists.specs.Lists.{partChecks, listAt, indexOf}
 use Rattle.lists.specs.Promises.{Indexed}
+use Rattle.lists.specs.Steps.{Room}
 use Rattle.lists.proofs.Taken.{list-sound}
 use Rattle.lists.proofs.Ordered.{index-length}
 use Rattle.lists.proofs.Callers.{indexed-stop, indexed-done, listOf, list-then, index-roomy}
@@ -53,30 +54,30 @@ module _ (t : Table) (base : ℕ) (s : List ℕ) where
 
 -- ---- the exits of the call
 
-module _ (t : Table) (k : Kind) (q : describe k ≡ described t) (have base : ℕ) (s : List ℕ) where
+module _ (t : Table) (k : Kind) (q : describe k ≡ described t) (have base : ℕ) (s : List ℕ) (m : ℕ) (R : Room s m) where
   -- what the records of the starts make of the room
   abbrev rowsOf : List ℕ → Outcome (List ℕ)
   rowsOf l = fitting have (rowsAt t base s l)
 
-  -- the call by the index of its list
-  by-index : tableOf t have base s ≡ after (indexOf (describe k) 4096 s) rowsOf
+  -- the call by the index of its list, for which there are m places
+  by-index : tableOf t have base s ≡ after (indexOf (describe k) m s) rowsOf
   by-index =
       list-then (described t) s rowsOf
       ∙ ap (λ (d : Description). after (listOf d s) rowsOf) (sym q)
-      ∙ ap (λ (o : Outcome (List ℕ)). after o rowsOf) (sym (index-roomy (lawful k) 4096 s (lawful k .bounded)))
+      ∙ ap (λ (o : Outcome (List ℕ)). after o rowsOf) (sym (index-roomy (lawful k) m s R))
 
-  pub table-stop : {old new : List ℕ} {n p : ℕ} → Indexed (indexOf (describe k) 4096 s) old (Stop n p) new → tableOf t have base s ≡ refused n p
-  table-stop h = by-index ∙ ap (λ (o : Outcome (List ℕ)). after o rowsOf) (indexed-stop (indexOf (describe k) 4096 s) h .0)
+  pub table-stop : {old new : List ℕ} {n p : ℕ} → Indexed (indexOf (describe k) m s) old (Stop n p) new → tableOf t have base s ≡ refused n p
+  table-stop h = by-index ∙ ap (λ (o : Outcome (List ℕ)). after o rowsOf) (indexed-stop (indexOf (describe k) m s) h .0)
 
-  module _ {old new : List ℕ} {n : ℕ} (h : Indexed (indexOf (describe k) 4096 s) old (Ends n) new) where
-    done : indexOf (describe k) 4096 s ≡ taken (take n new)
-    done = indexed-done (indexOf (describe k) 4096 s) h
+  module _ {old new : List ℕ} {n : ℕ} (h : Indexed (indexOf (describe k) m s) old (Ends n) new) where
+    done : indexOf (describe k) m s ≡ taken (take n new)
+    done = indexed-done (indexOf (describe k) m s) h
 
     -- as many starts as it says, and no more than there may be
     pub table-count : (length (take n new) ≡ n) × (n ≤ 4096)
     table-count =
         let c : n ≡ length (take n new) = taken-is (h .answers ∙ ap (λ (o : Outcome (List ℕ)). after o (λ l. taken (length l))) done) in
-        let l : listAt (describe k) s ≡ taken (take n new) = checked-pass (partChecks s) (listAt (describe k) s) (take n new) (sym (index-roomy (lawful k) 4096 s (lawful k .bounded)) ∙ done) .1 in
+        let l : listAt (describe k) s ≡ taken (take n new) = checked-pass (partChecks s) (listAt (describe k) s) (take n new) (sym (index-roomy (lawful k) m s R) ∙ done) .1 in
         (sym c, omega (arith, index-length (lawful k) s l, list-sound (lawful k) s l .few, lawful k .bounded))
 
     need : length (rowsAt t base s (take n new)) ≡ 24 * n

@@ -10,6 +10,7 @@ use entries::Kind;
 use entries::entry_at;
 use entries::key_of;
 use lists::Found;
+use lists::few;
 use lists::find;
 use lists::index;
 ghost use mathlib.Core.Path.{_≡_};
@@ -25,6 +26,7 @@ ghost use Rattle.entries.specs.Code.{describe};
 ghost use Rattle.lists.specs.declared.Found.the-variants.{Free};
 ghost use Rattle.lists.specs.Lists.{keyAt};
 ghost use Rattle.lists.specs.Promises.{findIn};
+ghost use Rattle.lists.specs.Steps.{Room};
 ghost use Rattle.writer.specs.Writer.{sortedBytes, withBytes, sortedOf, newChecks, withOf, together};
 ghost use Rattle.writer.specs.Steps.{entryFrom, run, Stands, Listed};
 
@@ -225,18 +227,53 @@ fn put_new(
     }
 }
 
-// The list that s is, in the order of its keys.
-pub fn write(kind: Kind, s: &[u8], out: &mut [u8]) -> Answer
+// The list that s is, in the order of its keys, with room for the starts.
+fn write_in(kind: Kind, s: &[u8], starts: &mut [u32], out: &mut [u8]) -> Answer
+    requires { ⌜ Room (now s) (length (now starts)) ⌝ }
     ensures { λ r. ⌜ Writes (sortedOf (describe kind) (length (now (out .entry))) (now (s .entry))) (now (out .entry)) r (now (out .exit)) ⌝ }
 {
-    let mut starts = [0u32; 4096];
-    match index(kind, s, &mut starts) {
+    match index(kind, s, starts) {
         Piece::Stop(number, place) => Answer {
             number,
             place: place as u64,
         },
         Piece::Ends(n) => put_list(kind, s, &starts[..n], out),
     }
+}
+
+// The same with one entry more, at its place.
+fn write_with_in(
+    kind: Kind,
+    s: &[u8],
+    starts: &mut [u32],
+    head: &[u8],
+    a: &[u8],
+    mid: &[u8],
+    b: &[u8],
+    out: &mut [u8],
+) -> Answer
+    requires { ⌜ Room (now s) (length (now starts)) ⌝ }
+    ensures { λ r. ⌜ Writes (withOf (describe kind) (length (now (out .entry))) (now (s .entry)) (together (now (head .entry)) (now (a .entry)) (now (mid .entry)) (now (b .entry)))) (now (out .entry)) r (now (out .exit)) ⌝ }
+{
+    match index(kind, s, starts) {
+        Piece::Stop(number, place) => Answer {
+            number,
+            place: place as u64,
+        },
+        Piece::Ends(n) => put_new(kind, s, &starts[..n], head, a, mid, b, out),
+    }
+}
+
+// The list that s is, in the order of its keys.
+pub fn write(kind: Kind, s: &[u8], out: &mut [u8]) -> Answer
+    ensures { λ r. ⌜ Writes (sortedOf (describe kind) (length (now (out .entry))) (now (s .entry))) (now (out .entry)) r (now (out .exit)) ⌝ }
+{
+    if few(s) {
+        let mut starts = [0u32; 256];
+        return write_in(kind, s, &mut starts, out);
+    }
+    let mut starts = [0u32; 4096];
+    write_in(kind, s, &mut starts, out)
 }
 
 // The same with one entry more, at its place. It is given in four parts, so that nobody has to copy a payload to put an entry together.
@@ -252,12 +289,10 @@ pub fn write_with(
 ) -> Answer
     ensures { λ r. ⌜ Writes (withOf (describe kind) (length (now (out .entry))) (now (s .entry)) (together (now (head .entry)) (now (a .entry)) (now (mid .entry)) (now (b .entry)))) (now (out .entry)) r (now (out .exit)) ⌝ }
 {
-    let mut starts = [0u32; 4096];
-    match index(kind, s, &mut starts) {
-        Piece::Stop(number, place) => Answer {
-            number,
-            place: place as u64,
-        },
-        Piece::Ends(n) => put_new(kind, s, &starts[..n], head, a, mid, b, out),
+    if few(s) {
+        let mut starts = [0u32; 256];
+        return write_with_in(kind, s, &mut starts, head, a, mid, b, out);
     }
+    let mut starts = [0u32; 4096];
+    write_with_in(kind, s, &mut starts, head, a, mid, b, out)
 }

@@ -1,4 +1,4 @@
-use Rattle.payloads.proofs.Bodies.{part-long, part-fine}
+use Rattle.lists.proofs.Exits.{part-long, part-fine}
 use borrow.Author.Needs.{needs}
 use Rattle.payloads.proofs.read.Statement.{statement}
 use Rattle.payloads.proofs.read.Tie as tie

@@ -1,67 +1,59 @@
-use Rattle.writer.specs.Writer.{newChecks, withBytes, together}
-use Rattle.writer.proofs.Asked.{index-refused, index-within, index-listed, index-then}
-use Rattle.answer.specs.Outcome.{Outcome, checked, fitting}
-use Rattle.entries.specs.Code.{describe}
-use Rattle.entries.proofs.Lawful.{lawful}
-use mathlib.Core.List.{List}
-use Prim.Native.Nat.{ℕ}
-use lib.ListN.{length}
-use lib.Seq.{length-take-le}
-use mathlib.Core.Path.{refl, sym}
+use mathlib.Core.Path.{sym, _∙_}
+use Rattle.lists.proofs.Exits.{few-room}
 use borrow.Author.Needs.{needs}
 use Rattle.writer.proofs.write_with.Statement.{statement}
 use Rattle.writer.proofs.write_with.Tie as tie
+use Rattle.writer.proofs.write_with.Reads as reads
+use Rattle.writer.proofs.write_with.Lts as lts
+use Rattle.lists.proofs.few.Reads as few-reads
+use Rattle.writer.proofs.write_with_in.Reads as write-with-in-reads
 
--- what comes once the list is taken
-abbrev next : tie.Start → Outcome (List ℕ)
-next t =
-    let a = t .args in
-    let e : List ℕ = together (a .head .now) (a .a .now) (a .mid .now) (a .b .now) in
-    checked (newChecks (describe (a .kind)) (a .s .now) e) (fitting (length (a .out .now)) (withBytes (describe (a .kind)) (a .s .now) e))
+-- src/lib.rt:292:8
+few-requires : tie.Need-few-requires
+few-requires c κs = search needs
 
-slice-aggregate-index : tie.Need-slice-aggregate-index
-slice-aggregate-index c = search needs
+-- src/lib.rt:294:39
+slice-aggregate-write-with-in : tie.Need-slice-aggregate-write-with-in
+slice-aggregate-write-with-in c = search needs
 
-index-requires : tie.Need-index-requires
-index-requires c κs = search needs
+-- src/lib.rt:294:9
+write-with-in-requires : tie.Need-write-with-in-requires
+write-with-in-requires c κs = few-room (c .before .before .before .before .before .before .before .before .before .before .args .s .now) (sym (c .before .before .before .few .ensures) ∙ c .before .before .if1 .taken)
 
-enum-known-number : tie.Need-enum-known-number
-enum-known-number c = search needs
-
-enum-known-n : tie.Need-enum-known-n
-enum-known-n c = search needs
-
-array-share-prefix-starts : tie.Need-array-share-prefix-starts
-array-share-prefix-starts c = let a = c .before .before .before .before .before .before .before .before .before .before .before .before .args in index-within (lawful (a .kind)) (a .s .now) refl (rw (c .before .n .given .1) at (c .before .before .before .before .index .ensures))
-
-slice-aggregate-put-new : tie.Need-slice-aggregate-put-new
-slice-aggregate-put-new c = let a = c .before .before .before .before .before .before .before .before .before .before .before .before .before .args in sym (length-take-le _ _ (index-within (lawful (a .kind)) (a .s .now) refl (rw (c .before .before .n .given .1) at (c .before .before .before .before .before .index .ensures))))
-
-put-new-requires : tie.Need-put-new-requires
-put-new-requires c κs = let a = c .before .before .before .before .before .before .before .before .before .before .before .before .before .before .args in index-listed (lawful (a .kind)) (a .s .now) refl (rw (c .before .before .before .n .given .1) at (c .before .before .before .before .before .before .index .ensures))
-
-returns : tie.Need-returns
-returns c = let t = c .before .before .before .before .before .before .before .before .before .before .before .before in let a = t .args in index-refused (lawful (a .kind)) (a .s .now) refl (rw (c .before .number .given .1) at (c .before .before .before .before .index .ensures)) (λ _. next t) (a .out .now)
-
+-- src/lib.rt:294:9
 same-length : tie.Need-same-length
 same-length c = search needs
 
+-- src/lib.rt:294:9
+returns : tie.Need-returns
+returns c = search needs
+
+-- src/lib.rt:297:28
+slice-aggregate-write-with-in-2 : tie.Need-slice-aggregate-write-with-in-2
+slice-aggregate-write-with-in-2 c = search needs
+
+-- src/lib.rt:297:5
+write-with-in-requires-2 : tie.Need-write-with-in-requires-2
+write-with-in-requires-2 c κs = search needs
+
+-- src/lib.rt:281:1
+same-length-2 : tie.Need-same-length-2
+same-length-2 c = search needs
+
+-- src/lib.rt:281:1
 returns-2 : tie.Need-returns-2
-returns-2 c =
-    let t = c .before .before .before .before .before .before .before .before .before .before .before .before .before .before .before .before .before in let a = t .args in
-    index-then (lawful (a .kind)) (a .s .now) refl (rw (c .before .before .before .before .before .before .n .given .1) at (c .before .before .before .before .before .before .before .before .before .index .ensures)) (λ _. next t) (c .before .before .put-new .ensures)
+returns-2 c = search needs
 
 pub write-with-spec : {M : Type 1} → statement M
 write-with-spec =
     tie.close
     (tie.spec
-    slice-aggregate-index
-    index-requires
-    enum-known-number
-    enum-known-n
-    array-share-prefix-starts
-    slice-aggregate-put-new
-    put-new-requires
-    returns
+    few-requires
+    slice-aggregate-write-with-in
+    write-with-in-requires
     same-length
+    returns
+    slice-aggregate-write-with-in-2
+    write-with-in-requires-2
+    same-length-2
     returns-2)
