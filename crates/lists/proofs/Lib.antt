@@ -9,6 +9,7 @@ pub mod Search
 pub mod Shift
 pub mod Loop
 pub mod Short
+pub mod Picks
 pub mod Callers
 pub mod Once
 pub mod Examples
