@@ -8,6 +8,8 @@ pub mod Exits
 pub mod Search
 pub mod Shift
 pub mod Loop
+pub mod Short
+pub mod Picks
 pub mod Callers
 pub mod Once
 pub mod Examples
