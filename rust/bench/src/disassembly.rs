@@ -25,6 +25,9 @@ const PART: u64 = 0x10000;
 /// An instruction that sets how many bytes a `memmove` moves stands at most this many before its call.
 const NEAR: usize = 8;
 
+/// The bytes of a page, of which a large frame takes one after the other.
+const PAGE: u64 = 0x1000;
+
 /// The bytes of an address to return to, and of a register that is pushed.
 const RETURN: u64 = 8;
 
@@ -56,11 +59,11 @@ pub fn look() -> Result<Found, String> {
     judged(&String::from_utf8_lossy(&output.stdout))
 }
 
-/// Each writer reaches a function that moves parts, and no function has an array of that size on its stack.
+/// Each writer reaches a function that moves parts, and none of those has an array of that size on its stack.
 fn judged(listing: &str) -> Result<Found, String> {
     let functions = functions(listing);
     for (name, function) in &functions {
-        if function.stack >= PART {
+        if function.moves_parts && function.stack >= PART {
             return Err(format!(
                 "{name} has {} bytes on its stack: its copy is not seen through",
                 function.stack
@@ -110,6 +113,7 @@ fn functions(listing: &str) -> BTreeMap<String, Function> {
     let mut functions = BTreeMap::new();
     let mut current = String::new();
     let mut since_part = NEAR;
+    let mut far = false;
     for line in listing.lines() {
         if let Some(name) = heading(line) {
             current = name.to_string();
@@ -123,7 +127,11 @@ fn functions(listing: &str) -> BTreeMap<String, Function> {
             continue;
         }
         since_part = if line.contains("$0x10000,%edx") { 0 } else { since_part + 1 };
-        function.stack += stack(line);
+        let taken = stack(line);
+        // A page of a loop that takes pages up to an address below: the whole is counted where the address is made.
+        let page = far && taken == PAGE;
+        function.stack += if page { 0 } else { taken };
+        far = (far || is_far(line)) && !page;
     }
     functions
 }
@@ -141,13 +149,21 @@ fn relocation(line: &str) -> Option<&str> {
     Some(name.rsplit_once(['-', '+']).map_or(name, |(name, _)| name))
 }
 
-/// The bytes that an instruction takes on the stack: `push %rbx`, `sub $0x1000,%rsp`, or all at once `lea -0x10000(%rsp),%r11`.
+/// Whether an instruction makes the address at which a loop over the pages of a large frame ends: `sub $0x11000,%r11`.
+fn is_far(line: &str) -> bool {
+    line.ends_with(",%r11") && stack(line) > 0
+}
+
+/// The bytes that an instruction takes on the stack: `push %rbx`, `sub $0x1000,%rsp`, or for all pages of a loop
+/// `lea -0x10000(%rsp),%r11` and `sub $0x11000,%r11`.
 fn stack(line: &str) -> u64 {
     let Some((_, instruction)) = line.split_once(":\t") else { return 0 };
     let words: Vec<&str> = instruction.split_ascii_whitespace().collect();
     let digits = match words[..] {
         ["push", _] => return RETURN,
-        ["sub", operands] => operands.strip_prefix("$0x").and_then(|o| o.strip_suffix(",%rsp")),
+        ["sub", operands] => operands
+            .strip_prefix("$0x")
+            .and_then(|o| o.strip_suffix(",%rsp").or(o.strip_suffix(",%r11"))),
         ["lea", operands] => {
             operands.strip_prefix("-0x").and_then(|o| o.split_once("(%rsp)")).map(|(d, _)| d)
         }
@@ -184,6 +200,9 @@ mod tests {
     fn the_stack_of_a_call_is_that_of_all_below_it() {
         let pushed = MOVES.replace("   9:", "   8:\tpush   %rbx\n   9:");
         assert_eq!(judged(&listing(&pushed)).unwrap().stack, 8 + (8 + 8 + 0x20));
+        let pages = "   a:\tmov    %rsp,%r11\n   d:\tsub    $0x8000,%r11\n  14:\tsub    $0x1000,%rsp\n   9:";
+        let paged = judged(&listing(&MOVES.replace("   9:", pages))).unwrap();
+        assert_eq!(paged.stack, 8 + (8 + 0x8000 + 0x20));
     }
 
     #[test]
