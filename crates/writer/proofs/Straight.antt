@@ -8,7 +8,7 @@ use native.Mathlib.Omega.{arith}
 use lib.ListN.{length, take, drop, getD}
 use lib.Seq.{take-suc, take-all}
 use Rattle.wire.specs.Parts.{put, Wrote}
-use Rattle.order.specs.Keyed.{Every, Up, Apart, sort}
+use Rattle.order.specs.Keyed.{Every, Up, Apart}
 use Rattle.order.specs.Entries.{join, startsFrom}
 use Rattle.order.proofs.Folds.{every-imp, every-append}
 use Rattle.order.proofs.Keys.{up-low, asc-apart}
