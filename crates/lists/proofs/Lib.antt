@@ -8,7 +8,7 @@ pub mod Exits
 pub mod Search
 pub mod Shift
 pub mod Loop
-pub mod Short
+pub mod Filing
 pub mod Picks
 pub mod Callers
 pub mod Once

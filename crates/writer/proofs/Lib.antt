@@ -1,5 +1,6 @@
 pub mod Runs
 pub mod Fronts
+pub mod Straight
 pub mod Whole
 pub mod Asked
 pub mod Callers

@@ -14,6 +14,7 @@ use lists::few;
 use lists::find;
 use lists::index;
 ghost use mathlib.Core.Path.{_≡_};
+ghost use mathlib.Core.Bool.{true};
 ghost use mathlib.Core.List.{_++_};
 ghost use Prim.Native.Nat.{_+_, _≤_};
 ghost use lib.Dec.{leb};
@@ -21,7 +22,7 @@ ghost use lib.ListN.{length, take};
 ghost use Rattle.answer.specs.Outcome.{checked, fitting};
 ghost use Rattle.answer.specs.Calls.{Writes};
 ghost use Rattle.wire.specs.Parts.{Wrote};
-ghost use Rattle.order.specs.Keyed.{Every};
+ghost use Rattle.order.specs.Keyed.{Every, Up};
 ghost use Rattle.entries.specs.Code.{describe};
 ghost use Rattle.lists.specs.declared.Found.the-variants.{Free};
 ghost use Rattle.lists.specs.Lists.{keyAt};
@@ -127,6 +128,37 @@ fn key_of_parts(kind: Kind, head: &[u8], a: &[u8], mid: &[u8], b: &[u8]) -> u64
 
 // ---- whole lists
 
+// Whether starts follow one another as they stand in the list.
+fn in_file_order(starts: &[u32]) -> bool
+    ensures { λ r. ⌜ (r ≡ true → Up (λ y. y) 0 (now (starts .entry))) ⌝ }
+{
+    let mut last = 0;
+    let mut i = 0;
+    while i < starts.len() {
+        let y = starts[i];
+        if y < last {
+            return false;
+        }
+        last = y;
+        i += 1;
+    }
+    true
+}
+
+// All entries of the list, one after another: at once where they stand in the order of their keys.
+fn put_all(kind: Kind, s: &[u8], starts: &[u32], out: &mut [u8]) -> usize
+    requires { ⌜ Listed (describe kind) (now s) (now starts) ⌝ }
+    requires { ⌜ length (run (describe kind) (now s) (now starts)) ≤ length (now out) ⌝ }
+    ensures { λ r. ⌜ Wrote (run (describe kind) (now (s .entry)) (now (starts .entry))) (now (out .entry)) (now (out .exit)) r ⌝ }
+{
+    if in_file_order(starts) {
+        let entries = wire::tail(s, 4);
+        wire::copy(out, 0, entries);
+        return entries.len();
+    }
+    put_run(kind, s, starts, out)
+}
+
 // The list whose entries start at `starts`, where there is room.
 fn put_list(kind: Kind, s: &[u8], starts: &[u32], out: &mut [u8]) -> Answer
     requires { ⌜ Listed (describe kind) (now s) (now starts) ⌝ }
@@ -139,7 +171,7 @@ fn put_list(kind: Kind, s: &[u8], starts: &[u32], out: &mut [u8]) -> Answer
         };
     }
     wire::put_u32(out, 0, starts.len() as u32);
-    let n = put_run(kind, s, starts, &mut out[4..]);
+    let n = put_all(kind, s, starts, &mut out[4..]);
     Answer {
         number: TAKEN,
         place: (4 + n) as u64,

@@ -1,5 +1,5 @@
 use Rattle.writer.specs.Writer.{sortedBytes}
-use Rattle.writer.proofs.Whole.{room-short, listed-stands, listed-few, sorted-size, sorted-room, sorted-end, sorted-done}
+use Rattle.writer.proofs.Whole.{room-short, listed-few, sorted-size, sorted-room, sorted-end, sorted-done}
 use Rattle.entries.specs.Code.{describe}
 use Rattle.entries.proofs.Lawful.{lawful}
 use native.Mathlib.Omega.{arith}
@@ -16,22 +16,22 @@ cast-put-u32 c = let t = c .before .before .before .before .before in omega (ari
 put-u32-requires : tie.Need-put-u32-requires
 put-u32-requires c κs = search needs
 
-sub-put-run : tie.Need-sub-put-run
-sub-put-run c = let t = c .before .before .before .before .before .before .before .before in omega (arith, sorted-room (lawful (t .args .kind)) (t .pre) (t .args .out .now) (c .before .before .before .before .if1 .left) (c .before .before .put-u32 .ensures) .0)
+sub-put-all : tie.Need-sub-put-all
+sub-put-all c = let t = c .before .before .before .before .before .before .before .before in omega (arith, sorted-room (lawful (t .args .kind)) (t .pre) (t .args .out .now) (c .before .before .before .before .if1 .left) (c .before .before .put-u32 .ensures) .0)
 
-part-put-run-start : tie.Need-part-put-run-start
-part-put-run-start c = let t = c .before .before .before .before .before .before .before .before in omega (arith, sorted-room (lawful (t .args .kind)) (t .pre) (t .args .out .now) (c .before .before .before .before .if1 .left) (c .before .before .put-u32 .ensures) .0)
+part-put-all-start : tie.Need-part-put-all-start
+part-put-all-start c = let t = c .before .before .before .before .before .before .before .before in omega (arith, sorted-room (lawful (t .args .kind)) (t .pre) (t .args .out .now) (c .before .before .before .before .if1 .left) (c .before .before .put-u32 .ensures) .0)
 
-part-put-run-end : tie.Need-part-put-run-end
-part-put-run-end c = search needs
+part-put-all-end : tie.Need-part-put-all-end
+part-put-all-end c = search needs
 
-put-run-requires : tie.Need-put-run-requires
-put-run-requires c κs = let t = c .before .before .before .before .before .before .before .before .before in (listed-stands (lawful (t .args .kind)) (t .pre), sorted-room (lawful (t .args .kind)) (t .pre) (t .args .out .now) (c .before .before .before .before .before .if1 .left) (c .before .before .before .put-u32 .ensures) .1)
+put-all-requires : tie.Need-put-all-requires
+put-all-requires c κs = let t = c .before .before .before .before .before .before .before .before .before in (t .pre, sorted-room (lawful (t .args .kind)) (t .pre) (t .args .out .now) (c .before .before .before .before .before .if1 .left) (c .before .before .before .put-u32 .ensures) .1)
 
 add-t6 : tie.Need-add-t6
 add-t6 c =
     let t = c .before .before .before .before .before .before .before .before .before .before .before .before in
-    omega (arith, t .pre .short, sorted-end (lawful (t .args .kind)) (t .pre) (t .args .out .now) (c .before .before .before .before .before .before .before .before .if1 .left) (c .before .before .before .before .before .before .put-u32 .ensures) (c .before .before .put-run .ensures))
+    omega (arith, t .pre .short, sorted-end (lawful (t .args .kind)) (t .pre) (t .args .out .now) (c .before .before .before .before .before .before .before .before .if1 .left) (c .before .before .before .before .before .before .put-u32 .ensures) (c .before .before .put-all .ensures))
 
 same-length : tie.Need-same-length
 same-length c = search needs
@@ -39,7 +39,7 @@ same-length c = search needs
 returns-2 : tie.Need-returns-2
 returns-2 c =
     let t = c .before .before .before .before .before .before .before .before .before .before .before .before in
-    sorted-done (lawful (t .args .kind)) (t .pre) (t .args .out .now) (c .before .before .before .before .before .before .before .before .if1 .left) (c .before .before .before .before .before .before .put-u32 .ensures) (c .before .before .put-run .ensures)
+    sorted-done (lawful (t .args .kind)) (t .pre) (t .args .out .now) (c .before .before .before .before .before .before .before .before .if1 .left) (c .before .before .before .before .before .before .put-u32 .ensures) (c .before .before .put-all .ensures)
 
 pub put-list-spec : {M : Type 1} → statement M
 put-list-spec =
@@ -48,10 +48,10 @@ put-list-spec =
     returns
     cast-put-u32
     put-u32-requires
-    sub-put-run
-    part-put-run-start
-    part-put-run-end
-    put-run-requires
+    sub-put-all
+    part-put-all-start
+    part-put-all-end
+    put-all-requires
     add-t6
     same-length
     returns-2)
