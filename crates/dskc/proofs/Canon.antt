@@ -1,14 +1,14 @@
 -- The canonical form of a wrapper that is taken: its bytes, its length, and how they are written.
 -- Assumes nothing.
-use mathlib.Core.Path.{_≡_, refl, sym, _∙_, ap}
-use mathlib.Core.List.{List, [], _∷_, _++_}
+use mathlib.Core.Path.{_≡_, sym, _∙_, ap}
+use mathlib.Core.List.{List, _++_}
 use Prim.Native.Nat.{ℕ, _+_, _-_, _≤_, _<_}
 use native.Mathlib.Omega.{arith}
 use lib.ListN.{length, take, drop, length-append, length-drop}
 use borrow.Author.Tests.{leb-true, le-leb, lt-leb}
 use Rattle.answer.specs.declared.Answer.{Answer}
 use Rattle.answer.specs.Numbers.{ROOM}
-use Rattle.answer.specs.Outcome.{Outcome, taken, refused, checked, after, done, fitting}
+use Rattle.answer.specs.Outcome.{Outcome, taken, refused, after, done, fitting}
 use Rattle.answer.specs.Calls.{memory, Writes}
 use Rattle.answer.proofs.Outcomes.{done-taken}
 use Rattle.wire.specs.Parts.{Wrote}
@@ -17,10 +17,10 @@ use Rattle.order.specs.Keyed.{sort}
 use Rattle.entries.specs.Kinds.{controllers}
 use Rattle.entries.specs.declared.Kind.the-variants as kind
 use Rattle.entries.proofs.Lawful.{lawful}
-use Rattle.lists.specs.Lists.{partChecks, listAt, listBytes}
+use Rattle.lists.specs.Lists.{listAt, listBytes}
 use Rattle.lists.proofs.Written.{sorted-length}
 use Rattle.writer.specs.Writer.{sortedOf}
-use Rattle.dskc.specs.Wrapper.{header, headerChecks, wrapperOf, wrapperBytes, controllersOf, canonicalCall}
+use Rattle.dskc.specs.Wrapper.{header, wrapperOf, wrapperBytes, controllersOf, canonicalCall}
 use Rattle.dskc.proofs.Reading.{whole, list-whole}
 
 -- the controllers in address order, as the list behind the header

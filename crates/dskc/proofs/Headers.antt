@@ -1,6 +1,6 @@
 -- The header of a wrapper, by the exits of the code that checks it.
 -- Assumes nothing.
-use mathlib.Core.Path.{_≡_, refl, sym, _∙_, ap}
+use mathlib.Core.Path.{_≡_, refl}
 use mathlib.Core.Logic.{_≢_}
 use mathlib.Core.Bool.{Bool, true, false, _&&_}
 use mathlib.Core.List.{List, [], _∷_}
@@ -10,7 +10,7 @@ use lib.ListN.{length, take, drop}
 use lib.Dec.{eqb}
 use borrow.Author.Tests.{le-leb, lt-leb, eq-eqb, ne-eqb}
 use Rattle.answer.specs.Numbers.{SHORT, MAGIC, VERSION, SIZE}
-use Rattle.answer.specs.Outcome.{Outcome, taken, refused}
+use Rattle.answer.specs.Outcome.{taken, refused}
 use Rattle.answer.specs.Calls.{asked}
 use Rattle.wire.specs.Numbers.{Bytes, le, leAt}
 use Rattle.wire.specs.Parts.{same}

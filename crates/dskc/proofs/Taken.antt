@@ -1,30 +1,30 @@
 -- A wrapper is taken exactly if it is the rendering of valid controllers, which are unique; its canonical form is taken, of the same length, and its own.
 -- Assumes nothing.
 use mathlib.Core.Path.{_≡_, refl, sym, _∙_, ap}
-use mathlib.Core.Bool.{Bool, true, false, _&&_}
+use mathlib.Core.Bool.{true}
 use mathlib.Core.List.{List, [], _∷_, _++_}
-use Prim.Native.Nat.{ℕ, _+_, _*_, _/_, _%_, _≤_, _<_}
+use Prim.Native.Nat.{ℕ, _+_, _≤_, _<_}
 use native.Mathlib.Omega.{arith}
-use lib.ListN.{length, take, drop, length-append, length-drop}
+use lib.ListN.{length, take, drop}
 use lib.Seq.{getD-drop}
-use lib.Dec.{leb, eqb}
+use lib.Dec.{eqb}
 use borrow.Author.Tests.{leb-true, le-leb, eqb-true}
-use Rattle.answer.specs.Outcome.{taken, checked, Pass, moved}
+use Rattle.answer.specs.Outcome.{taken, Pass, moved}
 use Rattle.answer.proofs.Checks.{pass-checked, and-true}
 use Rattle.wire.specs.Numbers.{Bytes, le, leAt, bytesOf}
-use Rattle.wire.proofs.Numbers.{bytesOf-leAt, bytes-part}
+use Rattle.wire.proofs.Numbers.{bytesOf-leAt}
 use Rattle.wire.proofs.Letters.{same-true, peeled}
 use Rattle.order.specs.Keyed.{sort}
 use Rattle.order.specs.Entries.{startsFrom}
-use Rattle.order.proofs.Perms.{perm-weigh, perm-length}
+use Rattle.order.proofs.Perms.{perm-weigh}
 use Rattle.order.proofs.Sorts.{sort-perm, sort-up, up-sort}
 use Rattle.entries.specs.Kinds.{address, busOf, deviceOf, functionOf, controllers}
 use Rattle.entries.specs.declared.Kind.the-variants as kind
 use Rattle.entries.proofs.Lawful.{Lawful, lawful}
-use Rattle.lists.specs.Lists.{keyAt, listAt, entries, listBytes}
+use Rattle.lists.specs.Lists.{keyAt, listAt, listBytes}
 use Rattle.lists.proofs.Taken.{list-sound}
-use Rattle.lists.proofs.Written.{Good, good-sort, good-entries, length-list, list-taken, entries-list, list-bytes, sorted-again}
-use Rattle.dskc.specs.Wrapper.{wrapperMost, aero, dskc, pair, header, headerChecks, wrapperOf, wrapperBytes, Valid, controllersOf}
+use Rattle.lists.proofs.Written.{Good, good-sort, good-entries, length-list, list-taken, entries-list, list-bytes}
+use Rattle.dskc.specs.Wrapper.{wrapperMost, aero, dskc, header, headerChecks, wrapperOf, wrapperBytes, Valid, controllersOf}
 use Rattle.dskc.proofs.Reading.{whole}
 
 abbrev K : Lawful controllers

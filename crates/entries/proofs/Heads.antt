@@ -1,17 +1,14 @@
 -- The heads of entries: what is asked of them before KEY, and a length without a bound.
 -- Assumes nothing.
-use mathlib.Core.Path.{_≡_, refl, sym, _∙_, ap}
-use mathlib.Core.List.{List, [], _∷_}
-use mathlib.Core.Bool.{Bool, true, false, _&&_}
-use Prim.Native.Nat.{ℕ, _+_, _-_, _/_, _%_, _≤_, _<_, zero-le}
+use mathlib.Core.Path.{_≡_}
+use mathlib.Core.List.{List}
+use Prim.Native.Nat.{ℕ, _-_, _/_, _%_, _≤_, _<_}
 use native.Mathlib.Omega.{arith}
-use lib.ListN.{length, take, drop, length-drop}
-use lib.Dec.{leb, eqb}
-use borrow.Author.Tests.{le-leb, lt-leb, leb-true, eq-eqb, ne-eqb}
+use lib.ListN.{length, drop}
+use borrow.Author.Tests.{le-leb, lt-leb, eq-eqb, ne-eqb}
 use Rattle.answer.specs.Numbers.{SHAPE, RESERVED, ADDRESS}
-use Rattle.answer.specs.Outcome.{Outcome, taken, refused, checked, Checks}
+use Rattle.answer.specs.Outcome.{Outcome, taken, refused}
 use Rattle.answer.specs.Calls.{asked}
-use Rattle.answer.proofs.Within.{Within, checked-within}
 use Rattle.wire.specs.Numbers.{Bytes, leAt}
 use Rattle.wire.proofs.Numbers.{leAt-here, leAt-bound}
 use Rattle.format.specs.Format.{any, sized, blob, read}

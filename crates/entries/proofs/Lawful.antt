@@ -1,15 +1,14 @@
 -- What the laws of lists want of a kind of entry, and that every kind has it.
 -- Assumes nothing.
-use mathlib.Core.Path.{_≡_, refl, sym, _∙_, ap}
+use mathlib.Core.Path.{_≡_, refl, ap}
 use mathlib.Core.List.{List, [], _∷_, _++_, append-assoc}
-use mathlib.Core.Bool.{Bool, _&&_}
 use Prim.Native.Nat.{ℕ, _+_, _-_, _≤_, zero-le}
 use native.Mathlib.Omega.{arith}
 use lib.ListN.{length, take, drop, length-drop}
 use lib.Seq.{length-take-le}
-use lib.Dec.{leb, eqb}
+use lib.Dec.{leb}
 use borrow.Author.Tests.{leb-true}
-use Rattle.answer.specs.Numbers.{SHAPE, ADDRESS, RESERVED}
+use Rattle.answer.specs.Numbers.{SHAPE}
 use Rattle.answer.specs.Outcome.{taken, refused, Pass}
 use Rattle.answer.specs.Calls.{asked}
 use Rattle.answer.proofs.Checks.{checked-pass}
@@ -19,12 +18,11 @@ use Rattle.wire.proofs.Numbers.{leAt-append}
 use Rattle.format.specs.Format.{bytes, Is}
 use Rattle.format.specs.Places.{readAt}
 use Rattle.format.proofs.Exits.{block-inside}
-use Rattle.format.proofs.Meaning.{least, least-le}
+use Rattle.format.proofs.Meaning.{least-le}
 use Rattle.format.proofs.Within.{Keeps, blob-keeps, text-keeps}
 use Rattle.entries.specs.declared.Kind.{Kind}
 use Rattle.entries.specs.declared.Kind.the-variants.{Devices, Disks, Cpus, Mmus, Controllers}
-use Rattle.entries.specs.States.{mmuLength}
-use Rattle.entries.specs.Kinds.{Description, leadChecks, devices, disks, cpus, mmus, controllers, controllerHead, controllerChecks, deviceOf, functionOf, unbounded}
+use Rattle.entries.specs.Kinds.{Description, leadChecks, devices, disks, cpus, mmus, controllers, controllerChecks}
 use Rattle.entries.specs.Code.{describe}
 use Rattle.entries.proofs.States.{state-within}
 

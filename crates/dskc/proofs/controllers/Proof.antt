@@ -8,7 +8,7 @@ use Rattle.answer.specs.Outcome.{Outcome, after, fitting}
 use lib.ListN.{length, drop}
 use Prim.Native.Nat.{ℕ}
 use mathlib.Core.List.{List}
-use mathlib.Core.Path.{sym, ap}
+use mathlib.Core.Path.{ap}
 use borrow.Author.Needs.{needs}
 use Rattle.dskc.proofs.controllers.Statement.{statement}
 use Rattle.dskc.proofs.controllers.Tie as tie

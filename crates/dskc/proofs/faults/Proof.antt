@@ -5,53 +5,37 @@ use native.Mathlib.Omega.{arith}
 use borrow.Author.Needs.{needs}
 use Rattle.dskc.proofs.faults.Statement.{statement}
 use Rattle.dskc.proofs.faults.Tie as tie
-use Rattle.dskc.proofs.faults.Reads as reads
-use Rattle.dskc.proofs.faults.Lts as lts
-use Rattle.dskc.proofs.header.Reads as header-reads
-use Rattle.lists.proofs.check.Reads as check-reads
-use Rattle.wire.proofs.tail.Reads as tail-reads
 
--- src/lib.rt:70:11
 header-requires : tie.Need-header-requires
 header-requires c κs = search needs
 
--- src/lib.rt:71:21
 enum-known-number : tie.Need-enum-known-number
 enum-known-number c = search needs
 
--- src/lib.rt:72:42
 enum-told : tie.Need-enum-told
 enum-told c = search needs
 
--- src/lib.rt:72:61
 tail-requires : tie.Need-tail-requires
 tail-requires c κs = search needs
 
--- src/lib.rt:72:29
 check-requires : tie.Need-check-requires
 check-requires c κs = search needs
 
--- src/lib.rt:73:25
 enum-known-number-2 : tie.Need-enum-known-number-2
 enum-known-number-2 c = search needs
 
--- src/lib.rt:73:63
 add-t12 : tie.Need-add-t12
 add-t12 c = omega (arith, list-stop (c .before .before .before .before .before .before .before .before .before .args .s .now) (asked-pass (headerChecks (c .before .before .before .before .before .before .before .before .before .args .s .now)) (rw (c .before .before .before .before .before .enum-told .given .1) at (c .before .before .before .before .before .before .before .header .ensures))) (c .before .before .before .before .tail .ensures) (rw (c .before .number2 .given .1) at (c .before .before .before .check .ensures)) .1)
 
--- src/lib.rt:74:27
 enum-told-2 : tie.Need-enum-told-2
 enum-told-2 c = search needs
 
--- src/lib.rt:67:1
 returns : tie.Need-returns
 returns c = header-stop (c .before .before .before .before .before .args .s .now) (rw (c .before .number .given .1) at (c .before .before .before .header .ensures))
 
--- src/lib.rt:67:1
 returns-2 : tie.Need-returns-2
 returns-2 c = list-stop (c .before .before .before .before .before .before .before .before .before .args .s .now) (asked-pass (headerChecks (c .before .before .before .before .before .before .before .before .before .args .s .now)) (rw (c .before .before .before .before .before .enum-told .given .1) at (c .before .before .before .before .before .before .before .header .ensures))) (c .before .before .before .before .tail .ensures) (rw (c .before .number2 .given .1) at (c .before .before .before .check .ensures)) .0
 
--- src/lib.rt:67:1
 returns-3 : tie.Need-returns-3
 returns-3 c = list-done (c .before .before .before .before .before .before .before .before .args .s .now) (asked-pass (headerChecks (c .before .before .before .before .before .before .before .before .args .s .now)) (rw (c .before .before .before .before .enum-told .given .1) at (c .before .before .before .before .before .before .header .ensures))) (c .before .before .before .tail .ensures) (rw (c .enum-told2 .given .1) at (c .before .before .check .ensures))
 

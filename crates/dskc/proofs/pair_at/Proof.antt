@@ -1,7 +1,4 @@
-use Rattle.wire.specs.Numbers.{leAt}
 use borrow.Author.Tests.{eq-eqb, ne-eqb}
-use Prim.Native.Nat.{_+_}
-use mathlib.Core.Path.{_≡_}
 use borrow.Author.Needs.{needs}
 use Rattle.dskc.proofs.pair_at.Statement.{statement}
 use Rattle.dskc.proofs.pair_at.Tie as tie

@@ -1,6 +1,6 @@
 use Rattle.wire.proofs.Records.{stored-record}
 use Rattle.wire.specs.Numbers.{bytesOf}
-use mathlib.Core.List.{[], _∷_, append-nil}
+use mathlib.Core.List.{[], _∷_}
 use mathlib.Core.Path.{refl}
 use native.Mathlib.Omega.{arith}
 use borrow.Author.Needs.{needs}

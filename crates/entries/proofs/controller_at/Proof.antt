@@ -1,7 +1,7 @@
 use Rattle.entries.proofs.Heads.{unbounded-at}
 use mathlib.Core.Path.{_∙_}
 use Rattle.entries.specs.Kinds.{controllerHead, unbounded}
-use Rattle.format.specs.Format.{any, sized, pair, bytes, blob, text}
+use Rattle.format.specs.Format.{any, sized}
 use Rattle.format.proofs.Exits.{pair-stop, pair-next}
 use borrow.Author.Needs.{needs}
 use Rattle.entries.proofs.controller_at.Statement.{statement}

@@ -3,8 +3,6 @@ use Rattle.entries.specs.Kinds.{controllerChecks}
 use Rattle.format.proofs.Exits.{block-inside, asked-stop, asked-done, asked-fault}
 use Rattle.format.proofs.Placed.{block-at as block-law}
 use Rattle.answer.specs.Calls.{asked}
-use Prim.Native.Nat.{ℕ}
-use mathlib.Core.List.{List}
 use native.Mathlib.Omega.{arith}
 use borrow.Author.Needs.{needs}
 use Rattle.entries.proofs.controller_head_at.Statement.{statement}

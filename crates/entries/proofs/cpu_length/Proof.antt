@@ -1,6 +1,5 @@
 use Rattle.entries.proofs.States.{length-one, length-two}
 use borrow.Author.Tests.{eq-eqb, ne-eqb}
-use mathlib.Core.Path.{_∙_}
 use Rattle.entries.proofs.cpu_length.Statement.{statement}
 use Rattle.entries.proofs.cpu_length.Tie as tie
 

@@ -1,4 +1,4 @@
-use Rattle.format.specs.Format.{any, sized, pair, bytes, blob, text}
+use Rattle.format.specs.Format.{pair, bytes, text}
 use Rattle.format.proofs.Exits.{pair-stop, pair-next}
 use borrow.Author.Needs.{needs}
 use Rattle.entries.proofs.disk_at.Statement.{statement}

@@ -1,4 +1,3 @@
-use Rattle.entries.specs.Code.{describe}
 use borrow.Author.Needs.{needs}
 use Rattle.entries.proofs.early_of.Statement.{statement}
 use Rattle.entries.proofs.early_of.Tie as tie

@@ -1,5 +1,4 @@
 use Rattle.entries.proofs.States.{mmu-small}
-use Rattle.entries.specs.Code.{describe}
 use Rattle.format.specs.Places.{readAt}
 use Rattle.format.specs.Format.{bytes}
 use Prim.Native.Nat.{ℕ, _+_}

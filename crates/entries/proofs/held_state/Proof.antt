@@ -1,5 +1,5 @@
 use Rattle.format.proofs.Exits.{sized-short, sized-bad, sized-cut, sized-whole}
-use Rattle.entries.specs.States.{cpuLength, cpuLengthChecks}
+use Rattle.entries.specs.States.{cpuLengthChecks}
 use Rattle.format.specs.Format.{any}
 use Rattle.answer.specs.Numbers.{SHAPE}
 use borrow.Author.Tests.{not-true, not-false}

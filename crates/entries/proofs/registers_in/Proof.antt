@@ -1,4 +1,4 @@
-use Rattle.format.proofs.Listed.{row-high, row-low, row-in, values-none}
+use Rattle.format.proofs.Listed.{row-high, row-in, values-none}
 use native.Mathlib.Omega.{arith}
 use borrow.Author.Needs.{needs}
 use Rattle.entries.proofs.registers_in.Statement.{statement}

@@ -1,4 +1,4 @@
-use Rattle.format.specs.Format.{option, pair, bytes, text}
+use Rattle.format.specs.Format.{option, bytes, text}
 use Rattle.format.proofs.Exits.{pair-stop, pair-next}
 use borrow.Author.Needs.{needs}
 use Rattle.payloads.proofs.time_at.Statement.{statement}

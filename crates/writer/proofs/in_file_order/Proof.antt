@@ -1,7 +1,5 @@
 use Rattle.writer.proofs.in_file_order.Statement.{statement}
 use Rattle.writer.proofs.in_file_order.Tie as tie
-use Rattle.writer.proofs.in_file_order.Reads as reads
-use Rattle.writer.proofs.in_file_order.Lts as lts
 use Rattle.writer.proofs.Straight.{Rises, rises-start, rises-next, rises-done}
 use native.Mathlib.Omega.{arith}
 use lib.ListN.{length}
@@ -14,35 +12,27 @@ Inv-loop starts last₀ i₀ last i = Rises starts i last
 abbrev μ-loop : tie.MeasureT-loop
 μ-loop starts last₀ i₀ last i = length starts - i
 
--- src/lib.rt:137:5
 loop-holds : tie.Need-loop-holds Inv-loop μ-loop
 loop-holds c = rises-start _
 
--- src/lib.rt:138:17
 mul-y : tie.Need-mul-y Inv-loop μ-loop
 mul-y c = omega arith
 
--- src/lib.rt:138:17
 shared-slice-read-y : tie.Need-shared-slice-read-y Inv-loop μ-loop
 shared-slice-read-y c = omega arith
 
--- src/lib.rt:140:13
 returns : tie.Need-returns Inv-loop μ-loop
 returns c = λ h. absurd (false≢true h)
 
--- src/lib.rt:143:9
 add-i : tie.Need-add-i Inv-loop μ-loop
 add-i c = omega arith
 
--- src/lib.rt:137:5
 loop-less : tie.Need-loop-less Inv-loop μ-loop
 loop-less c = omega arith
 
--- src/lib.rt:137:5
 loop-again : tie.Need-loop-again Inv-loop μ-loop
 loop-again c = rises-next _ (c .before .before .before .loop .inv) (c .before .before .loop-test .taken) (c .if1 .left)
 
--- src/lib.rt:132:1
 returns-2 : tie.Need-returns-2 Inv-loop μ-loop
 returns-2 c = λ _. rises-done _ (c .before .loop .inv) (c .loop-test .left)
 

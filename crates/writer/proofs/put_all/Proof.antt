@@ -4,44 +4,30 @@ use Rattle.entries.proofs.Lawful.{lawful}
 use borrow.Author.Needs.{needs}
 use Rattle.writer.proofs.put_all.Statement.{statement}
 use Rattle.writer.proofs.put_all.Tie as tie
-use Rattle.writer.proofs.put_all.Reads as reads
-use Rattle.writer.proofs.put_all.Lts as lts
-use Rattle.wire.proofs.copy.Reads as copy-reads
-use Rattle.wire.proofs.tail.Reads as tail-reads
-use Rattle.writer.proofs.in_file_order.Reads as in-file-order-reads
-use Rattle.writer.proofs.put_run.Reads as put-run-reads
 
--- src/lib.rt:154:8
 in-file-order-requires : tie.Need-in-file-order-requires
 in-file-order-requires c κs = search needs
 
--- src/lib.rt:155:13
 tail-requires : tie.Need-tail-requires
 tail-requires c κs = search needs
 
--- src/lib.rt:156:9
 copy-requires : tie.Need-copy-requires
 copy-requires c κs = search needs
 
--- src/lib.rt:157:9
 same-length : tie.Need-same-length
 same-length c = search needs
 
--- src/lib.rt:157:9
 returns : tie.Need-returns
 returns c =
     let t = c .before .before .before .before .before .before .before .before .before .before in
     straight-wrote (lawful (t .args .kind)) (t .pre .0) (c .before .before .before .before .before .before .in-file-order .ensures (c .before .before .before .before .before .if1 .taken)) (c .before .before .before .before .tail .ensures) (t .pre .1) (c .before .before .copy .ensures)
 
--- src/lib.rt:159:5
 put-run-requires : tie.Need-put-run-requires
 put-run-requires c κs = let t = c .before .before .before .before .before .before in (listed-stands (lawful (t .args .kind)) (t .pre .0), t .pre .1)
 
--- src/lib.rt:149:1
 same-length-2 : tie.Need-same-length-2
 same-length-2 c = search needs
 
--- src/lib.rt:149:1
 returns-2 : tie.Need-returns-2
 returns-2 c = search needs
 

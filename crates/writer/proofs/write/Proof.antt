@@ -3,44 +3,31 @@ use Rattle.lists.proofs.Exits.{few-room}
 use borrow.Author.Needs.{needs}
 use Rattle.writer.proofs.write.Statement.{statement}
 use Rattle.writer.proofs.write.Tie as tie
-use Rattle.writer.proofs.write.Reads as reads
-use Rattle.writer.proofs.write.Lts as lts
-use Rattle.lists.proofs.few.Reads as few-reads
-use Rattle.writer.proofs.write_in.Reads as write-in-reads
 
--- src/lib.rt:271:8
 few-requires : tie.Need-few-requires
 few-requires c κs = search needs
 
--- src/lib.rt:273:34
 slice-aggregate-write-in : tie.Need-slice-aggregate-write-in
 slice-aggregate-write-in c = search needs
 
--- src/lib.rt:273:9
 write-in-requires : tie.Need-write-in-requires
 write-in-requires c κs = few-room (c .before .before .before .before .before .before .args .s .now) (sym (c .before .before .before .few .ensures) ∙ c .before .before .if1 .taken)
 
--- src/lib.rt:273:9
 same-length : tie.Need-same-length
 same-length c = search needs
 
--- src/lib.rt:273:9
 returns : tie.Need-returns
 returns c = search needs
 
--- src/lib.rt:276:23
 slice-aggregate-write-in-2 : tie.Need-slice-aggregate-write-in-2
 slice-aggregate-write-in-2 c = search needs
 
--- src/lib.rt:276:5
 write-in-requires-2 : tie.Need-write-in-requires-2
 write-in-requires-2 c κs = search needs
 
--- src/lib.rt:268:1
 same-length-2 : tie.Need-same-length-2
 same-length-2 c = search needs
 
--- src/lib.rt:268:1
 returns-2 : tie.Need-returns-2
 returns-2 c = search needs
 

@@ -3,44 +3,31 @@ use Rattle.lists.proofs.Exits.{few-room}
 use borrow.Author.Needs.{needs}
 use Rattle.writer.proofs.write_with.Statement.{statement}
 use Rattle.writer.proofs.write_with.Tie as tie
-use Rattle.writer.proofs.write_with.Reads as reads
-use Rattle.writer.proofs.write_with.Lts as lts
-use Rattle.lists.proofs.few.Reads as few-reads
-use Rattle.writer.proofs.write_with_in.Reads as write-with-in-reads
 
--- src/lib.rt:292:8
 few-requires : tie.Need-few-requires
 few-requires c κs = search needs
 
--- src/lib.rt:294:39
 slice-aggregate-write-with-in : tie.Need-slice-aggregate-write-with-in
 slice-aggregate-write-with-in c = search needs
 
--- src/lib.rt:294:9
 write-with-in-requires : tie.Need-write-with-in-requires
 write-with-in-requires c κs = few-room (c .before .before .before .before .before .before .before .before .before .before .args .s .now) (sym (c .before .before .before .few .ensures) ∙ c .before .before .if1 .taken)
 
--- src/lib.rt:294:9
 same-length : tie.Need-same-length
 same-length c = search needs
 
--- src/lib.rt:294:9
 returns : tie.Need-returns
 returns c = search needs
 
--- src/lib.rt:297:28
 slice-aggregate-write-with-in-2 : tie.Need-slice-aggregate-write-with-in-2
 slice-aggregate-write-with-in-2 c = search needs
 
--- src/lib.rt:297:5
 write-with-in-requires-2 : tie.Need-write-with-in-requires-2
 write-with-in-requires-2 c κs = search needs
 
--- src/lib.rt:281:1
 same-length-2 : tie.Need-same-length-2
 same-length-2 c = search needs
 
--- src/lib.rt:281:1
 returns-2 : tie.Need-returns-2
 returns-2 c = search needs
 

@@ -11,10 +11,6 @@ use mathlib.Core.Path.{sym}
 use borrow.Author.Needs.{needs}
 use Rattle.writer.proofs.write_with_in.Statement.{statement}
 use Rattle.writer.proofs.write_with_in.Tie as tie
-use Rattle.writer.proofs.write_with_in.Reads as reads
-use Rattle.writer.proofs.write_with_in.Lts as lts
-use Rattle.lists.proofs.index.Reads as index-reads
-use Rattle.writer.proofs.put_new.Reads as put-new-reads
 
 -- what comes once the list is taken
 abbrev next : tie.Start → Outcome (List ℕ)
@@ -23,59 +19,48 @@ next t =
     let e : List ℕ = together (a .head .now) (a .a .now) (a .mid .now) (a .b .now) in
     checked (newChecks (describe (a .kind)) (a .s .now) e) (fitting (length (a .out .now)) (withBytes (describe (a .kind)) (a .s .now) e))
 
--- src/lib.rt:258:11
 index-requires : tie.Need-index-requires
 index-requires c κs = search needs
 
--- src/lib.rt:259:21
 enum-known-number : tie.Need-enum-known-number
 enum-known-number c = search needs
 
--- src/lib.rt:263:21
 enum-known-n : tie.Need-enum-known-n
 enum-known-n c = search needs
 
--- src/lib.rt:263:44
 slice-reshare-prefix-put-new : tie.Need-slice-reshare-prefix-put-new
 slice-reshare-prefix-put-new c =
     let t = c .before .before .before .before .before .before .before .before .before .before .before .before .before .before in
     let a = t .args in
     index-within (lawful (a .kind)) (a .s .now) (t .pre) (rw (c .before .n .given .1) at (c .before .before .before .before .before .index .ensures))
 
--- src/lib.rt:263:44
 slice-aggregate-put-new : tie.Need-slice-aggregate-put-new
 slice-aggregate-put-new c =
     let t = c .before .before .before .before .before .before .before .before .before .before .before .before .before .before .before in
     let a = t .args in
     sym (length-take-le _ _ (index-within (lawful (a .kind)) (a .s .now) (t .pre) (rw (c .before .before .n .given .1) at (c .before .before .before .before .before .before .index .ensures))))
 
--- src/lib.rt:263:27
 put-new-requires : tie.Need-put-new-requires
 put-new-requires c κs =
     let t = c .before .before .before .before .before .before .before .before .before .before .before .before .before .before .before .before in
     let a = t .args in
     index-listed (lawful (a .kind)) (a .s .now) (t .pre) (rw (c .before .before .before .n .given .1) at (c .before .before .before .before .before .before .before .index .ensures))
 
--- src/lib.rt:245:1
 same-length : tie.Need-same-length
 same-length c = search needs
 
--- src/lib.rt:245:1
 returns : tie.Need-returns
 returns c =
     let t = c .before .before .before .before .before .before .before .before .before .before .before .before .before .before in
     let a = t .args in
     index-refused (lawful (a .kind)) (a .s .now) (t .pre) (rw (c .before .number .given .1) at (c .before .before .before .before .before .index .ensures)) (λ _. next t) (a .out .now)
 
--- src/lib.rt:245:1
 same-length-2 : tie.Need-same-length-2
 same-length-2 c = search needs
 
--- src/lib.rt:245:1
 same-length-3 : tie.Need-same-length-3
 same-length-3 c = search needs
 
--- src/lib.rt:245:1
 returns-2 : tie.Need-returns-2
 returns-2 c =
     let t = c .before .before .before .before .before .before .before .before .before .before .before .before .before .before .before .before .before .before .before in
