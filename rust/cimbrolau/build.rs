@@ -1,4 +1,4 @@
-//! Finds the proved library, which `rt staticlib cimbrolau` writes to the repository's `target/staticlib`.
+//! Finds the proved library, which `tools/library` writes to the repository's `target/staticlib`.
 
 use std::env::var_os;
 use std::path::PathBuf;
@@ -14,7 +14,7 @@ fn main() {
         eprintln!("The proved library is not there: {}", archive.display());
         eprintln!("Make it in the repository's root, with the command");
         eprintln!();
-        eprintln!("    rt staticlib cimbrolau");
+        eprintln!("    tools/library");
         eprintln!();
         exit(1);
     }

@@ -2,7 +2,7 @@
 //!
 //! The library copies bytes in parts of 64 KiB, each through an array of its own, which the compiler sees through: what
 //! is left is one `memmove` of 65,536 bytes for each part, and no array. Were it not to, every byte would be copied twice
-//! or one by one, and nothing but the time would tell.
+//! or one by one, and nothing but the time would tell. Both kinds of machine are read, x86-64 and Arm.
 
 use std::collections::BTreeMap;
 use std::process::Command;
@@ -28,8 +28,11 @@ const NEAR: usize = 8;
 /// The bytes of a page, of which a large frame takes one after the other.
 const PAGE: u64 = 0x1000;
 
-/// The bytes of an address to return to, and of a register that is pushed.
+/// The bytes of an address to return to, and of a register that is pushed. On Arm the caller's address is counted twice.
 const RETURN: u64 = 8;
+
+/// The instructions that say how many bytes are moved: those of a part.
+const PART_MOVED: [&str; 2] = ["$0x10000,%edx", "w2, #0x10000"];
 
 /// What is of interest in a function.
 #[derive(Default)]
@@ -126,7 +129,8 @@ fn functions(listing: &str) -> BTreeMap<String, Function> {
             function.calls.push(target.to_string());
             continue;
         }
-        since_part = if line.contains("$0x10000,%edx") { 0 } else { since_part + 1 };
+        since_part =
+            if PART_MOVED.iter().any(|part| line.contains(part)) { 0 } else { since_part + 1 };
         let taken = stack(line);
         // A page of a loop that takes pages up to an address below: the whole is counted where the address is made.
         let page = far && taken == PAGE;
@@ -141,35 +145,60 @@ fn heading(line: &str) -> Option<&str> {
     line.strip_suffix(">:")?.split_once(" <").map(|(_, name)| name)
 }
 
-/// The name in `1b4: R_X86_64_PLT32 memmove-0x4`, or in `.text.writer::write-0x4`.
+/// The name in `1b4: R_X86_64_PLT32 memmove-0x4`, in `.text.writer::write-0x4`, or in `1c0: R_AARCH64_CALL26 memmove`.
 fn relocation(line: &str) -> Option<&str> {
-    let (_, rest) = line.split_once(": R_X86_64_")?;
+    let (_, rest) = line.split_once(": R_X86_64_").or_else(|| line.split_once(": R_AARCH64_"))?;
     let target = rest.split_ascii_whitespace().nth(1)?;
     let name = target.strip_prefix(".text.").unwrap_or(target);
     Some(name.rsplit_once(['-', '+']).map_or(name, |(name, _)| name))
 }
 
-/// Whether an instruction makes the address at which a loop over the pages of a large frame ends: `sub $0x11000,%r11`.
-fn is_far(line: &str) -> bool {
-    line.ends_with(",%r11") && stack(line) > 0
+/// The words of the instruction in a line.
+fn words(line: &str) -> Vec<&str> {
+    let instruction = line.split_once(":\t").map_or("", |(_, instruction)| instruction);
+    instruction.split_ascii_whitespace().collect()
 }
 
-/// The bytes that an instruction takes on the stack: `push %rbx`, `sub $0x1000,%rsp`, or for all pages of a loop
-/// `lea -0x10000(%rsp),%r11` and `sub $0x11000,%r11`.
+/// Whether an instruction makes the address at which a loop over the pages of a large frame ends: `sub $0x11000,%r11`,
+/// or `sub x9, sp, #0x11, lsl #12`.
+fn is_far(line: &str) -> bool {
+    let arm = matches!(words(line)[..], ["sub", to, "sp,", ..] if to != "sp,");
+    stack(line) > 0 && (arm || line.ends_with(",%r11"))
+}
+
+/// The bytes that an instruction takes on the stack.
 fn stack(line: &str) -> u64 {
-    let Some((_, instruction)) = line.split_once(":\t") else { return 0 };
-    let words: Vec<&str> = instruction.split_ascii_whitespace().collect();
-    let digits = match words[..] {
-        ["push", _] => return RETURN,
-        ["sub", operands] => operands
-            .strip_prefix("$0x")
-            .and_then(|o| o.strip_suffix(",%rsp").or(o.strip_suffix(",%r11"))),
-        ["lea", operands] => {
-            operands.strip_prefix("-0x").and_then(|o| o.split_once("(%rsp)")).map(|(d, _)| d)
+    let words = words(line);
+    stack_x86(&words).or_else(|| stack_arm(&words)).unwrap_or(0)
+}
+
+/// `push %rbx`, `sub $0x1000,%rsp`, or for all pages of a loop `lea -0x10000(%rsp),%r11` and `sub $0x11000,%r11`.
+fn stack_x86(words: &[&str]) -> Option<u64> {
+    let digits = match words {
+        ["push", _] => return Some(RETURN),
+        ["sub", operands] => {
+            let bytes = operands.strip_prefix("$0x")?;
+            bytes.strip_suffix(",%rsp").or(bytes.strip_suffix(",%r11"))?
+        }
+        ["lea", operands] => operands.strip_prefix("-0x")?.split_once("(%rsp)")?.0,
+        _ => return None,
+    };
+    u64::from_str_radix(digits, 16).ok()
+}
+
+/// `stp x29, x30, [sp, #-96]!`, `sub sp, sp, #0x1, lsl #12`, or for all pages of a loop `sub x9, sp, #0x11, lsl #12`.
+fn stack_arm(words: &[&str]) -> Option<u64> {
+    match words {
+        ["stp", _, _, "[sp,", bytes] | ["str", _, "[sp,", bytes] => {
+            bytes.strip_prefix("#-")?.strip_suffix("]!")?.parse().ok()
+        }
+        ["sub", _, "sp,", bytes, shift @ ..] => {
+            let digits = bytes.strip_prefix("#0x")?.trim_end_matches(',');
+            let bytes = u64::from_str_radix(digits, 16).ok()?;
+            Some(if matches!(shift, ["lsl", "#12", ..]) { bytes << 12 } else { bytes })
         }
         _ => None,
-    };
-    digits.and_then(|digits| u64::from_str_radix(digits, 16).ok()).unwrap_or(0)
+    }
 }
 
 #[cfg(test)]
@@ -193,7 +222,10 @@ mod tests {
 
     #[test]
     fn a_memmove_of_parts_is_found_behind_calls() {
-        assert!(judged(&listing(MOVES)).unwrap().copies.contains("`cimbrolau_canonical` in `writer::write`"));
+        assert!(judged(&listing(MOVES))
+            .unwrap()
+            .copies
+            .contains("`cimbrolau_canonical` in `writer::write`"));
     }
 
     #[test]
@@ -203,6 +235,27 @@ mod tests {
         let pages = "   a:\tmov    %rsp,%r11\n   d:\tsub    $0x8000,%r11\n  14:\tsub    $0x1000,%rsp\n   9:";
         let paged = judged(&listing(&MOVES.replace("   9:", pages))).unwrap();
         assert_eq!(paged.stack, 8 + (8 + 0x8000 + 0x20));
+    }
+
+    const MOVES_ARM: &str = "
+0000000000000000 <writer::write>:
+   0:\tstp\tx29, x30, [sp, #-96]!
+   9:\tsub\tsp, sp, #0x20
+ 1b0:\tmov\tw2, #0x10000               \t// #65536
+ 1c0:\tbl\t0 <memmove>
+\t\t\t1c0: R_AARCH64_CALL26\tmemmove
+";
+
+    #[test]
+    fn arm_is_read_too() {
+        let found = judged(&listing(MOVES_ARM)).unwrap();
+        assert!(found.copies.contains("`cimbrolau_canonical` in `writer::write`"));
+        assert_eq!(found.stack, 8 + (8 + 96 + 0x20));
+        let pages = "   4:\tsub\tx9, sp, #0x8, lsl #12\n   8:\tsub\tsp, sp, #0x1, lsl #12\n   9:";
+        let paged = judged(&listing(&MOVES_ARM.replace("   9:", pages))).unwrap();
+        assert_eq!(paged.stack, 8 + (8 + 96 + 0x8000 + 0x20));
+        assert!(judged(&listing(&MOVES_ARM.replace("#0x20", "#0x10, lsl #12"))).is_err());
+        assert!(judged(&listing(&MOVES_ARM.replace("memmove", "memset"))).is_err());
     }
 
     #[test]

@@ -54,7 +54,7 @@ fn follow(path: &Path) -> usize {
             continue;
         }
         // The library is made, and the command built, when this runs.
-        let built = command.replace("rt staticlib cimbrolau && ", "");
+        let built = command.replace("tools/library && ", "");
         let built = built.replace("cargo cim", env!("CARGO_BIN_EXE_cim"));
         let output = Command::new("sh")
             .args(["-c", &format!("exec 2>&1; {built}")])

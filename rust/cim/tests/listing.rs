@@ -1,35 +1,66 @@
 //! The proved program `listing`, which `rt check listing` makes: what document 01 has it print, and the same as `cim list` where that reads the file too.
 
+use std::ffi::OsString;
 use std::io::Write;
-use std::path::Path;
+use std::path::{Path, PathBuf};
 use std::process::{Command, Stdio};
+use std::sync::OnceLock;
 
 const ROOT: &str = concat!(env!("CARGO_MANIFEST_DIR"), "/../..");
 
 /// The most bytes that the program reads.
 const MOST: usize = 32_768;
 
-/// What a program prints on standard output for an input, and whether it ended well.
-fn printed(program: &Path, words: &[&str], input: &[u8]) -> (String, bool) {
-    let mut child = Command::new(program)
-        .args(words)
+/// What a command prints on standard output for an input, and whether it ended well.
+fn printed(command: &mut Command, input: &[u8]) -> (String, bool) {
+    let mut child = command
         .stdin(Stdio::piped())
         .stdout(Stdio::piped())
         .stderr(Stdio::null())
         .spawn()
-        .unwrap_or_else(|error| panic!("{}: {error}; make it with `rt check listing`", program.display()));
+        .unwrap_or_else(|error| panic!("{command:?}: {error}; make it with `rt check listing`"));
     // A program that has read enough closes its end first.
     let _ = child.stdin.take().unwrap().write_all(input);
     let output = child.wait_with_output().unwrap();
     (String::from_utf8(output.stdout).unwrap(), output.status.success())
 }
 
+/// The folder of the Rattle kit, in which its guides stand under `docs`.
+fn kit() -> PathBuf {
+    let output =
+        Command::new("rt").arg("doc").output().expect("rt says where the kit's guides are");
+    let guide = PathBuf::from(String::from_utf8(output.stdout).unwrap().trim());
+    guide.ancestors().nth(2).expect("the kit's folder").to_path_buf()
+}
+
+/// The words that run a program of the kit. It is made for x86-64; other machines run it by the kit's emulator and loader.
+fn runner() -> &'static [OsString] {
+    static WORDS: OnceLock<Vec<OsString>> = OnceLock::new();
+    WORDS.get_or_init(|| {
+        let program = Path::new(ROOT).join("target/bin/listing").into_os_string();
+        if cfg!(target_arch = "x86_64") {
+            return vec![program];
+        }
+        let tools = kit().join("on").join(std::env::consts::ARCH).join("toolchain");
+        let library = tools.join("lib");
+        let loader = library.join("ld-linux-x86-64.so.2");
+        vec![
+            tools.join("bin/qemu-x86_64").into(),
+            loader.into(),
+            "--library-path".into(),
+            library.into(),
+            program,
+        ]
+    })
+}
+
 fn listing(input: &[u8]) -> String {
-    printed(&Path::new(ROOT).join("target/bin/listing"), &[], input).0
+    let words = runner();
+    printed(Command::new(&words[0]).args(&words[1..]), input).0
 }
 
 fn cim_list(input: &[u8]) -> (String, bool) {
-    printed(Path::new(env!("CARGO_BIN_EXE_cim")), &["list", "-"], input)
+    printed(Command::new(env!("CARGO_BIN_EXE_cim")).args(["list", "-"]), input)
 }
 
 fn sample() -> Vec<u8> {
@@ -43,7 +74,8 @@ fn two_devices() -> Vec<u8> {
 
 /// A file of a length that is its header and one section that the format does not know.
 fn long(length: usize) -> Vec<u8> {
-    let mut file = b"AEROSNAP\x01\x00\x01\x00\x00\x00\x00\x00\x09\x00\x00\x00\x00\x00\x00\x00".to_vec();
+    let mut file =
+        b"AEROSNAP\x01\x00\x01\x00\x00\x00\x00\x00\x09\x00\x00\x00\x00\x00\x00\x00".to_vec();
     file.extend_from_slice(&(length as u64 - 32).to_le_bytes());
     file.resize(length, 0);
     file
@@ -51,7 +83,8 @@ fn long(length: usize) -> Vec<u8> {
 
 #[test]
 fn two_devices_in_key_order() {
-    let expected = "id version flags offset length\n4 1 0 32 39\ndevice 3 1 0 69 2\ndevice 14 1 0 52 1\n";
+    let expected =
+        "id version flags offset length\n4 1 0 32 39\ndevice 3 1 0 69 2\ndevice 14 1 0 52 1\n";
     assert_eq!(listing(&two_devices()), expected);
 }
 
