@@ -4,4 +4,3 @@ pub mod Pieces
 pub mod Order
 pub mod Lists
 pub mod Added
-pub mod Once

@@ -35,7 +35,8 @@ use Rattle.aerosnap.specs.Rules.{IsBody}
 use Rattle.aerosnap.proofs.Canonical.{taken-fits}
 use Rattle.aerosnap.proofs.Written.{isEmptyBy, tidy-size, list-known}
 use Rattle.aerosnap.proofs.Copies.{isList, plain-written, list-written}
-use Rattle.canon.specs.Steps.{isListId, bytesFor, Whole}
+use Rattle.sections.specs.Index.{isListId}
+use Rattle.canon.specs.Steps.{bytesFor, Whole}
 
 -- ---- which sections are lists
 

@@ -2,4 +2,5 @@ pub mod Rules
 pub mod Turns
 pub mod Found
 pub mod Headers
+pub mod Reading
 pub mod Once
