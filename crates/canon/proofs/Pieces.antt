@@ -94,62 +94,61 @@ plain-wrote e old i h r p =
 pub as-list : (e : List ℕ) {id v : ℕ} {d : Description} → id ≡ idOf e → v ≡ versionOf e → bodyOf id v ≡ list d → bodyOf (idOf e) (versionOf e) ≡ list d
 as-list e {id} i j h = ap (λ (n : ℕ). bodyOf n (versionOf e)) (sym i) ∙ ap (bodyOf id) (sym j) ∙ h
 
-module _ (e : List ℕ) {d : Description} (q : bodyOf (idOf e) (versionOf e) ≡ list d) (K : Lawful d) (w : Whole e) (b : Bytes e) (old : List ℕ) (room : length (bytesFor e) ≤ length old) where
-  pub list-none : leAt 4 e 16 ≡ 0 → Wrote (bytesFor e) old old 0
-  list-none z = rw (list-written e q K (w .is) b, eq-eqb (leAt 4 e 16) 0 z) (none old)
+module _ (e : List ℕ) {d : Description} (q : bodyOf (idOf e) (versionOf e) ≡ list d) (K : Lawful d) (w : Whole e) (b : Bytes e) (old : List ℕ) (room : length (bytesFor e) ≤ length old) {l : List ℕ} (i : l ≡ startsOf e) where
+  count : length l ≡ leAt 4 e 16
+  count = ap length i ∙ starts-long e (w .is) q
 
-  is : IsList d (drop 16 e)
-  is = subst (λ (u : Body). IsBody u (drop 16 e)) q (w .is .rules (list-known (idOf e) (versionOf e) d q) .body)
+  pub list-none : length l ≡ 0 → Wrote (bytesFor e) old old 0
+  list-none z = rw (list-written e q K (w .is) b, eq-eqb (leAt 4 e 16) 0 (sym count ∙ z)) (none old)
 
   pub list-long : 20 ≤ length e
-  list-long = omega (arith, is .count, length-drop 16 e)
+  list-long = omega (arith, body-list e (w .is) q .count, length-drop 16 e)
 
-  module _ (z : leAt 4 e 16 ≢ 0) where
-    sorted : List (List ℕ)
-    sorted = sort (d .key) (entries d (drop 16 e))
+  listed : Listed d (drop 16 e) l
+  listed = record { short = omega (arith, w .small, length-drop 16 e); list = starts-list e (w .is) q ∙ ap taken (sym i) }
 
-    bytes-are : bytesFor e ≡ take 16 e ++ sortedBytes d (drop 16 e)
-    unfolding sorted
+  module _ (z : length l ≢ 0) where
+    bytes-are : bytesFor e ≡ take 20 e ++ run d (drop 16 e) l
     bytes-are =
-        let n : length sorted ≡ leAt 4 e 16 = perm-length (sort-perm (d .key) (entries d (drop 16 e))) ∙ length-split (widthOf d) (leAt 4 (drop 16 e) 0) (drop 4 (drop 16 e)) ∙ leAt-here 4 e 16 in
-        let c : bytesOf 4 (length sorted) ≡ take 4 (drop 16 e) = ap (bytesOf 4) n ∙ bytesOf-leAt 4 e 16 b (omega (arith, list-long)) in
         list-written e q K (w .is) b
-        ∙ ap (λ (t : Bool). cond t [] (take 20 e ++ join sorted)) (ne-eqb (leAt 4 e 16) 0 z)
-        ∙ ap (λ (l : List ℕ). l ++ join sorted) (take-add 16 4 e)
-        ∙ append-assoc (take 16 e) (take 4 (drop 16 e)) (join sorted)
-        ∙ ap (λ (l : List ℕ). take 16 e ++ (l ++ join sorted)) (sym c)
-
-    short : length (drop 16 e) ≤ 1073741824
-    short = omega (arith, w .small, length-drop 16 e)
-
-    sorted-long : length (sortedBytes d (drop 16 e)) ≡ length e - 16
-    sorted-long = sorted-size K (record { short = short; list = list-complete K (drop 16 e) is }) ∙ length-drop 16 e
+        ∙ ap (λ (t : Bool). cond t [] (take 20 e ++ join (sort (d .key) (entries d (drop 16 e))))) (ne-eqb (leAt 4 e 16) 0 (λ y. z (count ∙ y)))
+        ∙ ap (λ (m : List (List ℕ)). take 20 e ++ join m) (sym (list-order K (drop 16 e) (listed .list)))
 
     all-long : length (bytesFor e) ≡ length e
-    all-long = omega (arith, ap length bytes-are, length-append (take 16 e) (sortedBytes d (drop 16 e)), sorted-long, length-take-le 16 e (omega (arith, list-long)), list-long)
+    all-long = tidy-size e (w .is) ∙ ap (λ (t : Bool). cond t 0 (length e)) (is-empty ∙ ne-eqb (leAt 4 e 16) 0 (λ y. z (count ∙ y)))
+      where
+        is-empty : isEmpty e ≡ eqb (leAt 4 e 16) 0
+        is-empty = ap (λ (k : Body). isEmptyBy k e) q
 
-    -- the payload in the order of its keys fits where it is written
-    payload-taken : (have : ℕ) → length e ≤ have + 16 → sortedOf d have (take (length e - 16) (drop 16 e)) ≡ taken (sortedBytes d (drop 16 e))
-    payload-taken have h =
-        ap (sortedOf d have) (tail-whole 16 e)
-        ∙ pass-checked (partChecks (drop 16 e)) _ (le-leb (length (drop 16 e)) 1073741824 short, tt)
-        ∙ ap (λ (o : Outcome (List ℕ)). after o (λ _. fitting have (sortedBytes d (drop 16 e)))) (list-complete K (drop 16 e) is)
-        ∙ taken-fits have (sortedBytes d (drop 16 e)) (omega (arith, sorted-long, list-long))
+    run-long : 20 + length (run d (drop 16 e) l) ≡ length e
+    run-long = omega (arith, all-long, ap length bytes-are, length-append (take 20 e) (run d (drop 16 e) l), length-take-le 20 e list-long)
 
-    module _ {o : List ℕ} (p : o ≡ put 0 (take 16 e) old) where
-      pub list-room : 16 ≤ length o
-      list-room = omega (arith, ap length p, length-put 0 (take 16 e) old, all-long, list-long)
+    -- in the order of its keys, as it stands
+    pub list-straight : true ≡ inOrder l → {new : List ℕ} → new ≡ put 0 e old → Wrote (bytesFor e) old new (length e)
+    list-straight o p =
+        let c : sortedBytes d (drop 16 e) ≡ drop 16 e = straight-bytes K listed (sym o) (λ j. rw (getD-drop 16 e j 0) (b (16 + j))) in
+        let s : bytesFor e ≡ e = bytes-are ∙ head-and-run ∙ ap (λ (t : List ℕ). take 16 e ++ t) c ∙ take-append-drop 16 e in
+        let n : length (bytesFor e) ≡ length e = all-long in
+        rw s (wrote-first (omega arith) p)
+      where
+        -- the count and the run are the list in the order of its keys
+        head-and-run : take 20 e ++ run d (drop 16 e) l ≡ take 16 e ++ sortedBytes d (drop 16 e)
+        head-and-run = ?
 
-      pub list-wrote : {r : Answer} {last : List ℕ}
-          → Writes (sortedOf d (length (take (length o - 16) (drop 16 o))) (take (length e - 16) (drop 16 e))) (take (length o - 16) (drop 16 o)) r last
-          → Wrote (bytesFor e) old (take 16 o ++ (last ++ drop (length o - 16) (drop 16 o))) (length e)
-      list-wrote {r} {last} x =
-          let n : length (take 16 e) ≡ 16 = length-take-le 16 e (omega (arith, list-long)) in
-          let f = wrote-put (none old) (take 16 e) (omega (arith, all-long, list-long)) p in
-          let head : Wrote (take 16 e) old o 16 = record { count = sym n; bytes = f .bytes } in
-          let t : List ℕ = take (length o - 16) (drop 16 o) in
-          let h : sortedOf d (length t) (take (length e - 16) (drop 16 e)) ≡ taken (sortedBytes d (drop 16 e)) =
-          payload-taken (length t) (omega (arith, length-tail 16 o, ap length p, length-put 0 (take 16 e) old, all-long, list-long)) in
-          let body : Wrote (sortedBytes d (drop 16 e)) t last (length e - 16) = record { count = sym sorted-long; bytes = x .leaves ∙ ap (λ (u : Outcome (List ℕ)). memory u t) h } in
-          let both = wrote-tail head body in
-          rw bytes-are (record { count = omega (arith, both .count, list-long); bytes = both .bytes })
+    -- in another order, entry by entry behind its header and its count
+    module _ {o : List ℕ} (p : o ≡ put 0 (take 20 e) old) where
+      head : Wrote (take 20 e) old o 20
+      head =
+          let n : length (take 20 e) ≡ 20 = length-take-le 20 e list-long in
+          let f = wrote-first {bs = take 20 e} (omega (arith, all-long, list-long)) p in
+          record { count = sym n; bytes = f .bytes }
+
+      pub list-room : 20 ≤ length o
+      list-room = omega (arith, ap length p, length-put 0 (take 20 e) old, all-long, list-long)
+
+      pub list-wrote : {last : List ℕ} {n : ℕ} → Wrote (join (fits (length (take (length o - 20) (drop 20 o))) (map (entryBy d (take (length e - 16) (drop 16 e))) l))) (take (length o - 20) (drop 20 o)) last n
+          → Wrote (bytesFor e) old (take 20 o ++ (last ++ drop (length o - 20) (drop 20 o))) (20 + n)
+      list-wrote x =
+          let t : List ℕ = take (length o - 20) (drop 20 o) in
+          let r : length (run d (drop 16 e) l) ≤ length t = omega (arith, run-long, length-tail 20 o, ap length p, length-put 0 (take 20 e) old, all-long) in
+          rw bytes-are (wrote-tail head (run-wrote d (drop 16 e) l (by-all K listed) r (rw (tail-whole 16 e) at x)))
