@@ -16,8 +16,8 @@ pub use Rattle.entries.proofs.Once.{most-once, cpu-state-once, mmu-length-once,
 pub use Rattle.lists.proofs.Once.{few-once, check-once as lists-check-once, index-once, find-once}
 -- tables: write; put_section
 pub use Rattle.tables.proofs.Once.{write-once as tables-write-once, section-once}
--- writer: write; write_with
-pub use Rattle.writer.proofs.Once.{write-once as writer-write-once, write-with-once}
+-- writer: put_run; in_order; write; write_with
+pub use Rattle.writer.proofs.Once.{run-once, order-once, write-once as writer-write-once, write-with-once}
 -- dskc: check; controllers; canonical
 pub use Rattle.dskc.proofs.Once.{check-once as dskc-check-once, controllers-once, canonical-once as dskc-canonical-once}
 -- kinds: form_of

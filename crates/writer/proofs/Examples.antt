@@ -1,16 +1,17 @@
 -- Lists written by computation: the payload of P4 becomes that of P5, and an entry is added to it.
 -- Assumes nothing.
 use mathlib.Core.Path.{_≡_, refl}
-use mathlib.Core.List.{List, [], _∷_, _++_}
+use mathlib.Core.List.{List, [], _∷_, _++_, map}
 use Prim.Native.Nat.{ℕ}
 use Rattle.answer.specs.Numbers.{KEY, HAVE, ROOM}
 use Rattle.answer.specs.Outcome.{taken, refused}
 use Rattle.wire.specs.Numbers.{le, leAt, bytesOf}
-use Rattle.format.specs.Format.{read}
+use Rattle.format.specs.Format.{read, span}
 use Rattle.order.specs.Keyed.{insert, has}
-use Rattle.order.specs.Entries.{split}
+use Rattle.order.specs.Entries.{join, split}
 use Rattle.entries.specs.Kinds.{devices}
 use Rattle.lists.specs.Lists.{entryAt, walk, listAt}
+use Rattle.writer.specs.Runs.{entryBy, fits}
 use Rattle.writer.specs.Writer.{sortedOf, withOf, together}
 
 -- device (id, 1, 0) with one or two payload bytes
@@ -50,3 +51,8 @@ pub added : (withOf devices 100 payload nine ≡ taken (counted 3 (three ++ nine
     × (withOf devices 100 (counted 0 []) nine ≡ taken (counted 1 nine))
 unfolding listAt walk entryAt read leAt le bytesOf insert has split
 added = (refl, refl, refl, refl)
+
+-- (3, 1, 0) fits, (14, 1, 0) does not, and nothing stands past the end
+pub run : (join (fits 34 (map (entryBy devices payload) (21 ∷ 4 ∷ []))) ≡ three) × (join (fits 35 (map (entryBy devices payload) (21 ∷ 99 ∷ 4 ∷ []))) ≡ three ++ fourteen)
+unfolding span leAt le
+run = (refl, refl)

@@ -1,3 +1,4 @@
+pub mod Fits
 pub mod Runs
 pub mod Fronts
 pub mod Straight

@@ -7,58 +7,55 @@ use answer::ROOM;
 use answer::SIZE;
 use answer::TAKEN;
 use entries::Kind;
-use entries::entry_at;
 use entries::key_of;
+use entries::length_at;
 use lists::Found;
 use lists::few;
 use lists::find;
 use lists::index;
 ghost use mathlib.Core.Path.{_≡_};
-ghost use mathlib.Core.Bool.{true};
-ghost use mathlib.Core.List.{_++_};
-ghost use Prim.Native.Nat.{_+_, _≤_};
+ghost use mathlib.Core.List.{_++_, map};
+ghost use Prim.Native.Nat.{_-_, _≤_};
 ghost use lib.Dec.{leb};
 ghost use lib.ListN.{length, take};
 ghost use Rattle.answer.specs.Outcome.{checked, fitting};
 ghost use Rattle.answer.specs.Calls.{Writes};
-ghost use Rattle.wire.specs.Parts.{Wrote};
-ghost use Rattle.order.specs.Keyed.{Every, Up};
+ghost use Rattle.wire.specs.Parts.{put, Wrote};
+ghost use Rattle.order.specs.Entries.{join};
 ghost use Rattle.entries.specs.Code.{describe};
 ghost use Rattle.lists.specs.declared.Found.the-variants.{Free};
 ghost use Rattle.lists.specs.Lists.{keyAt};
 ghost use Rattle.lists.specs.Promises.{findIn};
 ghost use Rattle.lists.specs.Steps.{Room};
 ghost use Rattle.writer.specs.Writer.{sortedBytes, withBytes, sortedOf, newChecks, withOf, together};
-ghost use Rattle.writer.specs.Steps.{entryFrom, run, Stands, Listed};
+ghost use Rattle.writer.specs.Runs.{entryBy, fits, inOrder};
+ghost use Rattle.writer.specs.Steps.{Listed};
 
 // ---- entries of a list
 
-// The entry that starts at y, over the start of `out`.
+// The entry that starts at y, over the start of `out` where it fits, and how many bytes it has.
 fn put_entry(kind: Kind, s: &[u8], y: usize, out: &mut [u8]) -> usize
-    requires { ⌜ Stands (describe kind) (now s) y ⌝ }
-    requires { ⌜ length (entryFrom (describe kind) (now s) y) ≤ length (now out) ⌝ }
-    ensures { λ r. ⌜ Wrote (entryFrom (describe kind) (now (s .entry)) y) (now (out .entry)) (now (out .exit)) r ⌝ }
+    ensures { λ r. ⌜ (r ≡ length (entryBy (describe kind) (now (s .entry)) y)) × (now (out .exit) ≡ put 0 (entryBy (describe kind) (now (s .entry)) y) (now (out .entry))) ⌝ }
 {
-    match entry_at(kind, s, y) {
-        Piece::Stop(_, _) => 0,
-        Piece::Ends(e) => {
-            wire::copy(out, 0, &s[y..e]);
-            e - y
-        }
-    }
+    let n = length_at(kind, s, y);
+    let b = wire::tail(s, y);
+    wire::copy(out, 0, &b[..n]);
+    n
 }
 
-// The entries that start at `starts`, one after another: each goes into the tail of `out` from where the last ended.
-fn put_run(kind: Kind, s: &[u8], starts: &[u32], out: &mut [u8]) -> usize
-    requires { ⌜ Every (Stands (describe kind) (now s)) (now starts) ⌝ }
-    requires { ⌜ length (run (describe kind) (now s) (now starts)) ≤ length (now out) ⌝ }
-    ensures { λ r. ⌜ Wrote (run (describe kind) (now (s .entry)) (now (starts .entry))) (now (out .entry)) (now (out .exit)) r ⌝ }
+// The entries that start at `starts`, one after another, up to the first that does not fit: each goes into the tail of `out` from where the last ended.
+pub fn put_run(kind: Kind, s: &[u8], starts: &[u32], out: &mut [u8]) -> usize
+    ensures { λ r. ⌜ Wrote (join (fits (length (now (out .entry))) (map (entryBy (describe kind) (now (s .entry))) (now (starts .entry))))) (now (out .entry)) (now (out .exit)) r ⌝ }
 {
     let mut at = 0;
     let mut i = 0;
     while i < starts.len() {
         let y = starts[i] as usize;
-        at += put_entry(kind, s, y, &mut out[at..]);
+        let n = put_entry(kind, s, y, &mut out[at..]);
+        if out.len() - at < n {
+            return at;
+        }
+        at += n;
         i += 1;
     }
     at
@@ -128,9 +125,9 @@ fn key_of_parts(kind: Kind, head: &[u8], a: &[u8], mid: &[u8], b: &[u8]) -> u64
 
 // ---- whole lists
 
-// Whether starts follow one another as they stand in the list.
-fn in_file_order(starts: &[u32]) -> bool
-    ensures { λ r. ⌜ (r ≡ true → Up (λ y. y) 0 (now (starts .entry))) ⌝ }
+// Whether each start is at least the one before it.
+pub fn in_order(starts: &[u32]) -> bool
+    ensures { λ r. ⌜ r ≡ inOrder (now (starts .entry)) ⌝ }
 {
     let mut last = 0;
     let mut i = 0;
@@ -145,21 +142,7 @@ fn in_file_order(starts: &[u32]) -> bool
     true
 }
 
-// All entries of the list, one after another: at once where they stand in the order of their keys.
-fn put_all(kind: Kind, s: &[u8], starts: &[u32], out: &mut [u8]) -> usize
-    requires { ⌜ Listed (describe kind) (now s) (now starts) ⌝ }
-    requires { ⌜ length (run (describe kind) (now s) (now starts)) ≤ length (now out) ⌝ }
-    ensures { λ r. ⌜ Wrote (run (describe kind) (now (s .entry)) (now (starts .entry))) (now (out .entry)) (now (out .exit)) r ⌝ }
-{
-    if in_file_order(starts) {
-        let entries = wire::tail(s, 4);
-        wire::copy(out, 0, entries);
-        return entries.len();
-    }
-    put_run(kind, s, starts, out)
-}
-
-// The list whose entries start at `starts`, where there is room.
+// The list whose entries start at `starts`, where there is room: at once where they stand in the order of their keys.
 fn put_list(kind: Kind, s: &[u8], starts: &[u32], out: &mut [u8]) -> Answer
     requires { ⌜ Listed (describe kind) (now s) (now starts) ⌝ }
     ensures { λ r. ⌜ Writes (fitting (length (now (out .entry))) (sortedBytes (describe kind) (now (s .entry)))) (now (out .entry)) r (now (out .exit)) ⌝ }
@@ -170,15 +153,22 @@ fn put_list(kind: Kind, s: &[u8], starts: &[u32], out: &mut [u8]) -> Answer
             place: s.len() as u64,
         };
     }
+    if in_order(starts) {
+        wire::copy(out, 0, s);
+        return Answer {
+            number: TAKEN,
+            place: s.len() as u64,
+        };
+    }
     wire::put_u32(out, 0, starts.len() as u32);
-    let n = put_all(kind, s, starts, &mut out[4..]);
+    let n = put_run(kind, s, starts, &mut out[4..]);
     Answer {
         number: TAKEN,
         place: (4 + n) as u64,
     }
 }
 
-// A new entry, and behind it the entries that start at `starts`.
+// A new entry, and behind it the entries that start at `starts`, as long as they fit.
 fn put_rest(
     kind: Kind,
     s: &[u8],
@@ -189,9 +179,8 @@ fn put_rest(
     b: &[u8],
     out: &mut [u8],
 ) -> usize
-    requires { ⌜ Every (Stands (describe kind) (now s)) (now starts) ⌝ }
-    requires { ⌜ length (together (now head) (now a) (now mid) (now b)) + length (run (describe kind) (now s) (now starts)) ≤ length (now out) ⌝ }
-    ensures { λ r. ⌜ Wrote (together (now (head .entry)) (now (a .entry)) (now (mid .entry)) (now (b .entry)) ++ run (describe kind) (now (s .entry)) (now (starts .entry))) (now (out .entry)) (now (out .exit)) r ⌝ }
+    requires { ⌜ length (together (now head) (now a) (now mid) (now b)) ≤ length (now out) ⌝ }
+    ensures { λ r. ⌜ Wrote (together (now (head .entry)) (now (a .entry)) (now (mid .entry)) (now (b .entry)) ++ join (fits (length (now (out .entry)) - length (together (now (head .entry)) (now (a .entry)) (now (mid .entry)) (now (b .entry)))) (map (entryBy (describe kind) (now (s .entry))) (now (starts .entry))))) (now (out .entry)) (now (out .exit)) r ⌝ }
 {
     let i = put_parts(head, a, mid, b, out);
     i + put_run(kind, s, starts, &mut out[i..])

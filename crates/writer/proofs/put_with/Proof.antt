@@ -1,15 +1,13 @@
 use Rattle.writer.specs.Writer.{withBytes, together}
-use Rattle.writer.specs.Steps.{Stands}
 use Rattle.writer.proofs.Fronts.{length-together}
-use Rattle.writer.proofs.Whole.{room-short, listed-few, with-size, place-within, before-stands, with-room, with-middle, rest-room, with-end, with-done}
+use Rattle.writer.proofs.Whole.{room-short, listed-few, with-size, place-within, with-room, with-middle, rest-room, with-end, with-done}
 use Rattle.wire.proofs.Parts.{tail-whole}
-use Rattle.order.specs.Keyed.{Every}
 use Rattle.entries.specs.Code.{describe}
 use Rattle.entries.proofs.Lawful.{lawful}
 use Prim.Native.Nat.{ℕ, _+_, _≤_}
 use mathlib.Core.List.{List}
 use mathlib.Core.Path.{_≡_, sym, _∙_, ap}
-use lib.ListN.{length, take, drop}
+use lib.ListN.{length}
 use lib.Seq.{length-take-le}
 use native.Mathlib.Omega.{arith}
 use borrow.Author.Needs.{needs}
@@ -24,9 +22,6 @@ entry-length t = let a = t .args in length-together (a .head .now) (a .a .now) (
 
 within : (t : tie.Start) → t .args .p ≤ length (t .args .starts .now)
 within t = place-within (lawful (t .args .kind)) (t .pre .0) (entry t) (t .pre .1 .1)
-
-stand : (t : tie.Start) → Every (Stands (describe (t .args .kind)) (t .args .s .now)) (take (t .args .p) (t .args .starts .now)) × Every (Stands (describe (t .args .kind)) (t .args .s .now)) (drop (t .args .p) (t .args .starts .now))
-stand t = before-stands (lawful (t .args .kind)) (t .pre .0) (entry t) (t .pre .1 .1)
 
 abbrev start : tie.After-put-u32 → tie.Start
 start c = c .before .before .before .before .before .before .before .before .before .before
@@ -73,7 +68,7 @@ part-put-run-end : tie.Need-part-put-run-end
 part-put-run-end c = search needs
 
 put-run-requires : tie.Need-put-run-requires
-put-run-requires c κs = let p = c .before .before .before .before in (stand (start p) .0, with-room (lawful (start p .args .kind)) (start p .pre .0) (entry (start p)) (start p .pre .1 .1) (start p .args .out .now) (room p) (p .put-u32 .ensures) .1)
+put-run-requires c κs = search needs
 
 add-i : tie.Need-add-i
 add-i c = let p = c .before .before .before .before .before .before .before in omega (arith, start p .pre .0 .short, start p .pre .1 .0, with-middle (lawful (start p .args .kind)) (start p .pre .0) (entry (start p)) (start p .pre .1 .1) (start p .args .out .now) (room p) (p .put-u32 .ensures) (c .before .before .put-run .ensures))
@@ -102,8 +97,7 @@ part-put-rest-end-2 c = search needs
 put-rest-requires : tie.Need-put-rest-requires
 put-rest-requires c κs =
     let p = c .before .before .before .before .before .before .before .before .before in
-    let a = start p .args in
-    rw (tail-whole (a .p) (a .starts .now)) (stand (start p) .1, rest-room (lawful (start p .args .kind)) (start p .pre .0) (entry (start p)) (start p .pre .1 .1) (start p .args .out .now) (room p) (p .put-u32 .ensures) (c .before .before .before .before .put-run .ensures) .1)
+    omega (arith, rest-room (lawful (start p .args .kind)) (start p .pre .0) (entry (start p)) (start p .pre .1 .1) (start p .args .out .now) (room p) (p .put-u32 .ensures) (c .before .before .before .before .put-run .ensures) .1)
 
 add-j : tie.Need-add-j
 add-j c =
