@@ -1,41 +1,39 @@
 -- One section as it is written: which are lists, and the bytes of each.
 -- Assumes nothing.
-use mathlib.Core.Path.{_≡_, refl, sym, _∙_, ap, subst}
-use mathlib.Core.List.{List, [], _++_, append-assoc}
+use mathlib.Core.Path.{_≡_, refl, sym, _∙_, ap}
+use mathlib.Core.List.{List, [], _++_, map, append-assoc}
 use mathlib.Core.Bool.{Bool, true, false, cond, _||_}
 use mathlib.Core.Logic.{_≢_}
 use Prim.Native.Nat.{ℕ, _+_, _-_, _≤_}
 use native.Mathlib.Omega.{arith}
-use lib.ListN.{length, take, drop, length-append, length-drop}
-use lib.Seq.{take-add, length-take-le}
+use lib.ListN.{length, take, drop, length-append, length-drop, take-append-drop}
+use lib.Seq.{take-add, length-take-le, getD-drop}
 use lib.Dec.{eqb}
-use borrow.Author.Tests.{eq-eqb, ne-eqb, eqb-true, le-leb}
-use Rattle.answer.specs.declared.Answer.{Answer}
-use Rattle.answer.specs.Outcome.{Outcome, taken, after, fitting}
-use Rattle.answer.specs.Calls.{Writes, memory}
-use Rattle.answer.proofs.Checks.{pass-checked}
+use borrow.Author.Tests.{eq-eqb, ne-eqb, eqb-true}
+use Rattle.answer.specs.Outcome.{taken}
 use Rattle.wire.specs.Numbers.{Bytes, leAt, bytesOf}
 use Rattle.wire.specs.Parts.{put, Wrote}
-use Rattle.wire.proofs.Numbers.{bytesOf-leAt, leAt-here}
+use Rattle.wire.proofs.Numbers.{bytesOf-leAt}
 use Rattle.wire.proofs.Parts.{none, wrote-put, wrote-tail, tail-whole, length-tail, length-put}
 use Rattle.order.specs.Keyed.{sort}
 use Rattle.order.specs.Entries.{join}
-use Rattle.order.proofs.Perms.{perm-length}
-use Rattle.order.proofs.Sorts.{sort-perm}
-use Rattle.order.proofs.Entries.{length-split}
 use Rattle.entries.specs.Kinds.{Description}
 use Rattle.entries.proofs.Lawful.{Lawful}
-use Rattle.lists.specs.Lists.{IsList, widthOf, entries, partChecks}
-use Rattle.lists.proofs.Taken.{list-complete}
-use Rattle.writer.specs.Writer.{sortedBytes, sortedOf}
-use Rattle.writer.proofs.Whole.{sorted-size}
+use Rattle.lists.specs.Lists.{entries}
+use Rattle.lists.proofs.Ordered.{list-order}
+use Rattle.writer.specs.Writer.{sortedBytes}
+use Rattle.writer.specs.Runs.{entryBy, fits, inOrder}
+use Rattle.writer.specs.Steps.{run, Listed}
+use Rattle.writer.proofs.Fits.{wrote-first}
+use Rattle.writer.proofs.Runs.{by-all, run-wrote}
+use Rattle.writer.proofs.Straight.{straight-bytes}
+use Rattle.writer.proofs.Whole.{sorted-is}
 use Rattle.aerosnap.specs.Payloads.{Body, list, bodyBy, bodyOf}
 use Rattle.aerosnap.specs.File.{idOf, versionOf}
-use Rattle.aerosnap.specs.Rules.{IsBody}
-use Rattle.aerosnap.proofs.Canonical.{taken-fits}
-use Rattle.aerosnap.proofs.Written.{isEmptyBy, tidy-size, list-known}
+use Rattle.aerosnap.proofs.Written.{isEmptyBy, isEmpty, tidy-size}
 use Rattle.aerosnap.proofs.Copies.{isList, plain-written, list-written}
-use Rattle.sections.specs.Index.{isListId}
+use Rattle.sections.specs.Index.{isListId, startsOf}
+use Rattle.sections.proofs.Reading.{body-list, starts-list, starts-long}
 use Rattle.canon.specs.Steps.{bytesFor, Whole}
 
 -- ---- which sections are lists
@@ -133,7 +131,12 @@ module _ (e : List ℕ) {d : Description} (q : bodyOf (idOf e) (versionOf e) ≡
       where
         -- the count and the run are the list in the order of its keys
         head-and-run : take 20 e ++ run d (drop 16 e) l ≡ take 16 e ++ sortedBytes d (drop 16 e)
-        head-and-run = ?
+        head-and-run =
+            let c : bytesOf 4 (length l) ≡ take 4 (drop 16 e) = ap (bytesOf 4) count ∙ bytesOf-leAt 4 e 16 b (omega (arith, list-long)) in
+            ap (λ (t : List ℕ). t ++ run d (drop 16 e) l) (take-add 16 4 e)
+            ∙ append-assoc (take 16 e) (take 4 (drop 16 e)) (run d (drop 16 e) l)
+            ∙ ap (λ (t : List ℕ). take 16 e ++ (t ++ run d (drop 16 e) l)) (sym c)
+            ∙ ap (λ (t : List ℕ). take 16 e ++ t) (sym (sorted-is K listed))
 
     -- in another order, entry by entry behind its header and its count
     module _ {o : List ℕ} (p : o ≡ put 0 (take 20 e) old) where
@@ -152,3 +155,7 @@ module _ (e : List ℕ) {d : Description} (q : bodyOf (idOf e) (versionOf e) ≡
           let t : List ℕ = take (length o - 20) (drop 20 o) in
           let r : length (run d (drop 16 e) l) ≤ length t = omega (arith, run-long, length-tail 20 o, ap length p, length-put 0 (take 20 e) old, all-long) in
           rw bytes-are (wrote-tail head (run-wrote d (drop 16 e) l (by-all K listed) r (rw (tail-whole 16 e) at x)))
+
+      pub list-end : {last : List ℕ} {n : ℕ} → Wrote (join (fits (length (take (length o - 20) (drop 20 o))) (map (entryBy d (take (length e - 16) (drop 16 e))) l))) (take (length o - 20) (drop 20 o)) last n
+          → 20 + n ≡ length e
+      list-end x = omega (arith, list-wrote x .count, all-long)

@@ -49,7 +49,7 @@ module _ (e : List ℕ) (w : IsSection e) where
         let g : startsOf e ≡ starts (list d) (drop 16 e) = ap (λ (b : Body). starts b (payloadOf e)) q ∙ ap (starts (list d)) payload-is in
         h ∙ ap taken (sym (g ∙ ap (λ (o : Outcome (List ℕ)). elim o as (λ _. List ℕ) [ taken l ↦ l | refused n p ↦ [] ]) h))
 
-    starts-long : length (startsOf e) ≡ leAt 4 e 16
+    pub starts-long : length (startsOf e) ≡ leAt 4 e 16
     starts-long =
         let h = list-complete body-lawful (drop 16 e) body-list in
         let g : taken (startsOf e) ≡ taken (sort (keyAt d (drop 16 e)) (startsFrom 4 (body-list .items))) = sym starts-list ∙ h in
