@@ -14,8 +14,8 @@ pub use Rattle.format.proofs.Once.{read-once as format-once, flag-once}
 pub use Rattle.entries.proofs.Once.{most-once, cpu-state-once, mmu-length-once, lead-once, lead-at-once, key-once, entry-once, length-once}
 -- lists: few; check; index; find
 pub use Rattle.lists.proofs.Once.{few-once, check-once as lists-check-once, index-once, find-once}
--- tables: write; put_section
-pub use Rattle.tables.proofs.Once.{write-once as tables-write-once, section-once}
+-- tables: put_rows; write; put_section
+pub use Rattle.tables.proofs.Once.{rows-once, write-once as tables-write-once, section-once}
 -- writer: put_run; in_order; write; write_with
 pub use Rattle.writer.proofs.Once.{run-once, order-once, write-once as writer-write-once, write-with-once}
 -- dskc: check; controllers; canonical
