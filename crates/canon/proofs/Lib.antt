@@ -2,5 +2,7 @@ pub mod Filling
 pub mod Walks
 pub mod Pieces
 pub mod Order
+pub mod Fronts
+pub mod More
 pub mod Lists
 pub mod Added

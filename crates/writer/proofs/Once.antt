@@ -14,7 +14,7 @@ use Rattle.order.specs.Entries.{join}
 use Rattle.entries.specs.declared.Kind.{Kind}
 use Rattle.entries.specs.Code.{describe}
 use Rattle.writer.specs.Runs.{entryBy, fits, inOrder}
-use Rattle.writer.specs.Writer.{sortedOf, withOf, together}
+use Rattle.writer.specs.Writer.{sortedOf}
 
 pub run-once : (k : Kind) (s starts old : List ℕ) {r q : ℕ} {new now : List ℕ}
     → Wrote (join (fits (length old) (map (entryBy (describe k) s) starts))) old new r → Wrote (join (fits (length old) (map (entryBy (describe k) s) starts))) old now q → (r ≡ q) × (new ≡ now)
@@ -26,7 +26,3 @@ order-once starts e f = equal-once e f
 pub write-once : (k : Kind) (s old : List ℕ) {r q : Answer} {new now : List ℕ}
     → Writes (sortedOf (describe k) (length old) s) old r new → Writes (sortedOf (describe k) (length old) s) old q now → (r ≡ q) × (new ≡ now)
 write-once k s old a b = writes-once a b
-
-pub write-with-once : (k : Kind) (s head a mid b old : List ℕ) {r q : Answer} {new now : List ℕ}
-    → Writes (withOf (describe k) (length old) s (together head a mid b)) old r new → Writes (withOf (describe k) (length old) s (together head a mid b)) old q now → (r ≡ q) × (new ≡ now)
-write-with-once k s head a mid b old v w = writes-once v w
