@@ -12,12 +12,12 @@ pub use Rattle.utf8.proofs.Once.{text-once, is-text-once}
 pub use Rattle.format.proofs.Once.{read-once as format-once, flag-once}
 -- entries: most_of; cpu_state; mmu_length; lead_of; lead_at; key_of, key_at; entry_at; length_at
 pub use Rattle.entries.proofs.Once.{most-once, cpu-state-once, mmu-length-once, lead-once, lead-at-once, key-once, entry-once, length-once}
--- lists: few; check; index; find
-pub use Rattle.lists.proofs.Once.{few-once, check-once as lists-check-once, index-once, find-once}
+-- lists: few; check; index; forget; find
+pub use Rattle.lists.proofs.Once.{few-once, check-once as lists-check-once, index-once, forget-once, find-once}
 -- tables: put_rows; write; put_section
 pub use Rattle.tables.proofs.Once.{rows-once, write-once as tables-write-once, section-once}
--- writer: put_run; in_order; write; write_with
-pub use Rattle.writer.proofs.Once.{run-once, order-once, write-once as writer-write-once, write-with-once}
+-- writer: put_run; in_order; write
+pub use Rattle.writer.proofs.Once.{run-once, order-once, write-once as writer-write-once}
 -- dskc: check; controllers; canonical
 pub use Rattle.dskc.proofs.Once.{check-once as dskc-check-once, controllers-once, canonical-once as dskc-canonical-once}
 -- kinds: form_of

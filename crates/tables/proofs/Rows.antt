@@ -23,12 +23,12 @@ use Rattle.entries.specs.Kinds.{Description}
 use Rattle.entries.specs.declared.Kind.{Kind}
 use Rattle.entries.specs.Code.{describe}
 use Rattle.entries.proofs.Lawful.{lawful}
-use Rattle.lists.specs.Lists.{partChecks, listAt, indexOf}
+use Rattle.lists.specs.Lists.{partChecks, listAt, listOf, indexOf}
 use Rattle.lists.specs.Promises.{Indexed}
 use Rattle.lists.specs.Steps.{Room}
 use Rattle.lists.proofs.Taken.{list-sound}
 use Rattle.lists.proofs.Ordered.{index-length}
-use Rattle.lists.proofs.Callers.{indexed-stop, indexed-done, listOf, list-then, index-roomy}
+use Rattle.lists.proofs.Callers.{indexed-stop, indexed-done, list-then, index-roomy}
 use Rattle.answer.specs.declared.Piece.the-variants.{Stop, Ends}
 use Rattle.tables.specs.declared.Table.{Table}
 use Rattle.tables.specs.declared.Table.the-variants.{Devices, Disks, Controllers}
@@ -80,7 +80,7 @@ module _ (t : Table) (k : Kind) (q : describe k ≡ described t) (have base : �
       ∙ ap (λ (o : Outcome (List ℕ)). after o rowsOf) (sym (index-roomy (lawful k) m s R))
 
   pub table-stop : {old new : List ℕ} {n p : ℕ} → Indexed (indexOf (describe k) m s) old (Stop n p) new → tableOf t have base s ≡ refused n p
-  table-stop h = by-index ∙ ap (λ (o : Outcome (List ℕ)). after o rowsOf) (indexed-stop (indexOf (describe k) m s) h .0)
+  table-stop h = by-index ∙ ap (λ (o : Outcome (List ℕ)). after o rowsOf) (indexed-stop (indexOf (describe k) m s) h)
 
   module _ {old new : List ℕ} {n : ℕ} (h : Indexed (indexOf (describe k) m s) old (Ends n) new) where
     done : indexOf (describe k) m s ≡ taken (take n new)

@@ -15,10 +15,10 @@ use Rattle.answer.proofs.Outcomes.{taken-is}
 use Rattle.wire.proofs.Calls.{writes-refused}
 use Rattle.entries.specs.Kinds.{Description}
 use Rattle.entries.proofs.Lawful.{Lawful}
-use Rattle.lists.specs.Lists.{listAt, partChecks, indexOf}
+use Rattle.lists.specs.Lists.{listAt, partChecks, listOf, indexOf}
 use Rattle.lists.specs.Promises.{Indexed}
 use Rattle.lists.specs.Steps.{Room}
-use Rattle.lists.proofs.Callers.{indexed-stop, indexed-done, listOf, list-then, index-roomy}
+use Rattle.lists.proofs.Callers.{indexed-stop, indexed-done, list-then, index-roomy}
 use Rattle.writer.specs.Steps.{Listed}
 
 -- ---- the list's faults: the index is asked for with room for the starts
@@ -27,7 +27,7 @@ module _ {d : Description} (K : Lawful d) (s : List ℕ) {held new : List ℕ} (
   pub index-refused : {a b : ℕ} → Indexed (indexOf d (length held) s) held (Stop a b) new → (f : List ℕ → Outcome (List ℕ)) (old : List ℕ)
       → Writes (checked (partChecks s) (after (listAt d s) f)) old (record { number = a; place = b }) old
   index-refused i f old =
-      let e = sym (index-roomy K (length held) s R) ∙ indexed-stop (indexOf d (length held) s) i .0 in
+      let e = sym (index-roomy K (length held) s R) ∙ indexed-stop (indexOf d (length held) s) i in
       writes-refused (list-then d s f ∙ ap (λ (o : Outcome (List ℕ)). after o f) e)
 
   module _ {n : ℕ} (i : Indexed (indexOf d (length held) s) held (Ends n) new) where
