@@ -1,3 +1,5 @@
+pub mod Kept
+pub mod Counts
 pub mod Rules
 pub mod Turns
 pub mod Found
