@@ -28,34 +28,16 @@ use Rattle.writer.proofs.Fits.{wrote-first}
 use Rattle.writer.proofs.Runs.{by-all, run-wrote}
 use Rattle.writer.proofs.Straight.{straight-bytes}
 use Rattle.writer.proofs.Whole.{sorted-is}
-use Rattle.aerosnap.specs.Payloads.{Body, list, bodyBy, bodyOf}
+use Rattle.aerosnap.specs.Payloads.{Body, list, bodyOf}
 use Rattle.aerosnap.specs.File.{idOf, versionOf}
 use Rattle.aerosnap.proofs.Written.{isEmptyBy, isEmpty, tidy-size}
-use Rattle.aerosnap.proofs.Copies.{isList, plain-written, list-written}
+use Rattle.aerosnap.proofs.Copies.{plain-written, list-written}
 use Rattle.sections.specs.Index.{isListId, startsOf}
+use Rattle.sections.proofs.Kept.{listed-id}
 use Rattle.sections.proofs.Reading.{body-list, starts-list, starts-long}
 use Rattle.canon.specs.Steps.{bytesFor, Whole}
 
 -- ---- which sections are lists
-
-pub plain-id : (id v : ℕ) → isListId id ≡ false → isList (bodyOf id v) ≡ false
-plain-id id v h = go (eqb id 1) (eqb id 2) (eqb id 3) (eqb id 4) (eqb id 5) (eqb id 7) (eqb id 8) h
-  where
-    none-of : (a b c : Bool) → isList (bodyBy a b c false false false false v) ≡ false
-    none-of true b c = refl
-    none-of false true c = refl
-    none-of false false true = refl
-    none-of false false false = refl
-
-    go : (a b c d e f g : Bool) → (d || e || f || g) ≡ false → isList (bodyBy a b c d e f g v) ≡ false
-    go a b c true e f g h = let z : _≡_ {A = ℕ} 0 1 = cc in absurd (omega arith)
-    go a b c false true f g h = let z : _≡_ {A = ℕ} 0 1 = cc in absurd (omega arith)
-    go a b c false false true g h = let z : _≡_ {A = ℕ} 0 1 = cc in absurd (omega arith)
-    go a b c false false false true h = let z : _≡_ {A = ℕ} 0 1 = cc in absurd (omega arith)
-    go a b c false false false false h = none-of a b c
-
-pub not-list : (id : ℕ) → id ≢ 4 → id ≢ 5 → id ≢ 7 → id ≢ 8 → isListId id ≡ false
-not-list id a b c d = rw (ne-eqb id 4 a, ne-eqb id 5 b, ne-eqb id 7 c, ne-eqb id 8 d)
 
 empty-list : (id v : ℕ) (e : List ℕ) → isListId id ≡ true → isEmptyBy (bodyOf id v) e ≡ eqb (leAt 4 e 16) 0
 empty-list id v e h = go (eqb id 4) refl (eqb id 5) refl (eqb id 7) refl (eqb id 8) refl h
@@ -73,7 +55,7 @@ empty-list id v e h = go (eqb id 4) refl (eqb id 5) refl (eqb id 7) refl (eqb id
 -- ---- how many bytes
 
 pub size-plain : (e : List ℕ) {id : ℕ} → id ≡ idOf e → isListId id ≡ false → length e ≡ length (bytesFor e)
-size-plain e {id} i h = sym (ap length (plain-written e (plain-id (idOf e) (versionOf e) (rw i at h))))
+size-plain e {id} i h = sym (ap length (plain-written e (listed-id (idOf e) (versionOf e) ∙ rw i at h)))
 
 pub size-list : (e : List ℕ) → Whole e → {id : ℕ} → id ≡ idOf e → isListId id ≡ true → length (bytesFor e) ≡ cond (eqb (leAt 4 e 16) 0) 0 (length e)
 size-list e w i h = tidy-size e (w .is) ∙ ap (λ (b : Bool). cond b 0 (length e)) (empty-list (idOf e) (versionOf e) e (rw i at h))
@@ -82,7 +64,7 @@ size-list e w i h = tidy-size e (w .is) ∙ ap (λ (b : Bool). cond b 0 (length 
 
 pub plain-wrote : (e old : List ℕ) {id : ℕ} {new : List ℕ} → id ≡ idOf e → isListId id ≡ false → length (bytesFor e) ≤ length old → new ≡ put 0 e old → Wrote (bytesFor e) old new (length e)
 plain-wrote e old i h r p =
-    let q : bytesFor e ≡ e = plain-written e (plain-id (idOf e) (versionOf e) (rw i at h)) in
+    let q : bytesFor e ≡ e = plain-written e (listed-id (idOf e) (versionOf e) ∙ rw i at h) in
     let n : length (bytesFor e) ≡ length e = ap length q in
     let w = wrote-put (none old) e (omega arith) p in
     rw q (record { count = refl; bytes = w .bytes })

@@ -122,11 +122,11 @@ body-long (list d) p h q = h .count
 body-long opaque p h q = let z : _≡_ {A = ℕ} 0 1 = cc in absurd (omega arith)
 
 module _ (e : List ℕ) (h : IsSection e) where
-  its-body : (b : Bool) → known (idOf e) ≡ b → IsBody (bodyOf (idOf e) (versionOf e)) (drop 16 e)
+  pub its-body : (b : Bool) → known (idOf e) ≡ b → IsBody (bodyOf (idOf e) (versionOf e)) (drop 16 e)
   its-body true k = h .rules k .body
   its-body false k = subst (λ (y : Body). IsBody y (drop 16 e)) (sym (body-other (idOf e) (versionOf e) k)) tt
 
-  its-payload : payloadOf e ≡ drop 16 e
+  pub its-payload : payloadOf e ≡ drop 16 e
   its-payload = take-all (lengthOf e) (drop 16 e) (omega (arith, length-drop 16 e, h .whole))
 
   pub starts-count : length (startsOf e) ≡ entriesIn e

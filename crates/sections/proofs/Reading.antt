@@ -2,88 +2,42 @@
 -- Assumes nothing.
 use mathlib.Core.Path.{_≡_, refl, sym, _∙_, ap, subst}
 use mathlib.Core.List.{List, [], _∷_, _++_, append-assoc}
-use mathlib.Core.Bool.{Bool, true, false, cond, _||_}
+use mathlib.Core.Bool.{Bool, true, false, cond}
 use Prim.Native.Nat.{ℕ, _+_, _-_, _≤_}
 use native.Mathlib.Omega.{arith}
 use lib.ListN.{length, take, drop, length-append, length-drop}
-use lib.Seq.{take-all, drop-drop, take-append-seam, drop-append-seam}
-use lib.Dec.{eqb}
-use borrow.Author.Tests.{eqb-true}
+use lib.Seq.{drop-drop, take-append-seam, drop-append-seam}
 use Rattle.answer.specs.Outcome.{Outcome, taken, refused}
 use Rattle.wire.specs.Numbers.{leAt}
-use Rattle.wire.proofs.Numbers.{leAt-here}
-use Rattle.order.specs.Keyed.{flat, sort, keep}
-use Rattle.order.specs.Entries.{startsFrom}
-use Rattle.order.proofs.Perms.{perm-length}
-use Rattle.order.proofs.Starts.{length-starts}
-use Rattle.order.proofs.Sorts.{sort-perm}
+use Rattle.order.specs.Keyed.{flat, keep}
 use Rattle.entries.specs.Kinds.{Description}
-use Rattle.entries.proofs.Lawful.{Lawful}
-use Rattle.lists.specs.Lists.{keyAt, listAt, IsList}
+use Rattle.lists.specs.Lists.{listAt, IsList}
 use Rattle.lists.proofs.Taken.{list-complete}
-use Rattle.aerosnap.specs.Payloads.{Body, list, bodyBy, bodyOf}
-use Rattle.aerosnap.specs.File.{idOf, versionOf, lengthOf, payloadOf}
+use Rattle.aerosnap.specs.Payloads.{Body, list, bodyOf}
+use Rattle.aerosnap.specs.File.{idOf, versionOf, payloadOf}
 use Rattle.aerosnap.specs.Content.{isId}
 use Rattle.aerosnap.specs.Rules.{IsBody, IsSection}
 use Rattle.aerosnap.proofs.Bodies.{Lawfully, lawful-body}
-use Rattle.aerosnap.proofs.Written.{list-known}
 use Rattle.payloads.specs.Starts.{starts}
-use Rattle.sections.specs.Index.{isListId, startsOf, Reading, firstOf}
+use Rattle.aerosnap.specs.Known.{known}
+use Rattle.aerosnap.proofs.Copies.{isList}
+use Rattle.sections.specs.Index.{startsOf, Reading, firstOf}
+use Rattle.sections.proofs.Kept.{its-payload, its-body, listed-id, starts-count}
 
 -- ---- the starts of one section
 
-module _ (e : List ℕ) (w : IsSection e) where
-  payload-is : payloadOf e ≡ drop 16 e
-  payload-is = take-all (lengthOf e) (drop 16 e) (omega (arith, w .whole, length-drop 16 e))
+module _ (e : List ℕ) (w : IsSection e) {d : Description} (q : bodyOf (idOf e) (versionOf e) ≡ list d) where
+  pub body-list : IsList d (drop 16 e)
+  body-list = subst (λ (u : Body). IsBody u (drop 16 e)) q (its-body e w (known (idOf e)) refl)
 
-  module _ {d : Description} (q : bodyOf (idOf e) (versionOf e) ≡ list d) where
-    pub body-list : IsList d (drop 16 e)
-    body-list = subst (λ (u : Body). IsBody u (drop 16 e)) q (w .rules (list-known (idOf e) (versionOf e) d q) .body)
+  pub starts-list : listAt d (drop 16 e) ≡ taken (startsOf e)
+  starts-list =
+      let h = list-complete (subst Lawfully q (lawful-body (idOf e) (versionOf e))) (drop 16 e) body-list in
+      let g : startsOf e ≡ starts (list d) (drop 16 e) = ap (λ (b : Body). starts b (payloadOf e)) q ∙ ap (starts (list d)) (its-payload e w) in
+      h ∙ ap taken (sym (g ∙ ap (λ (o : Outcome (List ℕ)). elim o as (λ _. List ℕ) [ taken l ↦ l | refused n p ↦ [] ]) h))
 
-    body-lawful : Lawful d
-    body-lawful = subst Lawfully q (lawful-body (idOf e) (versionOf e))
-
-    pub starts-list : listAt d (drop 16 e) ≡ taken (startsOf e)
-    starts-list =
-        let h = list-complete body-lawful (drop 16 e) body-list in
-        let g : startsOf e ≡ starts (list d) (drop 16 e) = ap (λ (b : Body). starts b (payloadOf e)) q ∙ ap (starts (list d)) payload-is in
-        h ∙ ap taken (sym (g ∙ ap (λ (o : Outcome (List ℕ)). elim o as (λ _. List ℕ) [ taken l ↦ l | refused n p ↦ [] ]) h))
-
-    pub starts-long : length (startsOf e) ≡ leAt 4 e 16
-    starts-long =
-        let h = list-complete body-lawful (drop 16 e) body-list in
-        let g : taken (startsOf e) ≡ taken (sort (keyAt d (drop 16 e)) (startsFrom 4 (body-list .items))) = sym starts-list ∙ h in
-        let l : startsOf e ≡ sort (keyAt d (drop 16 e)) (startsFrom 4 (body-list .items)) = cc in
-        ap length l ∙ perm-length (sort-perm (keyAt d (drop 16 e)) (startsFrom 4 (body-list .items))) ∙ length-starts 4 (body-list .items) ∙ sym (body-list .number) ∙ leAt-here 4 e 16
-
-starts-none : (a b c : Bool) (v : ℕ) (p : List ℕ) → starts (bodyBy a b c false false false false v) p ≡ []
-starts-none true b c v p = refl
-starts-none false true c v p = refl
-starts-none false false true v p = refl
-starts-none false false false v p = refl
-
-pub starts-plain : (e : List ℕ) → isListId (idOf e) ≡ false → startsOf e ≡ []
-starts-plain e h = go (eqb (idOf e) 1) (eqb (idOf e) 2) (eqb (idOf e) 3) (eqb (idOf e) 4) (eqb (idOf e) 5) (eqb (idOf e) 7) (eqb (idOf e) 8) h
-  where
-    go : (a b c d f g i : Bool) → (d || f || g || i) ≡ false → starts (bodyBy a b c d f g i (versionOf e)) (payloadOf e) ≡ []
-    go a b c true f g i h = let z : _≡_ {A = ℕ} 0 1 = cc in absurd (omega arith)
-    go a b c false true g i h = let z : _≡_ {A = ℕ} 0 1 = cc in absurd (omega arith)
-    go a b c false false true i h = let z : _≡_ {A = ℕ} 0 1 = cc in absurd (omega arith)
-    go a b c false false false true h = let z : _≡_ {A = ℕ} 0 1 = cc in absurd (omega arith)
-    go a b c false false false false h = starts-none a b c (versionOf e) (payloadOf e)
-
-pub starts-many : (e : List ℕ) → IsSection e → isListId (idOf e) ≡ true → length (startsOf e) ≡ leAt 4 e 16
-starts-many e w h = go (eqb (idOf e) 4) refl (eqb (idOf e) 5) refl (eqb (idOf e) 7) refl (eqb (idOf e) 8) refl h
-  where
-    is : (n : ℕ) {d : Description} → eqb (idOf e) n ≡ true → bodyOf n (versionOf e) ≡ list d → length (startsOf e) ≡ leAt 4 e 16
-    is n q r = starts-long e w (ap (λ (i : ℕ). bodyOf i (versionOf e)) (eqb-true (idOf e) n q) ∙ r)
-
-    go : (a : Bool) → eqb (idOf e) 4 ≡ a → (b : Bool) → eqb (idOf e) 5 ≡ b → (c : Bool) → eqb (idOf e) 7 ≡ c → (d : Bool) → eqb (idOf e) 8 ≡ d → (a || b || c || d) ≡ true → length (startsOf e) ≡ leAt 4 e 16
-    go true p b q c r d s h = is 4 p refl
-    go false p true q c r d s h = is 5 q refl
-    go false p false q true r d s h = is 7 r refl
-    go false p false q false r true s h = is 8 s refl
-    go false p false q false r false s h = let z : _≡_ {A = ℕ} 0 1 = cc in absurd (omega arith)
+  pub starts-long : length (startsOf e) ≡ leAt 4 e 16
+  starts-long = starts-count e w ∙ ap (λ (b : Bool). cond b (leAt 4 e 16) 0) (sym (listed-id (idOf e) (versionOf e)) ∙ ap isList q)
 
 -- ---- the starts of sections one after another
 
