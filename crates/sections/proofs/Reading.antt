@@ -5,10 +5,11 @@ use mathlib.Core.List.{List, [], _∷_, _++_, append-assoc}
 use mathlib.Core.Bool.{Bool, true, false, cond}
 use Prim.Native.Nat.{ℕ, _+_, _-_, _≤_}
 use native.Mathlib.Omega.{arith}
-use lib.ListN.{length, take, drop, length-append, length-drop}
+use lib.ListN.{length, take, drop, length-append, length-drop, take-append-drop}
 use lib.Seq.{drop-drop, take-append-seam, drop-append-seam}
 use Rattle.answer.specs.Outcome.{Outcome, taken, refused}
 use Rattle.wire.specs.Numbers.{leAt}
+use Rattle.wire.proofs.Numbers.{leAt-here, leAt-append}
 use Rattle.order.specs.Keyed.{flat, keep}
 use Rattle.entries.specs.Kinds.{Description}
 use Rattle.lists.specs.Lists.{listAt, IsList}
@@ -22,6 +23,7 @@ use Rattle.payloads.specs.Starts.{starts}
 use Rattle.aerosnap.specs.Known.{known}
 use Rattle.aerosnap.proofs.Copies.{isList}
 use Rattle.sections.specs.Index.{startsOf, Reading, firstOf}
+use Rattle.sections.proofs.Found.{Here}
 use Rattle.sections.proofs.Kept.{its-payload, its-body, listed-id, starts-count}
 
 -- ---- the starts of one section
@@ -82,3 +84,27 @@ reading-found i (x ∷ l) index {used} v {e} k = go (isId i x) k (λ q. reading-
         let z : used ≡ used + 0 = omega arith in
         subst (λ (n : ℕ). Held index n e) z (subst (Held index used) y (record { inside = reading-inside x l index v; same = reading-first x l index v }))
     go false k r = let z : used + length (startsOf x) + firstOf i l ≡ used + (length (startsOf x) + firstOf i l) = omega arith in subst (λ (n : ℕ). Held index n e) z (r k)
+
+-- the section with an id, found at a place of the file: how many starts its list has, and where its entries start
+module _ {i : ℕ} {s : List ℕ} {l : List (List ℕ)} {p : ℕ} (x : Here i s l p) {d : Description} (q : bodyOf (idOf (x .sec)) (versionOf (x .sec)) ≡ list d) where
+  found-count : leAt 4 s (p + 16) ≡ length (startsOf (x .sec))
+  found-count =
+      let b : List ℕ = drop 16 (x .sec) in
+      let w : ℕ = leAt 8 s (p + 8) in
+      let c : drop (p + 16) s ≡ b ++ drop w (drop (p + 16) s) = sym (take-append-drop w (drop (p + 16) s)) ∙ ap (λ (t : List ℕ). t ++ drop w (drop (p + 16) s)) (x .part) in
+      sym (leAt-here 4 s (p + 16))
+      ∙ ap (λ (t : List ℕ). leAt 4 t 0) c
+      ∙ leAt-append 4 b (drop w (drop (p + 16) s)) 0 (body-list (x .sec) (x .is) q .count)
+      ∙ leAt-here 4 (x .sec) 16
+      ∙ sym (starts-long (x .sec) (x .is) q)
+
+  -- in an index of the file
+  module _ {index : List ℕ} (v : Reading l index 0) {first n : ℕ} (f : first ≡ firstOf i l) (c : n ≡ leAt 4 s (p + 16)) where
+    held : Held index first (x .sec)
+    held = let z : 0 + firstOf i l ≡ first = omega (arith, f) in subst (λ (k : ℕ). Held index k (x .sec)) z (reading-found i l index v (x .alone))
+
+    pub found-inside : first + n ≤ length index
+    found-inside = omega (arith, held .inside, found-count)
+
+    pub found-starts : take (first + n - first) (drop first index) ≡ startsOf (x .sec)
+    found-starts = ap (λ (k : ℕ). take (first + k - first) (drop first index)) (c ∙ found-count) ∙ held .same

@@ -78,7 +78,11 @@ abbrev pub spotOf : Spot → Outcome (ℕ × ℕ)
 spotOf (Fault n p) = refused n p
 spotOf (At p n) = taken (p, n)
 
+-- of sections that are taken, where the first with an id starts, and how many starts stand before its own
+abbrev pub spotIn : ℕ → Outcome (List (List ℕ)) → Outcome (ℕ × ℕ)
+spotIn i o = after o (λ l. taken (placeOf i 16 l, firstOf i l))
+
 -- the promise of the call that looks for the section with an id: where it starts and how many starts stand before its own, and all starts in the lent places that held `old`
 pub record Spotted (i : ℕ) (o : Outcome (List (List ℕ))) (old : List ℕ) (r : Spot) (new : List ℕ) : Type 0 where
-  pub answers : spotOf r ≡ after o (λ l. taken (placeOf i 16 l, firstOf i l))
+  pub answers : spotOf r ≡ spotIn i o
   pub leaves : new ≡ placed (keptIn (length old) o) old
