@@ -29,34 +29,20 @@ use Rattle.lists.specs.Lists.{IsList, widthOf, entries, partChecks}
 use Rattle.lists.proofs.Taken.{list-complete}
 use Rattle.writer.specs.Writer.{sortedBytes, sortedOf}
 use Rattle.writer.proofs.Whole.{sorted-size}
-use Rattle.aerosnap.specs.Payloads.{Body, list, bodyBy, bodyOf}
+use Rattle.aerosnap.specs.Payloads.{Body, list, bodyOf}
 use Rattle.aerosnap.specs.File.{idOf, versionOf}
 use Rattle.aerosnap.specs.Rules.{IsBody}
 use Rattle.aerosnap.proofs.Canonical.{taken-fits}
 use Rattle.aerosnap.proofs.Written.{isEmptyBy, tidy-size, list-known}
 use Rattle.aerosnap.proofs.Copies.{isList, plain-written, list-written}
-use Rattle.canon.specs.Steps.{isListId, bytesFor, Whole}
+use Rattle.sections.specs.Index.{isListId}
+use Rattle.sections.proofs.Kept.{listed-id}
+use Rattle.canon.specs.Steps.{bytesFor, Whole}
 
 -- ---- which sections are lists
 
 pub plain-id : (id v : ℕ) → isListId id ≡ false → isList (bodyOf id v) ≡ false
-plain-id id v h = go (eqb id 1) (eqb id 2) (eqb id 3) (eqb id 4) (eqb id 5) (eqb id 7) (eqb id 8) h
-  where
-    none-of : (a b c : Bool) → isList (bodyBy a b c false false false false v) ≡ false
-    none-of true b c = refl
-    none-of false true c = refl
-    none-of false false true = refl
-    none-of false false false = refl
-
-    go : (a b c d e f g : Bool) → (d || e || f || g) ≡ false → isList (bodyBy a b c d e f g v) ≡ false
-    go a b c true e f g h = let z : _≡_ {A = ℕ} 0 1 = cc in absurd (omega arith)
-    go a b c false true f g h = let z : _≡_ {A = ℕ} 0 1 = cc in absurd (omega arith)
-    go a b c false false true g h = let z : _≡_ {A = ℕ} 0 1 = cc in absurd (omega arith)
-    go a b c false false false true h = let z : _≡_ {A = ℕ} 0 1 = cc in absurd (omega arith)
-    go a b c false false false false h = none-of a b c
-
-pub not-list : (id : ℕ) → id ≢ 4 → id ≢ 5 → id ≢ 7 → id ≢ 8 → isListId id ≡ false
-not-list id a b c d = rw (ne-eqb id 4 a, ne-eqb id 5 b, ne-eqb id 7 c, ne-eqb id 8 d)
+plain-id id v h = listed-id id v ∙ h
 
 empty-list : (id v : ℕ) (e : List ℕ) → isListId id ≡ true → isEmptyBy (bodyOf id v) e ≡ eqb (leAt 4 e 16) 0
 empty-list id v e h = go (eqb id 4) refl (eqb id 5) refl (eqb id 7) refl (eqb id 8) refl h

@@ -1,7 +1,7 @@
 -- What the parts of the code that writes a file ask and give.
 -- Assumes nothing.
 use mathlib.Core.Path.{_≡_}
-use mathlib.Core.Bool.{Bool, false, cond, not, _||_}
+use mathlib.Core.Bool.{false, cond, not, _||_}
 use mathlib.Core.List.{List, [], _∷_, _++_}
 use Prim.Native.Nat.{ℕ, zero, suc, _+_, _-_, _≤_}
 use lib.Dec.{eqb, leb}
@@ -16,15 +16,11 @@ use Rattle.entries.specs.Kinds.{Description}
 use Rattle.entries.specs.Code.{describe}
 use Rattle.lists.specs.Lists.{IsList, entries}
 use Rattle.writer.specs.Writer.{withBytes}
-use Rattle.aerosnap.specs.Known.{DEVICES, DISKS, CPUS, MMUS}
+use Rattle.aerosnap.specs.Known.{DEVICES}
 use Rattle.aerosnap.specs.File.{fileMost, sectionsMost, devicesMost, header}
 use Rattle.aerosnap.specs.Rules.{IsSection}
 use Rattle.aerosnap.specs.Content.{tidy, rank, Content, contentOf, render}
 use Rattle.aerosnap.specs.Adding.{Item, entryOf, kindOf, listIn, put, ownChecks, addChecks, idFor}
-
--- the ids of the sections that are lists
-abbrev pub isListId : ℕ → Bool
-isListId id = eqb id DEVICES || eqb id DISKS || eqb id CPUS || eqb id MMUS
 
 -- the bytes that are written of a section
 abbrev pub bytesFor : List ℕ → List ℕ

@@ -39,6 +39,10 @@ abbrev pub firstOf : ℕ → List (List ℕ) → ℕ
 firstOf i [] = 0
 firstOf i (e ∷ l) = cond (isId i e) 0 (length (startsOf e) + firstOf i l)
 
+-- where the first section with an id starts, of those of a file, and how many starts stand before its own
+abbrev pub spotIn : ℕ → Outcome (List (List ℕ)) → Outcome (ℕ × ℕ)
+spotIn i r = after r (λ l. taken (placeOf i 16 l, firstOf i l))
+
 -- the ids of the sections that are lists
 abbrev pub isListId : ℕ → Bool
 isListId id = eqb id DEVICES || eqb id DISKS || eqb id CPUS || eqb id MMUS
@@ -73,5 +77,5 @@ spotOf (At p n) = taken (p, n)
 
 -- the promise of the call that looks for the section with an id: where it starts and how many starts stand before its own, and all starts in the lent places that held `old`
 pub record Spotted (i : ℕ) (o : Outcome (List (List ℕ))) (old : List ℕ) (r : Spot) (new : List ℕ) : Type 0 where
-  pub answers : spotOf r ≡ after o (λ l. taken (placeOf i 16 l, firstOf i l))
+  pub answers : spotOf r ≡ spotIn i o
   pub leaves : new ≡ placed (keptIn (length old) o) old
