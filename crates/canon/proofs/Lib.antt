@@ -6,3 +6,4 @@ pub mod Fronts
 pub mod More
 pub mod Lists
 pub mod Added
+pub mod Once

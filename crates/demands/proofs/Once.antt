@@ -28,10 +28,10 @@ pub use Rattle.messages.proofs.Once.{said-once}
 pub use Rattle.aipc.proofs.Once.{read-once as aipc-read-once, write-once as aipc-write-once}
 -- numbers: numbers_of; message_of; read; write
 pub use Rattle.numbers.proofs.Once.{numbers-of-once, message-of-once, read-once as numbers-read-once, write-once as numbers-write-once}
--- payloads: read
-pub use Rattle.payloads.proofs.Once.{read-once as payloads-read-once}
--- sections: small; scan; find
-pub use Rattle.sections.proofs.Once.{small-once, scan-once, find-once as sections-find-once}
+-- payloads: index
+pub use Rattle.payloads.proofs.Once.{index-once as payloads-index-once}
+-- sections: small; scan; is_list; find; count
+pub use Rattle.sections.proofs.Once.{small-once, scan-once, is-list-once, find-once as sections-find-once, count-once}
 -- canon and snapshot: canonical; add_device; add_disk
 pub use Rattle.canon.proofs.Once.{canonical-once, add-device-once, add-disk-once}
 -- snapshot: check; sections; devices; disks

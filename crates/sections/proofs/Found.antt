@@ -12,7 +12,7 @@ use lib.Dec.{eqb}
 use borrow.Author.Tests.{eq-eqb, ne-eqb, eqb-true}
 use Rattle.answer.specs.declared.Piece.the-variants.{Stop, Ends}
 use Rattle.answer.specs.Outcome.{Outcome, taken, refused, after}
-use Rattle.answer.proofs.Outcomes.{made-taken, made-same}
+use Rattle.answer.proofs.Outcomes.{taken-is, made-stop, made-taken, made-same}
 use Rattle.wire.specs.Numbers.{leAt}
 use Rattle.wire.proofs.Numbers.{leAt-here}
 use Rattle.order.specs.Keyed.{flat, keep}
@@ -35,7 +35,7 @@ use Rattle.aerosnap.proofs.Standing.{Stand, stand-start, stand-next, ends-at, e
 use Rattle.sections.specs.declared.Spot.{Spot}
 use Rattle.sections.specs.declared.Spot.the-variants.{Fault}
 use Rattle.sections.specs.Walks.{sectionsIn, Read, placeOf}
-use Rattle.sections.specs.Index.{startsOf, firstOf, entriesIn, Scanned, spotOf, Spotted}
+use Rattle.sections.specs.Index.{startsOf, firstOf, entriesIn, spotIn, Scanned, spotOf, Spotted}
 use Rattle.sections.proofs.Kept.{starts-count, entries-front, starts-bound, first-most}
 
 -- the sections of a file that is taken
@@ -115,11 +115,30 @@ module _ {i : ℕ} {s : List ℕ} {l : List (List ℕ)} {at n : ℕ} (v : Seekin
       }
 
 -- where it was found
+
+abbrev spot : ℕ → List (List ℕ) → ℕ × ℕ
+spot i l = (placeOf i 16 l, firstOf i l)
+
 pub found-stop : (i : ℕ) (s : List ℕ) {a b : ℕ} {old new : List ℕ} → Scanned (fileOf s) old (Stop a b) new → Spotted i (fileOf s) old (Fault a b) new
-found-stop i s k = record { answers = made-same (fileOf s) length (λ l. (placeOf i 16 l, firstOf i l)) (k .answers); leaves = k .leaves }
+found-stop i s k = record { answers = made-same (fileOf s) length (spot i) (k .answers); leaves = k .leaves }
 
 pub found-at : (i : ℕ) (s : List ℕ) {n : ℕ} {r : Spot} {old new : List ℕ} → Scanned (fileOf s) old (Ends n) new → spotOf r ≡ taken (placeOf i 16 (sectionsIn s), firstOf i (sectionsIn s)) → Spotted i (fileOf s) old r new
-found-at i s k q = record { answers = q ∙ sym (ap (λ (o : Outcome (List (List ℕ))). after o (λ l. taken (placeOf i 16 l, firstOf i l))) (made-read s length (k .answers))); leaves = k .leaves }
+found-at i s k q = record { answers = q ∙ sym (ap (spotIn i) (made-read s length (k .answers))); leaves = k .leaves }
+
+-- what the call that looks for it says of a file: its fault, or that it is taken, where the section starts and how many starts stand before its own
+pub spot-stop : (i : ℕ) (s : List ℕ) {a b : ℕ} → refused a b ≡ spotIn i (fileOf s) → fileOf s ≡ refused a b
+spot-stop i s h = made-stop (fileOf s) (spot i) h
+
+pub record Sited (i : ℕ) (s : List ℕ) (p n : ℕ) : Type 0 where
+  pub read : Read s
+  pub place : p ≡ placeOf i 16 (sectionsIn s)
+  pub first : n ≡ firstOf i (sectionsIn s)
+
+pub spot-taken : (i : ℕ) (s : List ℕ) {p n : ℕ} → _≡_ {A = Outcome (ℕ × ℕ)} (taken (p, n)) (spotIn i (fileOf s)) → Sited i s p n
+spot-taken i s {p} {n} h =
+    let r : Read s = made-read s (spot i) h in
+    let t : _≡_ {A = ℕ × ℕ} (p, n) (spot i (sectionsIn s)) = taken-is (h ∙ ap (spotIn i) r) in
+    record { read = r; place = ap (λ (x : ℕ × ℕ). x .0) t; first = ap (λ (x : ℕ × ℕ). x .1) t }
 
 -- ---- the section with an id
 

@@ -22,9 +22,12 @@ use Rattle.aerosnap.proofs.Bodies.{Lawfully, lawful-body}
 use Rattle.payloads.specs.Starts.{starts}
 use Rattle.aerosnap.specs.Known.{known}
 use Rattle.aerosnap.proofs.Copies.{isList}
-use Rattle.sections.specs.Index.{startsOf, Reading, firstOf}
+use Rattle.lists.specs.Promises.{placed}
+use Rattle.aerosnap.specs.File.{fileOf}
+use Rattle.sections.specs.Walks.{sectionsIn, Read}
+use Rattle.sections.specs.Index.{kept, keptIn, counts, Roomy, startsOf, Reading, firstOf}
 use Rattle.sections.proofs.Found.{Here}
-use Rattle.sections.proofs.Kept.{its-payload, its-body, listed-id, starts-count}
+use Rattle.sections.proofs.Kept.{kept-all, counts-all, starts-bound, its-payload, its-body, listed-id, starts-count}
 
 -- ---- the starts of one section
 
@@ -40,6 +43,23 @@ module _ (e : List ℕ) (w : IsSection e) {d : Description} (q : bodyOf (idOf e)
 
   pub starts-long : length (startsOf e) ≡ leAt 4 e 16
   starts-long = starts-count e w ∙ ap (λ (b : Bool). cond b (leAt 4 e 16) 0) (sym (listed-id (idOf e) (versionOf e)) ∙ ap isList q)
+
+-- ---- an index that holds all starts of a file
+
+pub roomy-few : (s : List ℕ) → counts 64 (drop 16 s) ≤ 256 → Roomy s 256
+roomy-few s h l c = omega (arith, counts-all s c)
+
+pub roomy-all : (s : List ℕ) → Roomy s 4864
+roomy-all s l c = starts-bound s c
+
+-- as the calls leave it that read a file
+pub index-reading : (s old : List ℕ) {new : List ℕ} → Read s → Roomy s (length old) → new ≡ placed (keptIn (length old) (fileOf s)) old → Reading (sectionsIn s) new 0
+index-reading s old {new} h r e =
+    let l : List (List ℕ) = sectionsIn s in
+    let k : kept (length old) l ≡ flat startsOf l = kept-all (length old) l (r l h) in
+    let n : new ≡ flat startsOf l ++ drop (length (flat startsOf l)) old =
+    e ∙ ap (λ (o : Outcome (List (List ℕ))). placed (keptIn (length old) o) old) h ∙ ap (λ (m : List ℕ). m ++ drop (length m) old) k in
+    record { rest = drop (length (flat startsOf l)) old; inside = omega arith; same = n }
 
 -- ---- the starts of sections one after another
 

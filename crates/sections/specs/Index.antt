@@ -13,7 +13,7 @@ use Rattle.wire.specs.Numbers.{leAt}
 use Rattle.order.specs.Keyed.{flat}
 use Rattle.aerosnap.specs.Known.{DEVICES, DISKS, CPUS, MMUS}
 use Rattle.aerosnap.specs.Payloads.{bodyOf}
-use Rattle.aerosnap.specs.File.{idOf, versionOf, lengthOf, payloadOf}
+use Rattle.aerosnap.specs.File.{idOf, versionOf, lengthOf, payloadOf, fileOf}
 use Rattle.aerosnap.specs.Content.{isId}
 use Rattle.lists.specs.Lists.{whole}
 use Rattle.lists.specs.Promises.{placed}
@@ -40,6 +40,10 @@ abbrev pub firstOf : ℕ → List (List ℕ) → ℕ
 firstOf i [] = 0
 firstOf i (e ∷ l) = cond (isId i e) 0 (length (startsOf e) + firstOf i l)
 
+-- where the first section with an id starts, of those of a file, and how many starts stand before its own
+abbrev pub spotIn : ℕ → Outcome (List (List ℕ)) → Outcome (ℕ × ℕ)
+spotIn i r = after r (λ l. taken (placeOf i 16 l, firstOf i l))
+
 -- the ids of the sections that are lists
 abbrev pub isListId : ℕ → Bool
 isListId id = eqb id DEVICES || eqb id DISKS || eqb id CPUS || eqb id MMUS
@@ -53,6 +57,10 @@ pub record Reading (l : List (List ℕ)) (index : List ℕ) (used : ℕ) : Type 
   pub rest : List ℕ
   pub inside : used ≤ length index
   pub same : drop used index ≡ flat startsOf l ++ rest
+
+-- so many places hold all starts of s, where it is a file that is taken
+abbrev pub Roomy : List ℕ → ℕ → Type 0
+Roomy s n = (l : List (List ℕ)) → fileOf s ≡ taken l → length (flat startsOf l) ≤ n
 
 -- the section that begins b is there whole
 abbrev pub fitsIn : List ℕ → Bool
@@ -77,10 +85,6 @@ pub record Scanned (o : Outcome (List (List ℕ))) (old : List ℕ) (r : Piece) 
 abbrev pub spotOf : Spot → Outcome (ℕ × ℕ)
 spotOf (Fault n p) = refused n p
 spotOf (At p n) = taken (p, n)
-
--- of sections that are taken, where the first with an id starts, and how many starts stand before its own
-abbrev pub spotIn : ℕ → Outcome (List (List ℕ)) → Outcome (ℕ × ℕ)
-spotIn i o = after o (λ l. taken (placeOf i 16 l, firstOf i l))
 
 -- the promise of the call that looks for the section with an id: where it starts and how many starts stand before its own, and all starts in the lent places that held `old`
 pub record Spotted (i : ℕ) (o : Outcome (List (List ℕ))) (old : List ℕ) (r : Spot) (new : List ℕ) : Type 0 where

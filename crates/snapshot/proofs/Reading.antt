@@ -29,8 +29,9 @@ use Rattle.aerosnap.specs.File.{fileOf}
 use Rattle.aerosnap.specs.Tables.{placed, startsOf, listRows, table, sectionTable}
 use Rattle.aerosnap.proofs.Taken.{file-sound}
 use Rattle.aerosnap.proofs.Standing.{stand-start, endAt}
-use Rattle.sections.specs.Walks.{counted, placeOf, placedIn}
-use Rattle.sections.proofs.Found.{Here, none-there, there, here-list, made-none, made-one}
+use Rattle.sections.specs.Walks.{counted, sectionsIn, placeOf}
+use Rattle.sections.specs.Index.{spotIn}
+use Rattle.sections.proofs.Found.{spot-stop, spot-taken, Here, none-there, there, here-list, made-none, made-one}
 use Rattle.snapshot.specs.Walks.{sectionRows}
 
 -- ---- by the outcome of the file
@@ -52,8 +53,8 @@ module _ (s : List ℕ) where
   pub sections-stop : (old : List ℕ) {n p : ℕ} → refused n p ≡ counted (fileOf s) → Writes (sectionTable (length old) s) old (record { number = n; place = p }) old
   sections-stop old h = stopped (λ q. framedRow (q .0) (q .1)) old (made-stop (fileOf s) length h)
 
-  pub list-stop : (t : Table) (i : ℕ) (old : List ℕ) {n p : ℕ} → refused n p ≡ placedIn i (fileOf s) → Writes (table (listRows t i) (length old) s) old (record { number = n; place = p }) old
-  list-stop t i old h = stopped (listRows t i) old (made-stop (fileOf s) (placeOf i 16) h)
+  pub list-stop : (t : Table) (i : ℕ) (old : List ℕ) {n p : ℕ} → refused n p ≡ spotIn i (fileOf s) → Writes (table (listRows t i) (length old) s) old (record { number = n; place = p }) old
+  list-stop t i old h = stopped (listRows t i) old (spot-stop i s h)
 
   -- a file that is taken: its table, for an output of so many bytes
   pub table-of : (rows : ℕ × List ℕ → List ℕ) (have : ℕ) {l : List (List ℕ)} → fileOf s ≡ taken l → table rows have s ≡ fitting have (flat rows (placed 16 l))
@@ -95,15 +96,15 @@ module _ (t : Table) (i : ℕ) (s : List ℕ) where
   records p b = rowsAt t p b (startsOf (listAt (described t) b))
 
   -- a file that is taken, and where the section with the id was found in it
-  module _ {p : ℕ} (q : taken p ≡ placedIn i (fileOf s)) where
+  module _ {p n : ℕ} (q : _≡_ {A = Outcome (ℕ × ℕ)} (taken (p, n)) (spotIn i (fileOf s))) where
     abbrev its : List (List ℕ)
-    its = made-taken (fileOf s) (placeOf i 16) q .0
+    its = sectionsIn s
 
     whole : fileOf s ≡ taken its
-    whole = made-taken (fileOf s) (placeOf i 16) q .1
+    whole = spot-taken i s q .read
 
     place : p ≡ placeOf i 16 its
-    place = made-taken (fileOf s) (placeOf i 16) q .2
+    place = spot-taken i s q .place
 
     pub list-none : length s ≤ p → (old : List ℕ) → Writes (table (listRows t i) (length old) s) old (record { number = 0; place = 0 }) old
     list-none g old =

@@ -4,6 +4,7 @@ use answer::Piece;
 use answer::ROOM;
 use answer::TAKEN;
 use answer::Test;
+use sections::Spot;
 use tables::Table;
 ghost use mathlib.Core.Path.{_≡_};
 ghost use mathlib.Core.Bool.{true};
@@ -31,7 +32,8 @@ const DISKS: u32 = 5;
 fn faults(file: &[u8]) -> Test
     ensures { λ r. ⌜ testOf r ≡ done (fileOf (now (file .entry))) ⌝ }
 {
-    match sections::scan(file) {
+    let mut index = [0u32; 1];
+    match sections::scan(file, &mut index[..0]) {
         Piece::Stop(number, place) => Test::Fault(number, place),
         Piece::Ends(_) => Test::Fine,
     }
@@ -70,7 +72,8 @@ fn put_rows(file: &[u8], out: &mut [u8])
 pub fn sections(file: &[u8], table: &mut [u8]) -> Answer
     ensures { λ r. ⌜ Writes (sectionsCall (length (now (table .entry))) (now (file .entry))) (now (table .entry)) r (now (table .exit)) ⌝ }
 {
-    match sections::scan(file) {
+    let mut index = [0u32; 1];
+    match sections::scan(file, &mut index[..0]) {
         Piece::Stop(number, place) => Answer {
             number,
             place: place as u64,
@@ -97,12 +100,13 @@ fn list_table(t: Table, id: u32, file: &[u8], table: &mut [u8]) -> Answer
     requires { ⌜ (known id ≡ true) × ((v : ℕ) → bodyOf id v ≡ list (described t)) ⌝ }
     ensures { λ r. ⌜ Writes (file_tables.table (file_tables.listRows t id) (length (now (table .entry))) (now (file .entry))) (now (table .entry)) r (now (table .exit)) ⌝ }
 {
-    match sections::find(file, id) {
-        Piece::Stop(number, place) => Answer {
+    let mut index = [0u32; 1];
+    match sections::find(file, id, &mut index[..0]) {
+        Spot::Fault(number, place) => Answer {
             number,
             place: place as u64,
         },
-        Piece::Ends(at) => {
+        Spot::At(at, _) => {
             if file.len() <= at {
                 return Answer {
                     number: TAKEN,
