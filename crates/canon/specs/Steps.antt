@@ -1,7 +1,7 @@
 -- What the parts of the code that writes a file ask and give.
 -- Assumes nothing.
 use mathlib.Core.Path.{_≡_}
-use mathlib.Core.Bool.{Bool, false, cond, not, _||_}
+use mathlib.Core.Bool.{cond, not, _||_}
 use mathlib.Core.List.{List, [], _∷_, _++_}
 use Prim.Native.Nat.{ℕ, zero, suc, _+_, _-_, _≤_}
 use lib.Dec.{eqb, leb}
@@ -9,22 +9,20 @@ use lib.ListN.{length}
 use Rattle.answer.specs.Numbers.{SIZE, MANY, LIMIT}
 use Rattle.answer.specs.Outcome.{Outcome, Checks, checked, Pass, room, fitting}
 use Rattle.wire.specs.Numbers.{leAt, bytesOf}
-use Rattle.order.specs.Keyed.{flat, has, sort}
+use Rattle.order.specs.Keyed.{flat, insert, sort}
 use Rattle.order.specs.Entries.{join}
 use Rattle.entries.specs.declared.Kind.{Kind}
 use Rattle.entries.specs.Kinds.{Description}
 use Rattle.entries.specs.Code.{describe}
-use Rattle.lists.specs.Lists.{IsList, entries}
-use Rattle.writer.specs.Writer.{withBytes}
-use Rattle.aerosnap.specs.Known.{DEVICES, DISKS, CPUS, MMUS}
+use Rattle.lists.specs.declared.Found.the-variants.{Free}
+use Rattle.lists.specs.Lists.{keyAt, IsList, entries, listBytes}
+use Rattle.lists.specs.Promises.{findIn}
+use Rattle.writer.specs.Steps.{Listed}
+use Rattle.aerosnap.specs.Known.{DEVICES}
 use Rattle.aerosnap.specs.File.{fileMost, sectionsMost, devicesMost, header}
 use Rattle.aerosnap.specs.Rules.{IsSection}
-use Rattle.aerosnap.specs.Content.{tidy, rank, Content, contentOf, render}
+use Rattle.aerosnap.specs.Content.{framed, tidy, rank, Content, contentOf, render}
 use Rattle.aerosnap.specs.Adding.{Item, entryOf, kindOf, listIn, put, ownChecks, addChecks, idFor}
-
--- the ids of the sections that are lists
-abbrev pub isListId : ℕ → Bool
-isListId id = eqb id DEVICES || eqb id DISKS || eqb id CPUS || eqb id MMUS
 
 -- the bytes that are written of a section
 abbrev pub bytesFor : List ℕ → List ℕ
@@ -55,11 +53,19 @@ frame id v f n = bytesOf 4 id ++ (bytesOf 2 v ++ (bytesOf 2 f ++ bytesOf 8 n))
 
 -- the section of a list, version 1
 abbrev pub listSection : ℕ → List ℕ → List ℕ
-listSection id b = frame id 1 0 (length b) ++ b
+listSection id b = framed id 1 0 b
 
 -- the header, the ranks before the list with an id, the list b in its place, the ranks behind it
 abbrev pub fileWith : List (List ℕ) → ℕ → List ℕ → List ℕ
 fileWith l id b = header ++ (ranks l 0 (id - 1) ++ (listSection id b ++ ranks l id (9 - id)))
+
+-- an entry that is given in four parts
+abbrev pub together : List ℕ → List ℕ → List ℕ → List ℕ → List ℕ
+together head a mid b = head ++ (a ++ (mid ++ b))
+
+-- the list p in the order of its keys, with the entry e put in at its place
+abbrev pub withBytes : Description → List ℕ → List ℕ → List ℕ
+withBytes d p e = listBytes (insert (d .key) e (sort (d .key) (entries d p)))
 
 -- an entry e may be put into the list p: both are at most as long as a file
 pub record Joins (d : Description) (p e : List ℕ) : Type 0 where
@@ -67,14 +73,11 @@ pub record Joins (d : Description) (p e : List ℕ) : Type 0 where
   pub short : length p ≤ fileMost
   pub small : length e ≤ fileMost
 
--- how long the list p is with the entry e; 0 where its key is there
-abbrev pub lengthWith : Description → List ℕ → List ℕ → ℕ
-lengthWith d p e = cond (has (d .key) (d .key e) (entries d p)) 0 (length (withBytes d p e))
-
--- its key is not there, and the list with it has m bytes
-pub record Longer (d : Description) (p e : List ℕ) (m : ℕ) : Type 0 where
-  pub new : has (d .key) (d .key e) (entries d p) ≡ false
-  pub long : m ≡ length (withBytes d p e)
+-- l are the starts of the list p, and an entry e, whose key is not there, goes before the one with the number q
+pub record Goes (d : Description) (p l e : List ℕ) (q : ℕ) : Type 0 where
+  pub listed : Listed d p l
+  pub small : length e ≤ fileMost
+  pub free : Free q ≡ findIn (keyAt d p) (d .key e) l
 
 -- an output of so many bytes holds the file b
 pub record Holds (have : ℕ) (b : List ℕ) : Type 0 where

@@ -10,14 +10,14 @@ pub use Rattle.wire.proofs.Once.{fits-once, left-once, tail-once, load-once, st
 pub use Rattle.utf8.proofs.Once.{text-once, is-text-once}
 -- format: block_at, part_at, blob_at, text_at; flag_at
 pub use Rattle.format.proofs.Once.{read-once as format-once, flag-once}
--- entries: most_of; cpu_state; mmu_length; lead_of; lead_at; key_of, key_at; entry_at
-pub use Rattle.entries.proofs.Once.{most-once, cpu-state-once, mmu-length-once, lead-once, lead-at-once, key-once, entry-once}
--- lists: few; check; index; find
-pub use Rattle.lists.proofs.Once.{few-once, check-once as lists-check-once, index-once, find-once}
--- tables: write; put_section
-pub use Rattle.tables.proofs.Once.{write-once as tables-write-once, section-once}
--- writer: write; write_with
-pub use Rattle.writer.proofs.Once.{write-once as writer-write-once, write-with-once}
+-- entries: most_of; cpu_state; mmu_length; lead_of; lead_at; key_of, key_at; entry_at; length_at
+pub use Rattle.entries.proofs.Once.{most-once, cpu-state-once, mmu-length-once, lead-once, lead-at-once, key-once, entry-once, length-once}
+-- lists: few; check; index; forget; find
+pub use Rattle.lists.proofs.Once.{few-once, check-once as lists-check-once, index-once, forget-once, find-once}
+-- tables: put_rows; write; put_section
+pub use Rattle.tables.proofs.Once.{rows-once, write-once as tables-write-once, section-once}
+-- writer: put_run; in_order; write
+pub use Rattle.writer.proofs.Once.{run-once, order-once, write-once as writer-write-once}
 -- dskc: check; controllers; canonical
 pub use Rattle.dskc.proofs.Once.{check-once as dskc-check-once, controllers-once, canonical-once as dskc-canonical-once}
 -- kinds: form_of
@@ -28,10 +28,10 @@ pub use Rattle.messages.proofs.Once.{said-once}
 pub use Rattle.aipc.proofs.Once.{read-once as aipc-read-once, write-once as aipc-write-once}
 -- numbers: numbers_of; message_of; read; write
 pub use Rattle.numbers.proofs.Once.{numbers-of-once, message-of-once, read-once as numbers-read-once, write-once as numbers-write-once}
--- payloads: read
-pub use Rattle.payloads.proofs.Once.{read-once as payloads-read-once}
--- sections: small; scan; find
-pub use Rattle.sections.proofs.Once.{small-once, scan-once, find-once as sections-find-once}
+-- payloads: index
+pub use Rattle.payloads.proofs.Once.{index-once as payloads-index-once}
+-- sections: small; scan; is_list; find; count
+pub use Rattle.sections.proofs.Once.{small-once, scan-once, is-list-once, find-once as sections-find-once, count-once}
 -- canon and snapshot: canonical; add_device; add_disk
 pub use Rattle.canon.proofs.Once.{canonical-once, add-device-once, add-disk-once}
 -- snapshot: check; sections; devices; disks

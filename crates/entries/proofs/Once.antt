@@ -3,12 +3,13 @@
 use mathlib.Core.Path.{_≡_}
 use mathlib.Core.List.{List}
 use Prim.Native.Nat.{ℕ}
-use lib.ListN.{drop}
+use lib.ListN.{length, take, drop}
 use Rattle.answer.specs.declared.Piece.{Piece}
 use Rattle.answer.specs.declared.Test.{Test}
 use Rattle.answer.specs.Outcome.{moved}
 use Rattle.answer.specs.Calls.{pieceOf, testOf, asked}
 use Rattle.answer.proofs.Once.{equal-once, test-once}
+use Rattle.format.specs.Format.{span}
 use Rattle.format.specs.Places.{readAt}
 use Rattle.format.proofs.Once.{read-once}
 use Rattle.entries.specs.declared.Kind.{Kind}
@@ -38,3 +39,7 @@ key-once k b e f = equal-once e f
 
 pub entry-once : (k : Kind) (s : List ℕ) (at : ℕ) (r p : Piece) → pieceOf r ≡ readAt (describe k .form) s at → pieceOf p ≡ readAt (describe k .form) s at → r ≡ p
 entry-once k s at r p e f = read-once (describe k .form) s at r p e f
+
+pub length-once : (k : Kind) (s : List ℕ) (at : ℕ) {r p : ℕ}
+    → r ≡ length (take (span (describe k .form) (drop at s)) (drop at s)) → p ≡ length (take (span (describe k .form) (drop at s)) (drop at s)) → r ≡ p
+length-once k s at e f = equal-once e f

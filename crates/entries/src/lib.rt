@@ -14,15 +14,16 @@ use wire::tail;
 use wire::u8_at;
 use wire::u16_at;
 use wire::u32_at;
+use wire::u64_at;
 ghost use mathlib.Core.Path.{_≡_};
-ghost use Prim.Native.Nat.{_+_};
-ghost use lib.ListN.{drop};
+ghost use Prim.Native.Nat.{ℕ, _+_, min};
+ghost use lib.ListN.{length, take, drop};
 ghost use Rattle.answer.specs.Outcome.{moved};
 ghost use Rattle.answer.specs.Calls.{pieceOf, testOf, asked};
-ghost use Rattle.format.specs.Format.{any, sized, pair, blob, text, values};
+ghost use Rattle.format.specs.Format.{any, sized, pair, blob, text, values, span};
 ghost use Rattle.format.specs.Places.{readAt};
 ghost use Rattle.entries.specs.States.{cpuLength, cpuLengthChecks, cpuState, cpuWhole, registers, extension, mmuLength};
-ghost use Rattle.entries.specs.Kinds.{leadChecks, deviceKey, idKey, addressKey, controllerChecks, controllerHead, devices, disks, cpus, controllers};
+ghost use Rattle.entries.specs.Kinds.{leadChecks, deviceKey, controllerChecks, controllerHead, devices, disks, cpus, controllers};
 ghost use Rattle.entries.specs.Code.{describe};
 
 // The kinds of entry; CPUs and MMUs by the version of their section.
@@ -339,4 +340,56 @@ pub fn entry_at(kind: Kind, s: &[u8], at: usize) -> Piece
         Kind::Mmus(v) => block_at(s, at, 4 + mmu_length(v)),
         Kind::Controllers => controller_at(s, at),
     }
+}
+
+// ---- lengths, with nothing checked
+
+// Where n bytes from a place on end, or where the bytes do.
+fn reach(b: &[u8], at: usize, n: u64) -> usize
+    ensures { λ r. ⌜ r ≡ min (at + n) (length (now (b .entry))) ⌝ }
+{
+    let len = b.len();
+    if len < at {
+        return len;
+    }
+    if ((len - at) as u64) < n {
+        return len;
+    }
+    at + (n as usize)
+}
+
+// Where the disk that begins the bytes ends: two texts behind four bytes.
+fn disk_reach(b: &[u8]) -> usize
+    ensures { λ r. ⌜ r ≡ length (take (span (disks .form) (now (b .entry))) (now (b .entry))) ⌝ }
+{
+    let e = reach(b, 8, u32_at(b, 4) as u64);
+    reach(b, e + 4, u32_at(b, e) as u64)
+}
+
+// The same of a CPU, whatever the version of its section: its state, and its internal blob.
+fn cpu_reach(b: &[u8]) -> usize
+    ensures { λ r. ⌜ ((v : ℕ) → r ≡ length (take (span (cpus v .form) (now (b .entry))) (now (b .entry)))) ⌝ }
+{
+    let e = reach(b, 8, u32_at(b, 4) as u64);
+    reach(b, e + 8, u64_at(b, e))
+}
+
+// How many bytes the entry that begins the bytes has by its lengths alone, and no more than there are.
+fn length_of(kind: Kind, b: &[u8]) -> usize
+    ensures { λ r. ⌜ r ≡ length (take (span (describe kind .form) (now (b .entry))) (now (b .entry))) ⌝ }
+{
+    match kind {
+        Kind::Devices => reach(b, 16, u64_at(b, 8)),
+        Kind::Disks => disk_reach(b),
+        Kind::Cpus(_) => cpu_reach(b),
+        Kind::Mmus(v) => reach(b, 4, mmu_length(v) as u64),
+        Kind::Controllers => reach(b, 12, u32_at(b, 8) as u64),
+    }
+}
+
+// The same at a place.
+pub fn length_at(kind: Kind, s: &[u8], at: usize) -> usize
+    ensures { λ r. ⌜ r ≡ length (take (span (describe kind .form) (drop at (now (s .entry)))) (drop at (now (s .entry)))) ⌝ }
+{
+    length_of(kind, tail(s, at))
 }

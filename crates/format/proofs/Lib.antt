@@ -1,4 +1,5 @@
 pub mod Meaning
+pub mod Spans
 pub mod Placed
 pub mod Exits
 pub mod Listed

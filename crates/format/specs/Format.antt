@@ -41,6 +41,13 @@ read (sized w checks ask) b = checked (sizedChecks w checks b) (after (moved w (
 read (option f) b = checked (optionChecks b) (elim (eqb (leAt 1 b 0) 0) [ true ↦ taken 1 | false ↦ shift 1 (read f (drop 1 b)) ])
 read (pair f g) b = after (read f b) (λ k. shift k (read g (drop k b)))
 
+-- how many bytes the piece that begins b says that it has: only its lengths are looked at
+unfoldable pub span : Format → List ℕ → ℕ
+span (block n ask) b = n
+span (sized w checks ask) b = w + leAt w b 0
+span (option f) b = elim (eqb (leAt 1 b 0) 0) [ true ↦ 1 | false ↦ 1 + span f (drop 1 b) ]
+span (pair f g) b = span f b + span g (drop (span f b) b)
+
 -- the bytes e are such a piece
 abbrev pub Is : Format → List ℕ → Type 0
 Is (block n ask) e = (length e ≡ n) × (ask e ≡ taken tt)

@@ -4,7 +4,7 @@ use mathlib.Core.Path.{_≡_, refl}
 use mathlib.Core.List.{List, [], _∷_, _++_}
 use Prim.Native.Nat.{ℕ}
 use lib.ListN.{length, take}
-use Rattle.answer.specs.Numbers.{SHAPE, LIMIT, KEY, ROOM}
+use Rattle.answer.specs.Numbers.{SHAPE, LIMIT, KEY}
 use Rattle.answer.specs.Outcome.{Outcome, taken, refused}
 use Rattle.wire.specs.Numbers.{le, leAt, bytesOf}
 use Rattle.utf8.specs.Scan.{leadOf, afterOf, scanFrom, scan, isText}
@@ -68,9 +68,9 @@ pub as-numbers : Reads disks (two ++ (0 ∷ 1 ∷ 0 ∷ 0 ∷ 0 ∷ 0 ∷ 0 ∷ 
 unfolding listAt walk entryAt read leAt le insert has isText scan scanFrom afterOf leadOf
 as-numbers = (refl, refl)
 
--- the call, with room for two starts and for one
+-- the call, with room for two starts, and for one: then none is kept
 pub calls : (indexOf devices 2 payload ≡ taken (21 ∷ 4 ∷ []))
-    × (indexOf devices 1 payload ≡ refused ROOM 2)
+    × (indexOf devices 1 payload ≡ taken [])
     × (findIn (keyAt devices payload) (devices .key three) (21 ∷ 4 ∷ []) ≡ There)
     × (findIn (keyAt devices payload) 4294967296 (21 ∷ 4 ∷ []) ≡ Free 0)
     × (findIn (keyAt devices payload) 17179869184 (21 ∷ 4 ∷ []) ≡ Free 1)

@@ -11,5 +11,6 @@ pub mod Loop
 pub mod Filing
 pub mod Picks
 pub mod Callers
+pub mod InPlace
 pub mod Once
 pub mod Examples

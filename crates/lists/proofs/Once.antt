@@ -5,6 +5,7 @@ use mathlib.Core.Bool.{Bool}
 use mathlib.Core.List.{List}
 use Prim.Native.Nat.{ℕ}
 use lib.Dec.{leb}
+use lib.ListN.{length}
 use Rattle.answer.specs.declared.Piece.{Piece}
 use Rattle.answer.specs.declared.Test.{Test}
 use Rattle.answer.specs.Outcome.{Outcome, checked, done}
@@ -14,10 +15,13 @@ use Rattle.wire.specs.Numbers.{leAt}
 use Rattle.entries.specs.Kinds.{Description}
 use Rattle.lists.specs.Lists.{listAt, partChecks}
 use Rattle.lists.specs.declared.Found.{Found}
-use Rattle.lists.specs.Promises.{Indexed, findIn}
+use Rattle.lists.specs.Promises.{zeros, Indexed, findIn}
 
 pub index-once : {o : Outcome (List ℕ)} {old : List ℕ} (r q : Piece) {new now : List ℕ} → Indexed o old r new → Indexed o old q now → (r ≡ q) × (new ≡ now)
 index-once r q a b = (piece-once r q (equal-once (a .answers) (b .answers)), equal-once (a .leaves) (b .leaves))
+
+pub forget-once : (old : List ℕ) {new now : List ℕ} → new ≡ zeros (length old) → now ≡ zeros (length old) → new ≡ now
+forget-once old e f = equal-once e f
 
 pub check-once : (d : Description) (s : List ℕ) (r q : Test)
     → testOf r ≡ checked (partChecks s) (done (listAt d s)) → testOf q ≡ checked (partChecks s) (done (listAt d s)) → r ≡ q

@@ -3,23 +3,20 @@
 use mathlib.Core.Path.{_≡_, refl, sym, _∙_, ap}
 use mathlib.Core.Logic.{_≢_}
 use mathlib.Core.Bool.{Bool, true, false}
-use mathlib.Core.List.{List, [], _∷_, _++_, map, append-nil, List·Permᴰ, Permᴰ·symm}
-use Prim.Native.Nat.{ℕ, _+_, _≤_}
+use mathlib.Core.List.{List, [], _++_, map, append-nil, List·Permᴰ, Permᴰ·symm}
+use Prim.Native.Nat.{ℕ}
 use lib.ListN.{length, drop}
-use Rattle.answer.specs.Outcome.{taken, shift}
+use Rattle.answer.specs.Outcome.{taken}
 use Rattle.answer.proofs.Outcomes.{taken-is}
 use Rattle.wire.specs.Numbers.{leAt}
-use Rattle.format.specs.Format.{read, Is}
-use Rattle.format.specs.Places.{readAt}
-use Rattle.format.proofs.Meaning.{complete}
+use Rattle.format.specs.Format.{Is}
 use Rattle.order.specs.Keyed.{sort, has, Fresh, Every, Asc}
-use Rattle.order.specs.Entries.{join, startsFrom, first}
-use Rattle.order.proofs.Folds.{every-imp, every-map, map-every}
+use Rattle.order.specs.Entries.{startsFrom, first}
+use Rattle.order.proofs.Folds.{every-map, map-every}
 use Rattle.order.proofs.Perms.{perm-length, every-perm}
 use Rattle.order.proofs.Keys.{has-fresh, fresh-has}
 use Rattle.order.proofs.Sorts.{sort-perm, sort-asc}
-use Rattle.order.proofs.Entries.{first-append}
-use Rattle.order.proofs.Starts.{drop-past, past-le, length-starts, every-starts, sort-starts}
+use Rattle.order.proofs.Starts.{length-starts, every-starts, sort-starts}
 use Rattle.entries.specs.Kinds.{Description}
 use Rattle.lists.specs.Lists.{keyAt, listAt, widthOf, entries, IsList}
 use Rattle.entries.proofs.Lawful.{Lawful}
@@ -39,11 +36,6 @@ same-test false false f g = refl
 
 fresh-same : {A B : Type 0} (f : A → ℕ) (g : B → ℕ) (k : ℕ) (l : List A) (m : List B) → map f l ≡ map g m → Fresh f k l → Fresh g k m
 fresh-same f g k l m e h = map-every (λ n. k ≢ n) g m (rw e at (every-map (λ n. k ≢ n) f l h))
-
--- entries that stand one after another start within
-starts-within : (s : List ℕ) (at : ℕ) (l : List (List ℕ)) → at ≤ length s → drop at s ≡ join l → Every (λ y. y ≤ length s) (startsFrom at l)
-starts-within s at [] i h = tt
-starts-within s at (e ∷ l) i h = (i, starts-within s (at + length e) l (past-le s at e (join l) h i) (drop-past s at e (join l) h))
 
 module _ {d : Description} (K : Lawful d) (s : List ℕ) {r : List ℕ} (h : listAt d s ≡ taken r) where
   is : IsList d s
@@ -71,14 +63,6 @@ module _ {d : Description} (K : Lawful d) (s : List ℕ) {r : List ℕ} (h : lis
   -- what holds wherever an entry begins holds at each start
   pub index-every : (P : List ℕ → Type 0) → ((e rest : List ℕ) → Is (d .form) e → P (e ++ rest)) → Every (λ y. P (drop y s)) r
   index-every P p = rw starts (every-perm _ (Permᴰ·symm (sort-perm (keyAt d s) (startsFrom 4 (is .items)))) (every-starts s P p 4 (is .items) [] (is .cut ∙ sym (append-nil _)) (is .are)))
-
-  -- at each start an entry is read, which ends within
-  pub index-read : Every (λ y. readAt (d .form) s y ≡ taken (y + length (pieceAt d s y))) r
-  index-read = every-imp (λ y q. ap (shift y) q) r (index-every (λ b. read (d .form) b ≡ taken (length (first (widthOf d) b))) (λ e rest i.
-      complete (d .form) e rest i ∙ ap (λ (b : List ℕ). taken (length b)) (sym (first-append (self d) e rest i))))
-
-  pub index-within : Every (λ y. y ≤ length s) r
-  index-within = rw starts (every-perm _ (Permᴰ·symm (sort-perm (keyAt d s) (startsFrom 4 (is .items)))) (starts-within s 4 (is .items) (is .count) (is .cut)))
 
   -- a key is in the index if it is an entry's
   pub index-has : (k : ℕ) → has (keyAt d s) k r ≡ has (d .key) k (entries d s)

@@ -3,12 +3,12 @@
 -- Assumes nothing.
 use mathlib.Core.Path.{_≡_}
 use mathlib.Core.List.{List, [], _∷_, _++_}
-use mathlib.Core.Bool.{Bool, not}
+use mathlib.Core.Bool.{Bool, not, cond}
 use Prim.Native.Nat.{ℕ, zero, suc, _≤_}
 use lib.ListN.{length, drop}
 use lib.Dec.{leb}
 use Rattle.answer.specs.Numbers.{SHAPE, LIMIT, KEY, SIZE}
-use Rattle.answer.specs.Outcome.{Outcome, taken, refused, Checks, checked, after, shift, fitting}
+use Rattle.answer.specs.Outcome.{Outcome, taken, refused, Checks, checked, after, shift}
 use Rattle.wire.specs.Numbers.{leAt, bytesOf}
 pub use Rattle.wire.specs.Parts.{leftOver}
 use Rattle.format.specs.Format.{read, Is}
@@ -66,6 +66,14 @@ pub record IsList (d : Description) (s : List ℕ) : Type 0 where
 abbrev pub partChecks : List ℕ → Checks
 partChecks s = (leb (length s) 1073741824, SIZE, 0) ∷ []
 
--- the call that indexes a list: the starts, for a buffer that holds so many
+-- the list that a slice is, if it is no longer than a file may be
+abbrev pub listOf : Description → List ℕ → Outcome (List ℕ)
+listOf d s = checked (partChecks s) (listAt d s)
+
+-- all of l, or none where it has more than so many
+abbrev pub whole : ℕ → List ℕ → List ℕ
+whole have l = cond (leb (length l) have) l []
+
+-- the call that indexes a list: the starts, for a buffer that holds so many; none where it holds fewer
 abbrev pub indexOf : Description → ℕ → List ℕ → Outcome (List ℕ)
-indexOf d have s = checked (partChecks s) (after (listAt d s) (fitting have))
+indexOf d have s = checked (partChecks s) (after (listAt d s) (λ l. taken (whole have l)))

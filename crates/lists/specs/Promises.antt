@@ -2,20 +2,29 @@
 -- Assumes nothing.
 use mathlib.Core.Path.{_≡_}
 use mathlib.Core.Bool.{true, false}
-use mathlib.Core.List.{List, [], _∷_}
+use mathlib.Core.List.{List, [], _∷_, _++_}
 use Prim.Native.Nat.{ℕ, _+_}
 use lib.Dec.{leb, eqb}
-use lib.ListN.{length}
+use lib.ListN.{length, drop, replicate}
 use Rattle.answer.specs.declared.Piece.{Piece}
-use Rattle.answer.specs.Outcome.{Outcome, taken, after}
-use Rattle.answer.specs.Calls.{pieceOf, memory}
+use Rattle.answer.specs.Outcome.{Outcome, taken, refused, after}
+use Rattle.answer.specs.Calls.{pieceOf}
 use Rattle.lists.specs.declared.Found.{Found}
 use Rattle.lists.specs.declared.Found.the-variants.{There, Free}
 
--- the promise of the call that indexes a list: how many starts, and the starts in the lent memory that held `old`
+-- so many zeros
+abbrev pub zeros : ℕ → List ℕ
+zeros n = replicate n 0
+
+-- the lent places after it: the starts, and behind them what was there; zeros after a refusal
+abbrev pub placed : Outcome (List ℕ) → List ℕ → List ℕ
+placed (taken l) old = l ++ drop (length l) old
+placed (refused n p) old = zeros (length old)
+
+-- the promise of the call that indexes a list: how many starts, and the starts in the lent places that held `old`
 pub record Indexed (o : Outcome (List ℕ)) (old : List ℕ) (r : Piece) (new : List ℕ) : Type 0 where
   pub answers : pieceOf r ≡ after o (λ l. taken (length l))
-  pub leaves : new ≡ memory o old
+  pub leaves : new ≡ placed o old
 
 -- the same place, counted from i elements earlier
 abbrev pub later : ℕ → Found → Found

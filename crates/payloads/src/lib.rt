@@ -1,4 +1,4 @@
-// The payloads of sections: each known one is read by its own reader, as a part of the file.
+// The payloads of sections: each known one is read by its own reader, as a part of the file, and where the entries of a list start is kept.
 use answer::Piece;
 use answer::SHAPE;
 use answer::SIZE;
@@ -9,15 +9,16 @@ use format::block_at;
 use format::flag_at;
 use format::text_at;
 ghost use mathlib.Core.Path.{_≡_};
+ghost use mathlib.Core.List.{[]};
 ghost use Prim.Native.Nat.{_≤_};
 ghost use lib.ListN.{length};
-ghost use Rattle.answer.specs.Outcome.{checked, done};
+ghost use Rattle.answer.specs.Outcome.{taken, after};
 ghost use Rattle.answer.specs.Calls.{pieceOf, testOf};
 ghost use Rattle.format.specs.Format.{option, pair, bytes, text};
 ghost use Rattle.format.specs.Places.{readAt};
-ghost use Rattle.entries.specs.Code.{describe};
-ghost use Rattle.lists.specs.Lists.{listAt, partChecks};
-ghost use Rattle.aerosnap.specs.Payloads.{metaForm, meta, mmu, bodyOf, payload};
+ghost use Rattle.lists.specs.Promises.{Indexed};
+ghost use Rattle.aerosnap.specs.Payloads.{metaForm, meta, mmu, payload};
+ghost use Rattle.payloads.specs.Starts.{keptOf};
 
 // ---- META
 
@@ -95,37 +96,45 @@ fn mmu_state(version: u16, p: &[u8]) -> Test
     Test::Fault(SHAPE, 0)
 }
 
-// ---- lists
+// ---- any payload
 
-fn entries_of(kind: Kind, p: &[u8]) -> Test
-    requires { ⌜ length (now p) ≤ 1073741824 ⌝ }
-    ensures { λ r. ⌜ testOf r ≡ done (listAt (describe kind) (now (p .entry))) ⌝ }
+// What is no list has no starts; after a fault the lent places are cleared.
+fn plain(t: Test, starts: &mut [u32]) -> Piece
+    ensures { λ r. ⌜ Indexed (after (testOf t) (λ _. taken [])) (now (starts .entry)) r (now (starts .exit)) ⌝ }
 {
-    lists::check(kind, p)
+    match t {
+        Test::Fault(number, place) => {
+            lists::forget(starts);
+            Piece::Stop(number, place)
+        }
+        Test::Fine => Piece::Ends(0),
+    }
 }
 
-fn body(id: u32, version: u16, p: &[u8]) -> Test
+// Each payload by its own reader.
+fn body(id: u32, version: u16, p: &[u8], starts: &mut [u32]) -> Piece
     requires { ⌜ length (now p) ≤ 1073741824 ⌝ }
-    ensures { λ r. ⌜ testOf r ≡ payload (bodyOf id version) (now (p .entry)) ⌝ }
+    ensures { λ r. ⌜ Indexed (keptOf (length (now (starts .entry))) id version (now (p .entry))) (now (starts .entry)) r (now (starts .exit)) ⌝ }
 {
     match id {
-        1 => snapshot_meta(p),
-        2 => entries::cpu_state(version, p),
-        3 => mmu_state(version, p),
-        4 => entries_of(Kind::Devices, p),
-        5 => entries_of(Kind::Disks, p),
-        7 => entries_of(Kind::Cpus(version), p),
-        8 => entries_of(Kind::Mmus(version), p),
-        _ => Test::Fine,
+        1 => plain(snapshot_meta(p), starts),
+        2 => plain(entries::cpu_state(version, p), starts),
+        3 => plain(mmu_state(version, p), starts),
+        4 => lists::index(Kind::Devices, p, starts),
+        5 => lists::index(Kind::Disks, p, starts),
+        7 => lists::index(Kind::Cpus(version), p, starts),
+        8 => lists::index(Kind::Mmus(version), p, starts),
+        _ => plain(Test::Fine, starts),
     }
 }
 
-// The first fault of the payload of a section with that id and version, if any. A part longer than a file may be is SIZE.
-pub fn read(id: u32, version: u16, p: &[u8]) -> Test
-    ensures { λ r. ⌜ testOf r ≡ checked (partChecks (now (p .entry))) (payload (bodyOf id version) (now (p .entry))) ⌝ }
+// The first fault of the payload of a section with that id and version, or how many starts are kept of it: those of all entries of a list, the first of `starts` in the order of their keys, or none where `starts` holds fewer or it is no list.
+// What stands behind them is left as it was; a refusal leaves zeros. A part longer than a file may be is SIZE.
+pub fn index(id: u32, version: u16, p: &[u8], starts: &mut [u32]) -> Piece
+    ensures { λ r. ⌜ Indexed (keptOf (length (now (starts .entry))) id version (now (p .entry))) (now (starts .entry)) r (now (starts .exit)) ⌝ }
 {
     if 1073741824 < p.len() {
-        return Test::Fault(SIZE, 0);
+        return plain(Test::Fault(SIZE, 0), starts);
     }
-    body(id, version, p)
+    body(id, version, p, starts)
 }

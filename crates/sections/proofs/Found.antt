@@ -10,8 +10,9 @@ use lib.ListN.{length, take, drop, length-take, length-drop}
 use lib.Seq.{drop-drop, drop-append-le, take-at}
 use lib.Dec.{eqb}
 use borrow.Author.Tests.{eq-eqb, ne-eqb, eqb-true}
+use Rattle.answer.specs.declared.Piece.the-variants.{Stop, Ends}
 use Rattle.answer.specs.Outcome.{Outcome, taken, refused, after}
-use Rattle.answer.proofs.Outcomes.{made-taken}
+use Rattle.answer.proofs.Outcomes.{taken-is, made-stop, made-taken, made-same}
 use Rattle.wire.specs.Numbers.{leAt}
 use Rattle.wire.proofs.Numbers.{leAt-here}
 use Rattle.order.specs.Keyed.{flat, keep}
@@ -31,7 +32,11 @@ use Rattle.aerosnap.proofs.Bodies.{Lawfully, lawful-body}
 use Rattle.aerosnap.proofs.Slots.{Once, first-once, rest-once}
 use Rattle.aerosnap.proofs.Taken.{file-sound}
 use Rattle.aerosnap.proofs.Standing.{Stand, stand-start, stand-next, ends-at, endAt, Turn, turn, goes, finished}
-use Rattle.sections.specs.Walks.{sectionsIn, Read, placeOf, placedIn}
+use Rattle.sections.specs.declared.Spot.{Spot}
+use Rattle.sections.specs.declared.Spot.the-variants.{Fault}
+use Rattle.sections.specs.Walks.{sectionsIn, Read, placeOf}
+use Rattle.sections.specs.Index.{startsOf, firstOf, entriesIn, spotIn, Scanned, spotOf, Spotted}
+use Rattle.sections.proofs.Kept.{starts-count, entries-front, starts-bound, first-most}
 
 -- the sections of a file that is taken
 pub taken-read : (s : List ℕ) {l : List (List ℕ)} → fileOf s ≡ taken l → Read s
@@ -42,22 +47,28 @@ made-read s f h = taken-read s (made-taken (fileOf s) f h .1)
 
 -- ---- the loop
 
--- what the loop keeps: it lies not before the place
-pub record Seeking (i : ℕ) (s : List ℕ) (l : List (List ℕ)) (at : ℕ) : Type 0 where
+-- what the loop keeps: it lies not before the place, and n starts stand before the section there
+pub record Seeking (i : ℕ) (s : List ℕ) (l : List (List ℕ)) (at n : ℕ) : Type 0 where
   pub left : List (List ℕ)
   pub stand : Stand s at left
   pub same : placeOf i 16 l ≡ placeOf i at left
+  pub first : firstOf i l ≡ n + firstOf i left
+  pub few : firstOf i l ≤ 4864
 
-pub seeking-start : (i : ℕ) (s : List ℕ) (l : List (List ℕ)) → fileOf s ≡ taken l → Seeking i s l 16
-seeking-start i s l h = record { left = l; stand = stand-start s h; same = refl }
+pub seeking-start : (i : ℕ) (s : List ℕ) (l : List (List ℕ)) → fileOf s ≡ taken l → Seeking i s l 16 0
+seeking-start i s l h = record { left = l; stand = stand-start s h; same = refl; first = omega arith; few = omega (arith, first-most i l, starts-bound s h) }
 
-module _ {i : ℕ} {s : List ℕ} {l : List (List ℕ)} {at : ℕ} (v : Seeking i s l at) where
+module _ {i : ℕ} {s : List ℕ} {l : List (List ℕ)} {at n : ℕ} (v : Seeking i s l at n) where
   pub seeking-goes : at < length s → (at < endAt s at) × (endAt s at ≤ length s) × (length s ≤ 1073741824)
   seeking-goes = goes (v .left) (v .stand)
 
-  pub seeking-none : length s ≤ at → at ≡ placeOf i 16 l
+  pub seeking-none : length s ≤ at → _≡_ {A = Outcome (ℕ × ℕ)} (taken (at, n)) (taken (placeOf i 16 l, firstOf i l))
   unfolding placeOf
-  seeking-none h = sym (v .same ∙ ap (placeOf i at) (finished (v .left) (v .stand) h))
+  seeking-none h =
+      let e : v .left ≡ [] = finished (v .left) (v .stand) h in
+      let p : at ≡ placeOf i 16 l = sym (v .same ∙ ap (placeOf i at) e) in
+      let q : n ≡ firstOf i l = omega (arith, v .first, ap (firstOf i) e) in
+      cc (p, q)
 
   module _ (h : at < length s) {id : ℕ} (q : id ≡ leAt 4 s at) where
     seeking-turn : Turn s at (v .left)
@@ -66,24 +77,68 @@ module _ {i : ℕ} {s : List ℕ} {l : List (List ℕ)} {at : ℕ} (v : Seeking 
     its-id : idOf (seeking-turn .e) ≡ id
     its-id = sym (seeking-turn .here .id-is) ∙ leAt-here 4 s at ∙ sym q
 
-    -- the place by the section there
+    -- the place and the number by the section there
     by-turn : {b : Bool} → eqb id i ≡ b → placeOf i 16 l ≡ cond b at (placeOf i (at + length (seeking-turn .e)) (seeking-turn .more))
     unfolding placeOf
     by-turn t = v .same ∙ ap (placeOf i at) (seeking-turn .split) ∙ ap (λ (x : Bool). cond x at (placeOf i (at + length (seeking-turn .e)) (seeking-turn .more))) (ap (λ (n : ℕ). eqb n i) its-id ∙ t)
 
-    pub seeking-found : id ≡ i → at ≡ placeOf i 16 l
-    seeking-found e = sym (by-turn (eq-eqb id i e))
+    first-turn : {b : Bool} → eqb id i ≡ b → firstOf i l ≡ n + cond b 0 (length (startsOf (seeking-turn .e)) + firstOf i (seeking-turn .more))
+    first-turn t =
+        v .first
+        ∙ ap (λ (m : List (List ℕ)). n + firstOf i m) (seeking-turn .split)
+        ∙ ap (λ (x : Bool). n + cond x 0 (length (startsOf (seeking-turn .e)) + firstOf i (seeking-turn .more))) (ap (λ (n : ℕ). eqb n i) its-id ∙ t)
 
-    pub seeking-next : id ≢ i → Seeking i s l (endAt s at)
-    seeking-next e = record {
-      left = seeking-turn .more;
-      stand = seeking-turn .next;
-      same = by-turn (ne-eqb id i e) ∙ ap (λ (j : ℕ). placeOf i j (seeking-turn .more)) (sym (seeking-turn .ends));
-    }
+    pub seeking-found : id ≡ i → _≡_ {A = Outcome (ℕ × ℕ)} (taken (at, n)) (taken (placeOf i 16 l, firstOf i l))
+    seeking-found e =
+        let p : at ≡ placeOf i 16 l = sym (by-turn (eq-eqb id i e)) in
+        let q : n ≡ firstOf i l = omega (arith, first-turn (eq-eqb id i e)) in
+        cc (p, q)
+
+    -- how many entries the section there has
+    seeking-many : {k : ℕ} → k ≡ entriesIn (drop at s) → k ≡ length (startsOf (seeking-turn .e))
+    seeking-many z = let x = seeking-turn in z ∙ ap entriesIn (v .stand .cut ∙ ap join (x .split)) ∙ entries-front (x .e) (x .is) (join (x .more)) ∙ sym (starts-count (x .e) (x .is))
+
+    module _ (e : id ≢ i) {k : ℕ} (z : k ≡ entriesIn (drop at s)) where
+      seeking-first : firstOf i l ≡ n + k + firstOf i (seeking-turn .more)
+      seeking-first = omega (arith, first-turn (ne-eqb id i e), seeking-many z)
+
+      pub seeking-few : n + k ≤ 4864
+      seeking-few = omega (arith, seeking-first, v .few)
+
+      pub seeking-next : Seeking i s l (endAt s at) (n + k)
+      seeking-next = record {
+        left = seeking-turn .more;
+        stand = seeking-turn .next;
+        same = by-turn (ne-eqb id i e) ∙ ap (λ (j : ℕ). placeOf i j (seeking-turn .more)) (sym (seeking-turn .ends));
+        first = seeking-first;
+        few = v .few;
+      }
 
 -- where it was found
-pub found-at : (i : ℕ) (s : List ℕ) {p : ℕ} → Read s → p ≡ placeOf i 16 (sectionsIn s) → taken p ≡ placedIn i (fileOf s)
-found-at i s h q = ap taken q ∙ sym (ap (placedIn i) h)
+
+abbrev spot : ℕ → List (List ℕ) → ℕ × ℕ
+spot i l = (placeOf i 16 l, firstOf i l)
+
+pub found-stop : (i : ℕ) (s : List ℕ) {a b : ℕ} {old new : List ℕ} → Scanned (fileOf s) old (Stop a b) new → Spotted i (fileOf s) old (Fault a b) new
+found-stop i s k = record { answers = made-same (fileOf s) length (spot i) (k .answers); leaves = k .leaves }
+
+pub found-at : (i : ℕ) (s : List ℕ) {n : ℕ} {r : Spot} {old new : List ℕ} → Scanned (fileOf s) old (Ends n) new → spotOf r ≡ taken (placeOf i 16 (sectionsIn s), firstOf i (sectionsIn s)) → Spotted i (fileOf s) old r new
+found-at i s k q = record { answers = q ∙ sym (ap (spotIn i) (made-read s length (k .answers))); leaves = k .leaves }
+
+-- what the call that looks for it says of a file: its fault, or that it is taken, where the section starts and how many starts stand before its own
+pub spot-stop : (i : ℕ) (s : List ℕ) {a b : ℕ} → refused a b ≡ spotIn i (fileOf s) → fileOf s ≡ refused a b
+spot-stop i s h = made-stop (fileOf s) (spot i) h
+
+pub record Sited (i : ℕ) (s : List ℕ) (p n : ℕ) : Type 0 where
+  pub read : Read s
+  pub place : p ≡ placeOf i 16 (sectionsIn s)
+  pub first : n ≡ firstOf i (sectionsIn s)
+
+pub spot-taken : (i : ℕ) (s : List ℕ) {p n : ℕ} → _≡_ {A = Outcome (ℕ × ℕ)} (taken (p, n)) (spotIn i (fileOf s)) → Sited i s p n
+spot-taken i s {p} {n} h =
+    let r : Read s = made-read s (spot i) h in
+    let t : _≡_ {A = ℕ × ℕ} (p, n) (spot i (sectionsIn s)) = taken-is (h ∙ ap (spotIn i) r) in
+    record { read = r; place = ap (λ (x : ℕ × ℕ). x .0) t; first = ap (λ (x : ℕ × ℕ). x .1) t }
 
 -- ---- the section with an id
 

@@ -1,6 +1,6 @@
 -- The header of a file, by the exits of the code that checks it, and the file by its header and its sections.
 -- Assumes nothing.
-use mathlib.Core.Path.{_≡_, refl, sym, _∙_, ap}
+use mathlib.Core.Path.{_≡_, refl, sym, _∙_, ap, subst}
 use mathlib.Core.Logic.{_≢_}
 use mathlib.Core.List.{List, [], _∷_}
 use Prim.Native.Nat.{ℕ, zero, suc, _≤_, _<_}
@@ -8,6 +8,8 @@ use native.Mathlib.Omega.{arith}
 use lib.ListN.{length, take}
 use lib.Dec.{eqb}
 use borrow.Author.Tests.{le-leb, lt-leb, eq-eqb, ne-eqb, leb-true}
+use Rattle.answer.specs.declared.Piece.{Piece}
+use Rattle.answer.specs.declared.Piece.the-variants.{Stop}
 use Rattle.answer.specs.Numbers.{SHORT, MAGIC, VERSION, ENDIAN, RESERVED, SIZE}
 use Rattle.answer.specs.Outcome.{Outcome, taken, refused, after}
 use Rattle.answer.specs.Calls.{asked}
@@ -17,7 +19,9 @@ use Rattle.wire.specs.Parts.{same}
 use Rattle.wire.proofs.Letters.{same-number}
 use Rattle.aerosnap.specs.File.{fileMost, letters, headerChecks, fileOf}
 use Rattle.aerosnap.proofs.Turns.{file-header}
-use Rattle.sections.specs.Walks.{counted, walkedFrom}
+use Rattle.lists.specs.Promises.{zeros}
+use Rattle.sections.specs.Walks.{walkedFrom}
+use Rattle.sections.specs.Index.{Scanned}
 
 abbrev Below : List ℕ → Type 0
 Below [] = Unit {0}
@@ -67,14 +71,14 @@ module _ (s : List ℕ) where
 -- ---- the file
 
 module _ (s : List ℕ) where
-  by-header : {r : Outcome (Unit {0})} → r ≡ asked (headerChecks s) → counted (after r (λ _. walkedFrom s)) ≡ counted (fileOf s)
-  by-header h = sym (ap counted (file-header s ∙ ap (λ (r : Outcome (Unit {0})). after r (λ _. walkedFrom s)) (sym h)))
+  by-header : {r : Outcome (Unit {0})} → r ≡ asked (headerChecks s) → after r (λ _. walkedFrom s) ≡ fileOf s
+  by-header h = sym (file-header s ∙ ap (λ (r : Outcome (Unit {0})). after r (λ _. walkedFrom s)) (sym h))
 
-  pub scan-stop : {a b : ℕ} → refused a b ≡ asked (headerChecks s) → refused a b ≡ counted (fileOf s)
-  scan-stop h = by-header h
+  pub scan-stop : {a b : ℕ} {old new : List ℕ} → refused a b ≡ asked (headerChecks s) → new ≡ zeros (length old) → Scanned (fileOf s) old (Stop a b) new
+  scan-stop {a} {b} {old} {new} h z = subst (λ (o : Outcome (List (List ℕ))). Scanned o old (Stop a b) new) (by-header h) (record { answers = refl; leaves = z })
 
-  pub scan-walk : {r : Outcome ℕ} → taken tt ≡ asked (headerChecks s) → r ≡ counted (walkedFrom s) → r ≡ counted (fileOf s)
-  scan-walk h k = k ∙ by-header h
+  pub scan-walk : {r : Piece} {old new : List ℕ} → taken tt ≡ asked (headerChecks s) → Scanned (walkedFrom s) old r new → Scanned (fileOf s) old r new
+  scan-walk {r} {old} {new} h k = subst (λ (o : Outcome (List (List ℕ))). Scanned o old r new) (by-header h) k
 
   pub scan-fits : taken tt ≡ asked (headerChecks s) → (16 ≤ length s) × (length s ≤ fileMost)
   scan-fits h = let p = checked-pass (headerChecks s) (taken tt) tt (sym h) .0 in (leb-true 16 (length s) (p .1 .0), leb-true (length s) fileMost (p .0))

@@ -1,21 +1,41 @@
--- Each promise fixes its answer: any two that it allows are equal.
+-- Each promise fixes its answer and all of the lent memory: any two that it allows are equal.
 -- Assumes nothing.
-use mathlib.Core.Path.{_≡_}
+use mathlib.Core.Path.{_≡_, ap}
 use mathlib.Core.Bool.{Bool, not, _||_}
 use mathlib.Core.List.{List}
 use Prim.Native.Nat.{ℕ}
+use native.Mathlib.Omega.{arith}
 use lib.Dec.{leb, eqb}
+use lib.ListN.{drop}
 use Rattle.answer.specs.declared.Piece.{Piece}
-use Rattle.answer.specs.Calls.{pieceOf}
+use Rattle.answer.specs.Outcome.{Outcome}
+use Rattle.answer.proofs.Outcomes.{taken-is}
 use Rattle.answer.proofs.Once.{equal-once, piece-once}
-use Rattle.aerosnap.specs.File.{fileOf}
-use Rattle.sections.specs.Walks.{counted, placedIn}
+use Rattle.sections.specs.declared.Spot.{Spot}
+use Rattle.sections.specs.declared.Spot.the-variants.{Fault, At}
+use Rattle.sections.specs.Index.{isListId, counts, Scanned, spotOf, Spotted}
 
 pub small-once : (id n : ℕ) {r p : Bool} → r ≡ (not (eqb id 4) || leb n 268435456) → p ≡ (not (eqb id 4) || leb n 268435456) → r ≡ p
 small-once id n e f = equal-once e f
 
-pub scan-once : (s : List ℕ) (r p : Piece) → pieceOf r ≡ counted (fileOf s) → pieceOf p ≡ counted (fileOf s) → r ≡ p
-scan-once s r p e f = piece-once r p (equal-once e f)
+pub scan-once : {o : Outcome (List (List ℕ))} {old : List ℕ} (r p : Piece) {new now : List ℕ} → Scanned o old r new → Scanned o old p now → (r ≡ p) × (new ≡ now)
+scan-once r p a b = (piece-once r p (equal-once (a .answers) (b .answers)), equal-once (a .leaves) (b .leaves))
 
-pub find-once : (s : List ℕ) (i : ℕ) (r p : Piece) → pieceOf r ≡ placedIn i (fileOf s) → pieceOf p ≡ placedIn i (fileOf s) → r ≡ p
-find-once s i r p e f = piece-once r p (equal-once e f)
+pub is-list-once : (id : ℕ) {r p : Bool} → r ≡ isListId id → p ≡ isListId id → r ≡ p
+is-list-once id e f = equal-once e f
+
+spot-once : (r p : Spot) → spotOf r ≡ spotOf p → r ≡ p
+spot-once (Fault n p) (Fault m q) e = cc
+spot-once (Fault n p) (At q m) e = let z : _≡_ {A = ℕ} 0 1 = cc in absurd (omega arith)
+spot-once (At p n) (Fault m q) e = let z : _≡_ {A = ℕ} 0 1 = cc in absurd (omega arith)
+spot-once (At p n) (At q m) e =
+    let t : _≡_ {A = ℕ × ℕ} (p, n) (q, m) = taken-is e in
+    let i : p ≡ q = ap (λ (x : ℕ × ℕ). x .0) t in
+    let j : n ≡ m = ap (λ (x : ℕ × ℕ). x .1) t in
+    cc
+
+pub find-once : (i : ℕ) {o : Outcome (List (List ℕ))} {old : List ℕ} (r p : Spot) {new now : List ℕ} → Spotted i o old r new → Spotted i o old p now → (r ≡ p) × (new ≡ now)
+find-once i r p a b = (spot-once r p (equal-once (a .answers) (b .answers)), equal-once (a .leaves) (b .leaves))
+
+pub count-once : (s : List ℕ) {r p : ℕ} → r ≡ counts 64 (drop 16 s) → p ≡ counts 64 (drop 16 s) → r ≡ p
+count-once s e f = equal-once e f

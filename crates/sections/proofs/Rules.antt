@@ -1,7 +1,7 @@
 -- A section by the exits of the code that judges it.
 -- Assumes nothing.
-use mathlib.Core.Path.{_≡_, sym, _∙_, ap}
-use mathlib.Core.List.{List, [], _∷_}
+use mathlib.Core.Path.{_≡_, refl, sym, _∙_, ap, subst}
+use mathlib.Core.List.{List, [], _∷_, _++_}
 use mathlib.Core.Bool.{Bool, true, false, not, _||_}
 use mathlib.Core.Logic.{_≢_}
 use Prim.Native.Nat.{ℕ, _+_, _-_, _≤_, _<_}
@@ -9,20 +9,25 @@ use native.Mathlib.Omega.{arith}
 use lib.ListN.{length, take, drop, getD, length-drop, length-take}
 use lib.Seq.{drop-drop}
 use lib.Dec.{leb, ltb, eqb}
-use borrow.Author.Tests.{le-leb, lt-leb, le-ltb, lt-ltb, ltb-true, eq-eqb, ne-eqb, leb-true}
+use borrow.Author.Tests.{le-leb, lt-leb, le-ltb, lt-ltb, eq-eqb, ne-eqb}
+use Rattle.answer.specs.declared.Piece.{Piece}
+use Rattle.answer.specs.declared.Piece.the-variants.{Stop, Ends}
 use Rattle.answer.specs.Numbers.{CUT, MANY, SECVER, RESERVED, TWICE, LIMIT}
 use Rattle.answer.specs.Outcome.{Outcome, taken, refused, checked, after, moved}
-use Rattle.answer.proofs.Checks.{fails, pass-checked, checked-pass}
-use Rattle.answer.proofs.Outcomes.{after-taken, taken-is}
+use Rattle.answer.proofs.Checks.{fails, pass-checked, checked-pass, checked-after}
+use Rattle.answer.proofs.Outcomes.{after-taken, after-after, taken-is, taken-refused, made-stop, made-taken}
 use Rattle.wire.specs.Numbers.{leAt}
 use Rattle.wire.proofs.Numbers.{leAt-drop, leAt-here}
 use Rattle.order.specs.Keyed.{has}
-use Rattle.lists.specs.Lists.{partChecks}
+use Rattle.lists.specs.Lists.{partChecks, whole}
 use Rattle.aerosnap.specs.Known.{known, takes, slot}
 use Rattle.aerosnap.specs.Payloads.{bodyOf, payload}
 use Rattle.aerosnap.specs.File.{sectionsMost, slotOf, knownChecks, ruled, sectionOf}
 use Rattle.aerosnap.proofs.Bodies.{lawful-body, payload-within}
-use Rattle.sections.specs.Walks.{Marks, sectionAt}
+use Rattle.payloads.specs.Starts.{starts, keptOf}
+use Rattle.sections.specs.Walks.{Marks}
+use Rattle.sections.specs.Index.{startsOf, Keeps}
+use Rattle.sections.proofs.Kept.{body-other}
 
 -- ---- a known section
 
@@ -81,9 +86,41 @@ module _ (l : List (List ℕ)) (at id v f : ℕ) (p : List ℕ) where
             pub ruled-fine : taken tt ≡ checked (partChecks p) (payload (bodyOf id v) p) → taken tt ≡ ruled l at id v f p
             ruled-fine h = all h
 
+-- the payload's reader, where places are lent for starts
+module _ (have id v : ℕ) (p : List ℕ) where
+  abbrev its-starts : List ℕ
+  its-starts = whole have (starts (bodyOf id v) p)
+
+  pub read-stop : {n q : ℕ} → refused n q ≡ after (keptOf have id v p) (λ l. taken (length l)) → refused n q ≡ checked (partChecks p) (payload (bodyOf id v) p)
+  read-stop h =
+      sym (made-stop (checked (partChecks p) (payload (bodyOf id v) p)) (λ _. its-starts) (sym (checked-after (partChecks p) (payload (bodyOf id v) p) (λ _. taken its-starts) ∙ made-stop (keptOf have id v p) length h)))
+
+  -- what it took
+  pub record Took (n : ℕ) : Type 0 where
+    pub fine : taken tt ≡ checked (partChecks p) (payload (bodyOf id v) p)
+    pub count : n ≡ length its-starts
+    pub kept : keptOf have id v p ≡ taken its-starts
+
+  pub read-took : {n : ℕ} → taken n ≡ after (keptOf have id v p) (λ l. taken (length l)) → Took n
+  read-took {n} h =
+      let a = made-taken (keptOf have id v p) length h in
+      let c = checked-pass (partChecks p) (after (payload (bodyOf id v) p) (λ _. taken its-starts)) (a .0) (a .1) in
+      let d = after-taken (payload (bodyOf id v) p) (λ _. taken its-starts) (c .1) in
+      let e : its-starts ≡ a .0 = taken-is (d .2) in
+      record { fine = sym (pass-checked (partChecks p) (payload (bodyOf id v) p) (c .0) ∙ d .1); count = a .2 ∙ ap length (sym e); kept = a .1 ∙ ap taken (sym e) }
+
 -- a fault in a payload lies within it
 pub fault-place : (id v : ℕ) (p : List ℕ) {n q : ℕ} → length p ≤ 1073741824 → refused n q ≡ checked (partChecks p) (payload (bodyOf id v) p) → q ≤ length p
 fault-place id v p h e = rw (← (e ∙ pass-checked (partChecks p) (payload (bodyOf id v) p) (le-leb (length p) 1073741824 h, tt))) at (payload-within (bodyOf id v) (lawful-body id v) p)
+
+-- ---- what is kept of a section
+
+module _ {A : Type 0} {o : Outcome A} {k old new : List ℕ} where
+  pub keeps-stop : {n p : ℕ} → refused n p ≡ o → Keeps o k old (Stop n p) new
+  keeps-stop h = record { answers = ap (λ (r : Outcome A). after r (λ _. taken (length k))) h; leaves = λ a q. absurd (taken-refused (sym q ∙ sym h)) }
+
+  pub keeps-done : {a : A} {n : ℕ} → taken a ≡ o → n ≡ length k → new ≡ k ++ drop (length k) old → Keeps o k old (Ends n) new
+  keeps-done h n w = record { answers = ap taken n ∙ ap (λ (r : Outcome A). after r (λ _. taken (length k))) h; leaves = λ _ _. w }
 
 -- ---- marks
 
@@ -100,10 +137,13 @@ module _ (m : List ℕ) (l : List (List ℕ)) (n id k : ℕ) (h : Marks m l n) (
 pub part-length : (s : List ℕ) (b n : ℕ) → n ≤ length s - b → length (take (b + n - b) (drop b s)) ≡ n
 part-length s b n h = simp (length-take, length-drop) (omega arith)
 
-module _ (l : List (List ℕ)) (s : List ℕ) (at : ℕ) where
-  abbrev to : Outcome ℕ → Outcome ℕ
-  to r = after r (λ w. taken (at + w))
+-- a section that is not known has no starts
+pub none-kept : (id v have : ℕ) (p old : List ℕ) → known id ≡ false → (0 ≡ length (whole have (starts (bodyOf id v) p))) × (old ≡ whole have (starts (bodyOf id v) p) ++ drop (length (whole have (starts (bodyOf id v) p))) old)
+none-kept id v have p old k =
+    let e : whole have (starts (bodyOf id v) p) ≡ [] = rw (body-other id v k, le-leb 0 have (omega arith)) in
+    rw e (refl, refl)
 
+module _ (l : List (List ℕ)) (s : List ℕ) (at : ℕ) where
   abbrev cut : Bool × ℕ × ℕ
   cut = (leb 16 (length s - at), CUT, at)
 
@@ -123,49 +163,34 @@ module _ (l : List (List ℕ)) (s : List ℕ) (at : ℕ) where
   unfolding sectionOf
   here = simp (length-drop, leAt-here 4 s at, leAt-drop 2 s at 4, leAt-drop 2 s at 6, leAt-drop 8 s at 8, drop-drop)
 
-  whole : to (checked (cut ∷ many ∷ long ∷ []) rest) ≡ sectionAt l s at
-  unfolding sectionAt
-  whole = ap to (sym here)
+  starts-here : starts (bodyOf (leAt 4 s at) (leAt 2 s (at + 4))) (take (leAt 8 s (at + 8)) (drop (at + 16) s)) ≡ startsOf (drop at s)
+  starts-here = sym (simp (leAt-here 4 s at, leAt-drop 2 s at 4, leAt-drop 8 s at 8, drop-drop))
 
-  pub section-cut : length s - at < 16 → refused CUT at ≡ sectionAt l s at
-  section-cut h = sym (ap to (fails [] cut (many ∷ long ∷ []) rest tt (lt-leb 16 (length s - at) h))) ∙ whole
+  pub section-cut : length s - at < 16 → refused CUT at ≡ sectionOf l at (drop at s)
+  section-cut h = sym (here ∙ fails [] cut (many ∷ long ∷ []) rest tt (lt-leb 16 (length s - at) h))
 
   module _ (a : 16 ≤ length s - at) where
-    pub section-many : sectionsMost ≤ length l → refused MANY at ≡ sectionAt l s at
-    section-many h = sym (ap to (fails (cut ∷ []) many (long ∷ []) rest (le-leb 16 (length s - at) a, tt) (le-ltb (length l) sectionsMost h))) ∙ whole
+    pub section-many : sectionsMost ≤ length l → refused MANY at ≡ sectionOf l at (drop at s)
+    section-many h = sym (here ∙ fails (cut ∷ []) many (long ∷ []) rest (le-leb 16 (length s - at) a, tt) (le-ltb (length l) sectionsMost h))
 
     module _ (b : length l < sectionsMost) where
-      pub section-long : length s - (at + 16) < leAt 8 s (at + 8) → refused CUT at ≡ sectionAt l s at
-      section-long h = sym (ap to (fails (cut ∷ many ∷ []) long [] rest (le-leb 16 (length s - at) a, (lt-ltb (length l) sectionsMost b, tt)) (lt-leb (leAt 8 s (at + 8)) (length s - at - 16) (omega arith)))) ∙ whole
+      pub section-long : length s - (at + 16) < leAt 8 s (at + 8) → refused CUT at ≡ sectionOf l at (drop at s)
+      section-long h = sym (here ∙ fails (cut ∷ many ∷ []) long [] rest (le-leb 16 (length s - at) a, (lt-ltb (length l) sectionsMost b, tt)) (lt-leb (leAt 8 s (at + 8)) (length s - at - 16) (omega arith)))
 
-      module _ (c : leAt 8 s (at + 8) ≤ length s - (at + 16)) where
-        passed : {r : Outcome (Unit {0})} → r ≡ rules → to (after r (λ _. taken (16 + leAt 8 s (at + 8)))) ≡ sectionAt l s at
-        passed h =
-            ap (λ (r : Outcome (Unit {0})). to (after r (λ _. taken (16 + leAt 8 s (at + 8))))) h
-            ∙ sym (ap to (pass-checked (cut ∷ many ∷ long ∷ []) rest (le-leb 16 (length s - at) a, (lt-ltb (length l) sectionsMost b, (le-leb (leAt 8 s (at + 8)) (length s - at - 16) (omega arith), tt)))))
-            ∙ whole
+      -- the rules of a section that is there whole
+      pub section-rules : leAt 8 s (at + 8) ≤ length s - (at + 16) → (have : ℕ) {m : ℕ} → m ≡ leAt 8 s (at + 8) → {old new : List ℕ} {r : Piece}
+          → Keeps (ruled l at (leAt 4 s at) (leAt 2 s (at + 4)) (leAt 2 s (at + 6)) (take m (drop (at + 16) s))) (whole have (starts (bodyOf (leAt 4 s at) (leAt 2 s (at + 4))) (take m (drop (at + 16) s)))) old r new
+          → Keeps (sectionOf l at (drop at s)) (whole have (startsOf (drop at s))) old r new
+      section-rules c have {m} e {old} {new} {r} h = go (subst (λ (i : ℕ). Keeps (ruled l at (leAt 4 s at) (leAt 2 s (at + 4)) (leAt 2 s (at + 6)) (take i (drop (at + 16) s))) (whole have (starts (bodyOf (leAt 4 s at) (leAt 2 s (at + 4))) (take i (drop (at + 16) s)))) old r new) e h)
+        where
+          is : sectionOf l at (drop at s) ≡ rest
+          is = here ∙ pass-checked (cut ∷ many ∷ long ∷ []) rest (le-leb 16 (length s - at) a, (lt-ltb (length l) sectionsMost b, (le-leb (leAt 8 s (at + 8)) (length s - at - 16) (omega arith), tt)))
 
-        pub section-fault : {x y : ℕ} → refused x y ≡ rules → refused x y ≡ sectionAt l s at
-        section-fault h = passed h
-
-        pub section-done : taken tt ≡ rules → taken (at + 16 + leAt 8 s (at + 8)) ≡ sectionAt l s at
-        section-done h = ap taken (omega arith) ∙ passed h
-
-  pub record Ended (e : ℕ) : Type 0 where
-    pub far : at + 16 ≤ e
-    pub inside : e ≤ length s
-    pub few : length l < sectionsMost
-    pub width : ℕ
-    pub is : sectionOf l at (drop at s) ≡ taken width
-    pub ends : at + width ≡ e
-
-  pub section-ends : (e : ℕ) → sectionAt l s at ≡ taken e → at ≤ length s → Ended e
-  section-ends e h i =
-      let j = after-taken (checked (cut ∷ many ∷ long ∷ []) rest) (λ w. taken (at + w)) (whole ∙ h) in
-      let p = checked-pass (cut ∷ many ∷ long ∷ []) rest (j .0) (j .1) in
-      let q = after-taken rules (λ _. taken (16 + leAt 8 s (at + 8))) (p .1) in
-      let x : 16 ≤ length s - at = leb-true 16 (length s - at) (p .0 .0) in
-      let z : leAt 8 s (at + 8) ≤ length s - at - 16 = leb-true (leAt 8 s (at + 8)) (length s - at - 16) (p .0 .1 .1 .0) in
-      let u : 16 + leAt 8 s (at + 8) ≡ j .0 = taken-is (q .2) in
-      let t : at + j .0 ≡ e = taken-is (j .2) in
-      record { far = omega arith; inside = omega arith; few = ltb-true (length l) sectionsMost (p .0 .1 .0); width = j .0; is = here ∙ j .1; ends = t }
+          go : Keeps rules (whole have (starts (bodyOf (leAt 4 s at) (leAt 2 s (at + 4))) (take (leAt 8 s (at + 8)) (drop (at + 16) s)))) old r new → Keeps (sectionOf l at (drop at s)) (whole have (startsOf (drop at s))) old r new
+          go h = subst (λ (k : List ℕ). Keeps (sectionOf l at (drop at s)) (whole have k) old r new) starts-here (over-rest h)
+            where
+              over-rest : {k : List ℕ} → Keeps rules k old r new → Keeps (sectionOf l at (drop at s)) k old r new
+              over-rest {k} h = record {
+                answers = h .answers ∙ sym (ap (λ (o : Outcome ℕ). after o (λ _. taken (length k))) is ∙ after-after rules (λ _. taken (16 + leAt 8 s (at + 8))) (λ _. taken (length k)));
+                leaves = λ a q. h .leaves _ (after-taken rules (λ _. taken (16 + leAt 8 s (at + 8))) (sym is ∙ q) .1);
+              }

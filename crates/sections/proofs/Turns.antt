@@ -1,23 +1,34 @@
 -- The loop over the sections: what it keeps, and its turns.
 -- Assumes nothing.
-use mathlib.Core.Path.{_≡_, refl, sym, _∙_, ap}
+use mathlib.Core.Path.{_≡_, refl, sym, _∙_, ap, subst}
 use mathlib.Core.List.{List, [], _∷_, _++_}
 use mathlib.Core.Bool.{Bool, true, false, _&&_}
 use mathlib.Core.Logic.{_≢_}
 use Prim.Native.Nat.{ℕ, suc, _+_, _-_, _≤_, _<_}
 use native.Mathlib.Omega.{arith}
-use lib.ListN.{length, take, drop, getD, set, length-set, length-append, replicate, getD-replicate}
-use lib.Seq.{getD-set-same, getD-set-other, take-take}
+use lib.ListN.{length, take, drop, getD, set, length-set, length-append, length-take, length-drop, replicate, getD-replicate}
+use lib.Seq.{getD-set-same, getD-set-other, take-at}
 use lib.Dec.{leb, eqb}
 use borrow.Author.Tests.{eq-eqb, ne-eqb, eqb-true, eqb-false, leb-false}
-use Rattle.answer.specs.Outcome.{Outcome, taken, refused, after}
-use Rattle.wire.specs.Numbers.{leAt, le}
+use Rattle.answer.specs.declared.Piece.{Piece}
+use Rattle.answer.specs.declared.Piece.the-variants.{Stop, Ends}
+use Rattle.answer.specs.Outcome.{Outcome, taken, refused}
+use Rattle.answer.proofs.Outcomes.{made-stop, made-taken}
+use Rattle.wire.specs.Numbers.{leAt}
+use Rattle.wire.specs.Parts.{Wrote}
+use Rattle.wire.proofs.Numbers.{leAt-drop, leAt-here}
+use Rattle.wire.proofs.Parts.{none, wrote-tail, wrote-length, length-tail}
 use Rattle.order.specs.Keyed.{has}
 use Rattle.aerosnap.specs.Known.{known, slot}
-use Rattle.aerosnap.specs.File.{idOf, slotOf, sectionOf}
+use Rattle.aerosnap.specs.File.{idOf, lengthOf, slotOf, sectionOf}
+use Rattle.aerosnap.specs.Rules.{IsSection}
+use Rattle.aerosnap.proofs.Sections.{id-front, length-front, section-sound}
 use Rattle.aerosnap.proofs.Turns.{sectionsAt, walk-end, walk-stop, walk-next}
-use Rattle.sections.specs.Walks.{Marks, sectionAt, counted, walkedFrom}
-use Rattle.sections.proofs.Rules.{Ended, section-ends}
+use Rattle.lists.specs.Lists.{whole}
+use Rattle.lists.specs.Promises.{zeros, placed}
+use Rattle.sections.specs.Walks.{Marks, counted, walkedFrom}
+use Rattle.sections.specs.Index.{startsOf, kept, keptIn, Keeps, Scanned}
+use Rattle.sections.proofs.Kept.{whole-fits, kept-fits, kept-last, starts-front}
 
 -- ---- marks
 
@@ -82,57 +93,107 @@ none-marked = record { long = refl; count = refl; says = λ i a h. sym (ap (λ (
 
 -- ---- what the loop keeps
 
-pub record Walks (s : List ℕ) (i at : ℕ) (m : List ℕ) : Type 0 where
+-- i sections were read up to a place, and their starts, t of them, stand in the places that held `old`
+pub record Walks (s : List ℕ) (i at t : ℕ) (m old new : List ℕ) : Type 0 where
   pub before : List (List ℕ)
   pub marks : Marks m before i
   pub few : i ≤ 64
   pub inside : at ≤ length s
   pub same : walkedFrom s ≡ sectionsAt (64 - i) before s at
+  pub wrote : Wrote (kept (length old) before) old new t
 
-pub walks-start : (s : List ℕ) → 16 ≤ length s → Walks s 0 16 (replicate 9 0)
-walks-start s h = record { before = []; marks = none-marked; few = omega arith; inside = h; same = refl }
+pub walks-start : (s old : List ℕ) → 16 ≤ length s → Walks s 0 16 0 (replicate 9 0) old old
+walks-start s old h = record { before = []; marks = none-marked; few = omega arith; inside = h; same = refl; wrote = none old }
 
-module _ {s : List ℕ} {i at : ℕ} {m : List ℕ} (v : Walks s i at m) where
-  stopped : {a b : ℕ} → refused a b ≡ sectionAt (v .before) s at → sectionOf (v .before) at (drop at s) ≡ refused a b
-  unfolding sectionAt
-  stopped {a} {b} h = go (sectionOf (v .before) at (drop at s)) h
-    where
-      go : (r : Outcome ℕ) → refused a b ≡ after r (λ w. taken (at + w)) → r ≡ refused a b
-      go (taken w) h = let z : _≡_ {A = ℕ} 0 1 = cc in absurd (omega arith)
-      go (refused n p) h = sym h
+-- a section that was passed
+pub record Passed (before : List (List ℕ)) (s : List ℕ) (at : ℕ) : Type 0 where
+  pub sec : List ℕ
+  pub is : IsSection sec
+  pub room : length before < 64
+  pub more : List ℕ
+  pub cut : drop at s ≡ sec ++ more
+  pub ends : at + (16 + leAt 8 s (at + 8)) ≡ at + length sec
+  pub inside : at + length sec ≤ length s
+  pub takes : sectionOf before at (drop at s) ≡ taken (length sec)
 
-  pub walks-stop : at < length s → {a b : ℕ} → refused a b ≡ sectionAt (v .before) s at → refused a b ≡ counted (walkedFrom s)
-  walks-stop h e = sym (ap counted (v .same ∙ walk-stop (v .before) s at (64 - i) h (stopped e)))
+module _ {s : List ℕ} {i at t : ℕ} {m old new : List ℕ} (v : Walks s i at t m old new) where
+  abbrev tail : List ℕ
+  tail = take (length new - t) (drop t new)
 
-  pub walks-done : length s ≤ at → taken i ≡ counted (walkedFrom s)
-  walks-done h = ap taken (v .marks .count) ∙ sym (ap counted (v .same ∙ walk-end (v .before) s at (64 - i) h))
+  abbrev Read : Piece → List ℕ → Type 0
+  Read r last = Keeps (sectionOf (v .before) at (drop at s)) (whole (length tail) (startsOf (drop at s))) tail r last
 
-  pub ended : (e : ℕ) → taken e ≡ sectionAt (v .before) s at → Ended (v .before) s at e
-  ended e q = section-ends (v .before) s at e (sym q) (v .inside)
+  pub walks-long : length new ≡ length old
+  walks-long = wrote-length (v .wrote) (kept-fits (length old) (v .before))
 
-  -- the section that was passed
-  pub passed : (e : ℕ) → taken e ≡ sectionAt (v .before) s at → List ℕ
-  passed e q = take (ended e q .width) (drop at s)
+  pub walks-at : t ≤ length new
+  walks-at = omega (arith, walks-long, v .wrote .count, kept-fits (length old) (v .before))
 
-  pub passed-id : (e : ℕ) (q : taken e ≡ sectionAt (v .before) s at) {id : ℕ} → id ≡ leAt 4 s at → idOf (passed e q) ≡ id
-  unfolding passed leAt
-  passed-id e q d = let x = ended e q in ap le (take-take 4 (x .width) (drop at s) (omega (arith, x .far, x .ends))) ∙ sym d
+  -- the places as they come back
+  pub walks-back : (last : List ℕ) → length last ≡ length tail → length (take t new ++ (last ++ drop (length new - t) (drop t new))) ≡ length old
+  walks-back last h = rw (length-append, length-append, length-take, length-drop, length-drop) (omega (arith, h, length-tail t new, walks-at, walks-long))
 
-  pub walks-next : at < length s → (e : ℕ) (q : taken e ≡ sectionAt (v .before) s at) (m′ : List ℕ) → Marks m′ (v .before ++ (passed e q ∷ [])) (i + 1) → Walks s (i + 1) e m′
-  unfolding passed
-  walks-next h e q m′ k =
-      let x = ended e q in
-      let y : length (v .before) < 64 = x .few in
-      let c : i ≡ length (v .before) = v .marks .count in
-      let z : 64 - i ≡ suc (64 - (i + 1)) = omega arith in
-      record {
-        before = v .before ++ (passed e q ∷ []);
-        marks = k;
-        few = omega arith;
-        inside = x .inside;
-        same =
-            v .same
-            ∙ ap (λ (n : ℕ). sectionsAt n (v .before) s at) z
-            ∙ walk-next (v .before) s at (64 - (i + 1)) h (x .is)
-            ∙ ap (sectionsAt (64 - (i + 1)) (v .before ++ (passed e q ∷ [])) s) (x .ends);
-      }
+  pub walks-stop : at < length s → {a b : ℕ} {last now : List ℕ} → Read (Stop a b) last → now ≡ zeros (length old) → Scanned (walkedFrom s) old (Stop a b) now
+  walks-stop h {a} {b} k z =
+      let e : walkedFrom s ≡ refused a b = v .same ∙ walk-stop (v .before) s at (64 - i) h (made-stop (sectionOf (v .before) at (drop at s)) _ (k .answers)) in
+      record { answers = sym (ap counted e); leaves = z ∙ sym (ap (λ (o : Outcome (List (List ℕ))). placed (keptIn (length old) o) old) e) }
+
+  pub walks-done : length s ≤ at → Scanned (walkedFrom s) old (Ends i) new
+  walks-done h =
+      let e : walkedFrom s ≡ taken (v .before) = v .same ∙ walk-end (v .before) s at (64 - i) h in
+      record { answers = ap taken (v .marks .count) ∙ sym (ap counted e); leaves = v .wrote .bytes ∙ sym (ap (λ (o : Outcome (List (List ℕ))). placed (keptIn (length old) o) old) e) }
+
+  module _ (h : at < length s) {n : ℕ} {last : List ℕ} (k : Read (Ends n) last) where
+    -- the section that was passed
+    pub passed : Passed (v .before) s at
+    passed =
+        let a = made-taken (sectionOf (v .before) at (drop at s)) _ (k .answers) in
+        let x = section-sound (v .before) at (drop at s) (a .1) in
+        let c : length (drop at s) ≡ length (x .e) + length (x .more) = ap length (x .cut) ∙ length-append (x .e) (x .more) in
+        let f : leAt 8 s (at + 8) ≡ lengthOf (x .e) = sym (leAt-drop 8 s at 8) ∙ ap lengthOf (x .cut) ∙ length-front (x .e) (x .more) (x .is .whole) in
+        record {
+          sec = x .e;
+          is = x .is;
+          room = x .room;
+          more = x .more;
+          cut = x .cut;
+          ends = omega (arith, f, x .is .whole);
+          inside = omega (arith, c, length-drop at s);
+          takes = a .1 ∙ ap taken (x .ends);
+        }
+
+    pub passed-id : {id : ℕ} → id ≡ leAt 4 s at → idOf (passed .sec) ≡ id
+    passed-id q = let x = passed in sym (q ∙ sym (leAt-here 4 s at) ∙ ap idOf (x .cut) ∙ id-front (x .sec) (x .more) (x .is .whole))
+
+    -- its starts stand in the tail that was lent
+    passed-wrote : Wrote (whole (length tail) (startsOf (drop at s))) tail last n
+    passed-wrote = record { count = made-taken (sectionOf (v .before) at (drop at s)) _ (k .answers) .2; bytes = k .leaves _ (passed .takes) }
+
+    pub passed-fits : t + n ≤ length new
+    passed-fits = omega (arith, passed-wrote .count, whole-fits (length tail) (startsOf (drop at s)), length-tail t new, walks-at)
+
+    pub walks-next : (m′ : List ℕ) → Marks m′ (v .before ++ (passed .sec ∷ [])) (i + 1) → {w : ℕ} → w ≡ leAt 8 s (at + 8)
+        → Walks s (i + 1) (at + (16 + w)) (t + n) m′ old (take t new ++ (last ++ drop (length new - t) (drop t new)))
+    walks-next m′ d {w} q =
+        let x = passed in
+        let c : i ≡ length (v .before) = v .marks .count in
+        let y : length (v .before) < 64 = x .room in
+        let z : 64 - i ≡ suc (64 - (i + 1)) = omega arith in
+        let e : at + (16 + w) ≡ at + length (x .sec) = ap (λ (j : ℕ). at + (16 + j)) q ∙ x .ends in
+        let g : length tail ≡ length old - length (kept (length old) (v .before)) = length-tail t new ∙ omega (arith, walks-long, v .wrote .count) in
+        let u : kept (length old) (v .before) ++ whole (length tail) (startsOf (drop at s)) ≡ kept (length old) (v .before ++ (x .sec ∷ [])) =
+        cc (g, ap startsOf (x .cut), starts-front (x .sec) (x .is) (x .more), kept-last (length old) (v .before) (x .sec))
+        in
+        record {
+          before = v .before ++ (x .sec ∷ []);
+          marks = d;
+          few = omega arith;
+          inside = omega (arith, x .inside);
+          same =
+              v .same
+              ∙ ap (λ (j : ℕ). sectionsAt j (v .before) s at) z
+              ∙ walk-next (v .before) s at (64 - (i + 1)) h (x .takes)
+              ∙ ap (λ (b : List ℕ). sectionsAt (64 - (i + 1)) (v .before ++ (b ∷ [])) s (at + length (x .sec))) (ap (take (length (x .sec))) (x .cut) ∙ take-at (x .sec) (x .more) (length (x .sec)) refl)
+              ∙ ap (sectionsAt (64 - (i + 1)) (v .before ++ (x .sec ∷ [])) s) (sym e);
+          wrote = subst (λ (b : List ℕ). Wrote b old (take t new ++ (last ++ drop (length new - t) (drop t new))) (t + n)) u (wrote-tail (v .wrote) passed-wrote);
+        }

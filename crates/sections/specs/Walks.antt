@@ -8,7 +8,7 @@ use lib.ListN.{length, drop, getD}
 use lib.Dec.{eqb}
 use Rattle.answer.specs.Outcome.{Outcome, taken, refused, after}
 use Rattle.order.specs.Keyed.{has}
-use Rattle.aerosnap.specs.File.{sectionsMost, slotOf, sectionOf, sections, fileOf}
+use Rattle.aerosnap.specs.File.{sectionsMost, slotOf, sections, fileOf}
 use Rattle.aerosnap.specs.Content.{isId}
 
 -- the marks say which slots are taken by the n sections before
@@ -16,10 +16,6 @@ pub record Marks (m : List ℕ) (before : List (List ℕ)) (n : ℕ) : Type 0 wh
   pub long : length m ≡ 9
   pub count : n ≡ length before
   pub says : (i : ℕ) → 1 ≤ i → i ≤ 8 → has slotOf i before ≡ eqb (getD m i 0) 1
-
--- the section at a place of s, after those before it: where it ends
-unfoldable pub sectionAt : List (List ℕ) → List ℕ → ℕ → Outcome ℕ
-sectionAt before s at = after (sectionOf before at (drop at s)) (λ w. taken (at + w))
 
 -- how many sections were found
 abbrev pub counted : Outcome (List (List ℕ)) → Outcome ℕ
@@ -41,7 +37,3 @@ Read s = fileOf s ≡ taken (sectionsIn s)
 unfoldable pub placeOf : ℕ → ℕ → List (List ℕ) → ℕ
 placeOf i at [] = at
 placeOf i at (e ∷ l) = cond (isId i e) at (placeOf i (at + length e) l)
-
--- the same of the sections of a file
-abbrev pub placedIn : ℕ → Outcome (List (List ℕ)) → Outcome ℕ
-placedIn i r = after r (λ l. taken (placeOf i 16 l))

@@ -22,12 +22,23 @@ ghost use mathlib.Core.List.{List, [], _∷_, _++_};
 ghost use Prim.Native.Nat.{ℕ, _+_, _≤_, _<_};
 ghost use lib.Dec.{leb, eqb};
 ghost use lib.ListN.{length, take, drop};
-ghost use Rattle.answer.specs.Calls.{pieceOf, testOf, asked};
+ghost use Rattle.answer.specs.Outcome.{taken};
+ghost use Rattle.answer.specs.Calls.{testOf, asked};
 ghost use Rattle.wire.specs.Numbers.{leAt};
+ghost use Rattle.lists.specs.Lists.{whole};
 ghost use Rattle.aerosnap.specs.Known as known;
+ghost use Rattle.aerosnap.specs.Payloads.{bodyOf};
 ghost use Rattle.aerosnap.specs.File.{headerChecks, idOf, fileOf};
 ghost use Rattle.aerosnap.specs.File as file;
-ghost use Rattle.sections.specs.Walks.{Marks, sectionAt, counted, walkedFrom, sectionsIn, Read, placeOf, placedIn};
+ghost use Rattle.payloads.specs.Starts.{starts};
+ghost use Rattle.sections.specs.Walks.{Marks, walkedFrom, sectionsIn, Read, placeOf};
+ghost use Rattle.sections.specs.Index.{startsOf, firstOf, isListId, entriesIn, fitsIn, counts, Keeps, Scanned, spotOf, Spotted};
+
+// A place and a number of starts, or a fault.
+pub enum Spot {
+    Fault(u32, usize),
+    At(usize, usize),
+}
 
 // `AEROSNAP`, as the number that the letters are in the file.
 const LETTERS: u64 = 0x50414E534F524541;
@@ -93,51 +104,62 @@ pub fn small(id: u32, n: usize) -> bool
     true
 }
 
-// A known section: its version, its flags, whether it came before, its payload by its own reader.
-fn ruled(id: u32, version: u16, flags: u16, at: usize, seen: &[u8; 9], p: &[u8]) -> Test
+// A known section: its version, its flags, whether it came before, its payload by its own reader, which keeps its starts.
+fn ruled(
+    id: u32,
+    version: u16,
+    flags: u16,
+    at: usize,
+    seen: &[u8; 9],
+    p: &[u8],
+    index: &mut [u32],
+) -> Piece
     requires { ⌜ (known.known id ≡ true) × (at + 16 + length (now p) ≤ 1073741824) ⌝ }
-    ensures { λ r. ⌜ ((l : List (List ℕ)) (n : ℕ) → Marks (now (seen .entry)) l n → testOf r ≡ file.ruled l at id version flags (now (p .entry))) ⌝ }
+    ensures { λ r. ⌜ ((l : List (List ℕ)) (n : ℕ) → Marks (now (seen .entry)) l n
+        → Keeps (file.ruled l at id version flags (now (p .entry))) (whole (length (now (index .entry))) (starts (bodyOf id version) (now (p .entry)))) (now (index .entry)) r (now (index .exit))) ⌝ }
 {
     if !takes(id, version) {
-        return Test::Fault(SECVER, at + 4);
+        return Piece::Stop(SECVER, at + 4);
     }
     if 0 < flags {
-        return Test::Fault(RESERVED, at + 6);
+        return Piece::Stop(RESERVED, at + 6);
     }
     let k = slot(id);
     if seen[k] == 1 {
-        return Test::Fault(TWICE, at);
+        return Piece::Stop(TWICE, at);
     }
     if !small(id, p.len()) {
-        return Test::Fault(LIMIT, at + 8);
+        return Piece::Stop(LIMIT, at + 8);
     }
-    match payloads::read(id, version, p) {
-        Test::Fault(number, place) => Test::Fault(number, at + 16 + place),
-        Test::Fine => Test::Fine,
+    match payloads::index(id, version, p, index) {
+        Piece::Stop(number, place) => Piece::Stop(number, at + 16 + place),
+        Piece::Ends(n) => Piece::Ends(n),
     }
 }
 
 // The section at a place, whose payload has m bytes and is there.
-fn judged(s: &[u8], at: usize, m: usize, seen: &[u8; 9]) -> Test
+fn judged(s: &[u8], at: usize, m: usize, seen: &[u8; 9], index: &mut [u32]) -> Piece
     requires { ⌜ (at + 16 + m ≤ length (now s)) × (length (now s) ≤ 1073741824) ⌝ }
     ensures { λ r. ⌜ ((l : List (List ℕ)) (n : ℕ) → Marks (now (seen .entry)) l n
-        → testOf r ≡ file.ruled l at (leAt 4 (now (s .entry)) at) (leAt 2 (now (s .entry)) (at + 4)) (leAt 2 (now (s .entry)) (at + 6)) (take m (drop (at + 16) (now (s .entry))))) ⌝ }
+        → Keeps (file.ruled l at (leAt 4 (now (s .entry)) at) (leAt 2 (now (s .entry)) (at + 4)) (leAt 2 (now (s .entry)) (at + 6)) (take m (drop (at + 16) (now (s .entry)))))
+        (whole (length (now (index .entry))) (starts (bodyOf (leAt 4 (now (s .entry)) at) (leAt 2 (now (s .entry)) (at + 4))) (take m (drop (at + 16) (now (s .entry)))))) (now (index .entry)) r (now (index .exit))) ⌝ }
 {
     let id = u32_at(s, at);
     if !known(id) {
-        return Test::Fine;
+        return Piece::Ends(0);
     }
     let version = u16_at(s, at + 4);
     let flags = u16_at(s, at + 6);
     let b = at + 16;
     let e = b + m;
-    ruled(id, version, flags, at, seen, &s[b..e])
+    ruled(id, version, flags, at, seen, &s[b..e], index)
 }
 
-// The section at a place, after n others: where it ends, or its first fault.
-fn section_at(s: &[u8], at: usize, n: usize, seen: &[u8; 9]) -> Piece
+// The section at a place, after n others: how many starts were kept, or its first fault.
+fn section_at(s: &[u8], at: usize, n: usize, seen: &[u8; 9], index: &mut [u32]) -> Piece
     requires { ⌜ (at ≤ length (now s)) × (length (now s) ≤ 1073741824) ⌝ }
-    ensures { λ r. ⌜ ((l : List (List ℕ)) → Marks (now (seen .entry)) l n → pieceOf r ≡ sectionAt l (now (s .entry)) at) ⌝ }
+    ensures { λ r. ⌜ ((l : List (List ℕ)) → Marks (now (seen .entry)) l n
+        → Keeps (file.sectionOf l at (drop at (now (s .entry)))) (whole (length (now (index .entry))) (startsOf (drop at (now (s .entry))))) (now (index .entry)) r (now (index .exit))) ⌝ }
 {
     if s.len() - at < 16 {
         return Piece::Stop(CUT, at);
@@ -146,16 +168,11 @@ fn section_at(s: &[u8], at: usize, n: usize, seen: &[u8; 9]) -> Piece
         return Piece::Stop(MANY, at);
     }
     let w = u64_at(s, at + 8);
-    let b = at + 16;
-    let left = (s.len() - b) as u64;
+    let left = (s.len() - (at + 16)) as u64;
     if left < w {
         return Piece::Stop(CUT, at);
     }
-    let m = w as usize;
-    match judged(s, at, m, seen) {
-        Test::Fault(number, place) => Piece::Stop(number, place),
-        Test::Fine => Piece::Ends(b + m),
-    }
+    judged(s, at, w as usize, seen, index)
 }
 
 // One section more was passed.
@@ -168,23 +185,26 @@ fn note(seen: &mut [u8; 9], id: u32)
     }
 }
 
-// How many sections there are behind the header, or the first fault.
-fn walk(s: &[u8]) -> Piece
+// How many sections there are behind the header, or the first fault. The starts of each list go into the tail of the index from where the last ended.
+fn walk(s: &[u8], index: &mut [u32]) -> Piece
     requires { ⌜ (16 ≤ length (now s)) × (length (now s) ≤ 1073741824) ⌝ }
-    ensures { λ r. ⌜ pieceOf r ≡ counted (walkedFrom (now (s .entry))) ⌝ }
+    ensures { λ r. ⌜ Scanned (walkedFrom (now (s .entry))) (now (index .entry)) r (now (index .exit)) ⌝ }
 {
     let mut seen = [0u8; 9];
     let mut at = 16;
     let mut i = 0;
+    let mut used = 0;
     while at < s.len() {
-        match section_at(s, at, i, &seen) {
+        match section_at(s, at, i, &seen, &mut index[used..]) {
             Piece::Stop(number, place) => {
+                lists::forget(index);
                 return Piece::Stop(number, place);
             }
-            Piece::Ends(e) => {
+            Piece::Ends(n) => {
                 note(&mut seen, u32_at(s, at));
-                at = e;
+                at = at + (16 + (u64_at(s, at + 8) as usize));
                 i += 1;
+                used += n;
             }
         }
     }
@@ -218,37 +238,104 @@ fn header(s: &[u8]) -> Test
     Test::Fine
 }
 
-// The whole file: how many sections it has, or its first fault.
-pub fn scan(file: &[u8]) -> Piece
-    ensures { λ r. ⌜ pieceOf r ≡ counted (fileOf (now (file .entry))) ⌝ }
+// The whole file: how many sections it has, or its first fault. The starts of its lists stand in the index then, as far as there is room for whole lists; it is cleared after a refusal.
+pub fn scan(file: &[u8], index: &mut [u32]) -> Piece
+    ensures { λ r. ⌜ Scanned (fileOf (now (file .entry))) (now (index .entry)) r (now (index .exit)) ⌝ }
 {
     match header(file) {
-        Test::Fault(number, place) => Piece::Stop(number, place),
-        Test::Fine => walk(file),
+        Test::Fault(number, place) => {
+            lists::forget(index);
+            Piece::Stop(number, place)
+        }
+        Test::Fine => walk(file, index),
     }
 }
 
-// Where the section with an id starts in a file that is taken; the end of the file where there is none.
-fn seek(file: &[u8], id: u32) -> usize
+// ---- where a section stands
+
+// The sections that are lists: DEVICES, DISKS, CPUS, MMUS.
+pub fn is_list(id: u32) -> bool
+    ensures { λ r. ⌜ r ≡ isListId id ⌝ }
+{
+    if id == 4 {
+        return true;
+    }
+    if id == 5 {
+        return true;
+    }
+    if id == 7 {
+        return true;
+    }
+    id == 8
+}
+
+// How many entries the section at a place says that it has.
+fn entries_at(s: &[u8], at: usize) -> usize
+    requires { ⌜ at ≤ length (now s) ⌝ }
+    ensures { λ r. ⌜ (r ≡ entriesIn (drop at (now (s .entry)))) × (r < 4294967296) ⌝ }
+{
+    if is_list(u32_at(s, at)) {
+        return u32_at(s, at + 16) as usize;
+    }
+    0
+}
+
+// Where the section with an id starts in a file that is taken, and how many starts stand before its own; the end of the file and all starts where there is none.
+fn seek(file: &[u8], id: u32) -> Spot
     requires { ⌜ Read (now file) ⌝ }
-    ensures { λ r. ⌜ r ≡ placeOf id 16 (sectionsIn (now (file .entry))) ⌝ }
+    ensures { λ r. ⌜ spotOf r ≡ taken (placeOf id 16 (sectionsIn (now (file .entry))), firstOf id (sectionsIn (now (file .entry)))) ⌝ }
 {
     let mut at = 16;
+    let mut first = 0;
     while at < file.len() {
         if u32_at(file, at) == id {
-            return at;
+            return Spot::At(at, first);
         }
+        first += entries_at(file, at);
         at = at + (16 + (u64_at(file, at + 8) as usize));
     }
-    at
+    Spot::At(at, first)
 }
 
-// The whole file: where the section with an id starts, or the file's first fault.
-pub fn find(file: &[u8], id: u32) -> Piece
-    ensures { λ r. ⌜ pieceOf r ≡ placedIn id (fileOf (now (file .entry))) ⌝ }
+// The whole file: where the section with an id starts and how many starts stand before its own, or the file's first fault. The index is left as by `scan`.
+pub fn find(file: &[u8], id: u32, index: &mut [u32]) -> Spot
+    ensures { λ r. ⌜ Spotted id (fileOf (now (file .entry))) (now (index .entry)) r (now (index .exit)) ⌝ }
 {
-    match scan(file) {
-        Piece::Stop(number, place) => Piece::Stop(number, place),
-        Piece::Ends(_) => Piece::Ends(seek(file, id)),
+    match scan(file, index) {
+        Piece::Stop(number, place) => Spot::Fault(number, place),
+        Piece::Ends(_) => seek(file, id),
     }
+}
+
+// Whether the section at a place is there whole.
+fn fits(s: &[u8], at: usize) -> bool
+    requires { ⌜ at ≤ length (now s) ⌝ }
+    ensures { λ r. ⌜ r ≡ fitsIn (drop at (now (s .entry))) ⌝ }
+{
+    if s.len() - at < 16 {
+        return false;
+    }
+    let left = (s.len() - (at + 16)) as u64;
+    u64_at(s, at + 8) <= left
+}
+
+// How many entries the lists of a file have, by its section headers and its counts alone: nothing is checked.
+pub fn count(file: &[u8]) -> usize
+    ensures { λ r. ⌜ r ≡ counts 64 (drop 16 (now (file .entry))) ⌝ }
+{
+    if file.len() < 16 {
+        return 0;
+    }
+    let mut at = 16;
+    let mut i: usize = 0;
+    let mut n = 0;
+    while i < 64 {
+        if !fits(file, at) {
+            return n;
+        }
+        n += entries_at(file, at);
+        at = at + (16 + (u64_at(file, at + 8) as usize));
+        i += 1;
+    }
+    n
 }

@@ -2,36 +2,35 @@
 -- Assumes nothing.
 use mathlib.Core.Path.{_≡_, refl, sym, _∙_, ap, subst}
 use mathlib.Core.List.{List, [], _∷_}
-use mathlib.Core.Bool.{true}
-use Prim.Native.Nat.{ℕ, _+_, _-_, _*_, _≤_, _<_}
+use Prim.Native.Nat.{ℕ, _+_, _-_, _*_, _/_, _≤_, _<_}
 use native.Mathlib.Omega.{arith}
-use lib.ListN.{length, take, drop, length-append}
+use lib.ListN.{length, take, drop, length-append, length-drop}
+use lib.Seq.{length-take-le}
 use borrow.Author.Tests.{le-leb, lt-leb}
 use Rattle.answer.specs.Numbers.{ROOM}
 use Rattle.answer.specs.Outcome.{Outcome, taken, refused, after, done, fitting}
 use Rattle.answer.specs.Calls.{Writes}
-use Rattle.answer.proofs.Checks.{pass-checked}
 use Rattle.answer.proofs.Outcomes.{made-stop, made-taken}
 use Rattle.wire.specs.Numbers.{leAt}
 use Rattle.wire.specs.Parts.{Wrote}
 use Rattle.wire.proofs.Parts.{none}
 use Rattle.wire.proofs.Calls.{writes-refused, writes-taken}
 use Rattle.order.specs.Keyed.{flat}
-use Rattle.lists.specs.Lists.{partChecks, listAt}
-use Rattle.lists.proofs.Taken.{list-complete}
+use Rattle.lists.specs.Lists.{listAt}
 use Rattle.tables.specs.declared.Table.{Table}
 use Rattle.tables.specs.declared.Table.the-variants.{Devices}
-use Rattle.tables.specs.Tables.{described, framedRow, rowsAt, tableOf}
-use Rattle.tables.proofs.Rows.{length-row}
-use Rattle.aerosnap.specs.Known.{known}
+use Rattle.tables.specs.Tables.{described, framedRow, rowsAt}
+use Rattle.tables.proofs.Rows.{length-row, length-rows, rows-all}
 use Rattle.aerosnap.specs.Payloads.{list, bodyOf}
-use Rattle.aerosnap.specs.File.{fileOf}
+use Rattle.aerosnap.specs.File.{idOf, versionOf, fileOf}
 use Rattle.aerosnap.specs.Tables.{placed, startsOf, listRows, table, sectionTable}
 use Rattle.aerosnap.proofs.Taken.{file-sound}
 use Rattle.aerosnap.proofs.Standing.{stand-start, endAt}
-use Rattle.sections.specs.Walks.{counted, placeOf, placedIn}
-use Rattle.sections.proofs.Found.{Here, none-there, there, here-list, made-none, made-one}
-use Rattle.snapshot.specs.Walks.{sectionRows}
+use Rattle.sections.specs.Walks.{counted, sectionsIn}
+use Rattle.sections.specs.Index.{spotIn}
+use Rattle.sections.proofs.Found.{spot-stop, Sited, Here, none-there, there, made-none, made-one}
+use Rattle.sections.proofs.Reading.{starts-list, found-inside, found-starts}
+use Rattle.snapshot.specs.Walks.{sectionRows, Lists}
 
 -- ---- by the outcome of the file
 
@@ -52,8 +51,8 @@ module _ (s : List ℕ) where
   pub sections-stop : (old : List ℕ) {n p : ℕ} → refused n p ≡ counted (fileOf s) → Writes (sectionTable (length old) s) old (record { number = n; place = p }) old
   sections-stop old h = stopped (λ q. framedRow (q .0) (q .1)) old (made-stop (fileOf s) length h)
 
-  pub list-stop : (t : Table) (i : ℕ) (old : List ℕ) {n p : ℕ} → refused n p ≡ placedIn i (fileOf s) → Writes (table (listRows t i) (length old) s) old (record { number = n; place = p }) old
-  list-stop t i old h = stopped (listRows t i) old (made-stop (fileOf s) (placeOf i 16) h)
+  pub list-stop : (t : Table) (i : ℕ) (old : List ℕ) {n p : ℕ} → refused n p ≡ spotIn i (fileOf s) → Writes (table (listRows t i) (length old) s) old (record { number = n; place = p }) old
+  list-stop t i old h = stopped (listRows t i) old (spot-stop i s h)
 
   -- a file that is taken: its table, for an output of so many bytes
   pub table-of : (rows : ℕ × List ℕ → List ℕ) (have : ℕ) {l : List (List ℕ)} → fileOf s ≡ taken l → table rows have s ≡ fitting have (flat rows (placed 16 l))
@@ -61,17 +60,17 @@ module _ (s : List ℕ) where
 
 -- ---- the table of sections
 
-length-rows : (at : ℕ) (l : List (List ℕ)) → length (sectionRows at l) ≡ 24 * length l
+length-sections : (at : ℕ) (l : List (List ℕ)) → length (sectionRows at l) ≡ 24 * length l
 unfolding placed
-length-rows at [] = refl
-length-rows at (e ∷ l) = omega (arith, length-append (framedRow at e) (sectionRows (at + length e) l), length-row Devices at e, length-rows (at + length e) l)
+length-sections at [] = refl
+length-sections at (e ∷ l) = omega (arith, length-append (framedRow at e) (sectionRows (at + length e) l), length-row Devices at e, length-sections (at + length e) l)
 
 module _ (s old : List ℕ) {n : ℕ} (h : taken n ≡ counted (fileOf s)) where
   pub sections-few : n ≤ 64
   sections-few = let w = counted-taken (fileOf s) h in omega (arith, w .2, file-sound s (w .1) .1 .few)
 
   need : length (sectionRows 16 (counted-taken (fileOf s) h .0)) ≡ 24 * n
-  need = let w = counted-taken (fileOf s) h in length-rows 16 (w .0) ∙ ap (λ (k : ℕ). 24 * k) (sym (w .2))
+  need = let w = counted-taken (fileOf s) h in length-sections 16 (w .0) ∙ ap (λ (k : ℕ). 24 * k) (sym (w .2))
 
   pub sections-short : length old < 24 * n → Writes (sectionTable (length old) s) old (record { number = ROOM; place = 24 * n }) old
   sections-short k =
@@ -89,48 +88,58 @@ module _ (s old : List ℕ) {n : ℕ} (h : taken n ≡ counted (fileOf s)) where
 
 -- ---- the table of the list with an id
 
-module _ (t : Table) (i : ℕ) (s : List ℕ) where
-  -- the records of the entries of a list that stands at a place
-  abbrev records : ℕ → List ℕ → List ℕ
-  records p b = rowsAt t p b (startsOf (listAt (described t) b))
+-- no section has it: no record
+pub list-none : (t : Table) (i : ℕ) (s : List ℕ) {p n : ℕ} → Sited i s p n → length s ≤ p → (old : List ℕ) → Writes (table (listRows t i) (length old) s) old (record { number = 0; place = 0 }) old
+list-none t i s x g old =
+    let n = made-none i (λ q. rowsAt t (q .0 + 16) (drop 16 (q .1)) (startsOf (listAt (described t) (drop 16 (q .1))))) 16 (sectionsIn s) (none-there i s (x .read) (x .place) g) in
+    writes-taken (table-of s (listRows t i) (length old) (x .read) ∙ rw (n, le-leb 0 (length old) (omega arith))) (none old)
 
-  -- a file that is taken, and where the section with the id was found in it
-  module _ {p : ℕ} (q : taken p ≡ placedIn i (fileOf s)) where
-    abbrev its : List (List ℕ)
-    its = made-taken (fileOf s) (placeOf i 16) q .0
+module _ (t : Table) (i : ℕ) (s index : List ℕ) {p first : ℕ} (x : Lists t i s p index first) where
+  found : Here i s (sectionsIn s) p
+  found = there i s (x .read) (x .place) (x .is-known) (x .there)
 
-    whole : fileOf s ≡ taken its
-    whole = made-taken (fileOf s) (placeOf i 16) q .1
+  pub list-fits : (endAt s p ≤ length s) × (length s ≤ 1073741824)
+  list-fits = (found .fits, stand-start s (x .read) .short)
 
-    place : p ≡ placeOf i 16 its
-    place = made-taken (fileOf s) (placeOf i 16) q .2
+  body-is : bodyOf (idOf (found .sec)) (versionOf (found .sec)) ≡ list (described t)
+  body-is = ap (λ (j : ℕ). bodyOf j (versionOf (found .sec))) (found .id) ∙ x .body (versionOf (found .sec))
 
-    pub list-none : length s ≤ p → (old : List ℕ) → Writes (table (listRows t i) (length old) s) old (record { number = 0; place = 0 }) old
-    list-none g old =
-        let n = made-none i (λ q. records (q .0 + 16) (drop 16 (q .1))) 16 its (none-there i s whole place g) in
-        writes-taken (table-of s (listRows t i) (length old) whole ∙ rw (n, le-leb 0 (length old) (omega arith))) (none old)
+  -- its entries are as many as it says
+  module _ {n : ℕ} (c : n ≡ leAt 4 s (p + 16)) where
+    pub list-inside : first + n ≤ length index
+    list-inside = found-inside found body-is (x .starts) (x .front) c
 
-    module _ (k : known i ≡ true) (g : p < length s) where
-      found : Here i s its p
-      found = there i s whole place k g
+    -- the records of its starts in the index are the table
+    module _ {e : ℕ} (k : e ≡ endAt s p) where
+      abbrev rows : List ℕ
+      rows = rowsAt t (p + 16) (take (e - (p + 16)) (drop (p + 16) s)) (take (first + n - first) (drop first index))
 
-      pub list-fits : (endAt s p ≤ length s) × (length s ≤ 1073741824)
-      list-fits = (found .fits, stand-start s whole .short)
-
-      -- its records are all
-      all : flat (listRows t i) (placed 16 its) ≡ records (p + 16) (drop 16 (found .sec))
-      all = made-one i (λ q. records (q .0 + 16) (drop 16 (q .1))) 16 its (found .alone) ∙ ap (λ (j : ℕ). records (j + 16) (drop 16 (found .sec))) (sym place)
-
-      pub list-same : ((v : ℕ) → bodyOf i v ≡ list (described t)) → (have : ℕ) {e : ℕ} → e ≡ endAt s p
-          → tableOf t have (p + 16) (take (e - (p + 16)) (drop (p + 16) s)) ≡ table (listRows t i) have s
-      list-same m have {e} n =
-          let x = found in
-          let b : List ℕ = drop 16 (x .sec) in
+      all : flat (listRows t i) (placed 16 (sectionsIn s)) ≡ rows
+      all =
+          let b : List ℕ = drop 16 (found .sec) in
           let z : e - (p + 16) ≡ leAt 8 s (p + 8) = omega arith in
-          let c : take (e - (p + 16)) (drop (p + 16) s) ≡ b = ap (λ (j : ℕ). take j (drop (p + 16) s)) z ∙ x .part in
-          let y = here-list i s whole (described t) m k x in
-          let f = list-complete (y .0) b (y .1) in
-          ap (tableOf t have (p + 16)) c
-          ∙ pass-checked (partChecks b) _ (le-leb (length b) 1073741824 (y .2), tt)
-          ∙ ap (λ (o : Outcome (List ℕ)). after o (λ (u : List ℕ). fitting have (rowsAt t (p + 16) b u))) f
-          ∙ sym (table-of s (listRows t i) have whole ∙ ap (fitting have) (all ∙ ap (λ (o : Outcome (List ℕ)). rowsAt t (p + 16) b (startsOf o)) f))
+          let part : take (e - (p + 16)) (drop (p + 16) s) ≡ b = ap (λ (j : ℕ). take j (drop (p + 16) s)) z ∙ found .part in
+          made-one i (λ q. rowsAt t (q .0 + 16) (drop 16 (q .1)) (startsOf (listAt (described t) (drop 16 (q .1))))) 16 (sectionsIn s) (found .alone)
+          ∙ ap (λ (j : ℕ). rowsAt t (j + 16) b (startsOf (listAt (described t) b))) (sym (x .place))
+          ∙ ap (λ (o : Outcome (List ℕ)). rowsAt t (p + 16) b (startsOf o)) (starts-list (found .sec) (found .is) body-is)
+          ∙ ap (rowsAt t (p + 16) b) (sym (found-starts found body-is (x .starts) (x .front) c))
+          ∙ ap (λ (u : List ℕ). rowsAt t (p + 16) u (take (first + n - first) (drop first index))) (sym part)
+
+      count : length (take (first + n - first) (drop first index)) ≡ n
+      count = length-take-le (first + n - first) (drop first index) (omega (arith, list-inside, length-drop first index)) ∙ omega arith
+
+      rows-long : length rows ≡ 24 * n
+      rows-long = length-rows t (p + 16) (take (e - (p + 16)) (drop (p + 16) s)) (take (first + n - first) (drop first index)) ∙ ap (λ (m : ℕ). 24 * m) count
+
+      is-table : (have : ℕ) → table (listRows t i) have s ≡ fitting have rows
+      is-table have = table-of s (listRows t i) have (x .read) ∙ ap (fitting have) all
+
+      pub list-short : (old : List ℕ) → length old < 24 * n → Writes (table (listRows t i) (length old) s) old (record { number = ROOM; place = 24 * n }) old
+      list-short old h = writes-refused (is-table (length old) ∙ rw (rows-long, lt-leb (24 * n) (length old) h))
+
+      pub list-done : {old new : List ℕ} {r : ℕ} → 24 * n ≤ length old
+          → Wrote (rowsAt t (p + 16) (take (e - (p + 16)) (drop (p + 16) s)) (take (length old / 24) (take (first + n - first) (drop first index)))) old new r
+          → Writes (table (listRows t i) (length old) s) old (record { number = 0; place = 24 * n }) new
+      list-done {old} {new} h w =
+          let v : Wrote rows old new _ = rw (rows-all (take (first + n - first) (drop first index)) (length old) (omega (arith, count))) at w in
+          writes-taken {b = rows} (is-table (length old) ∙ rw (rows-long, le-leb (24 * n) (length old) h)) (record { count = sym rows-long; bytes = v .bytes })

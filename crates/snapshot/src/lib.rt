@@ -4,6 +4,7 @@ use answer::Piece;
 use answer::ROOM;
 use answer::TAKEN;
 use answer::Test;
+use sections::Spot;
 use tables::Table;
 ghost use mathlib.Core.Path.{_≡_};
 ghost use mathlib.Core.Bool.{true};
@@ -20,7 +21,8 @@ ghost use Rattle.aerosnap.specs.Payloads.{list, bodyOf};
 ghost use Rattle.aerosnap.specs.File.{fileOf};
 ghost use Rattle.aerosnap.specs.Tables as file_tables;
 ghost use Rattle.aerosnap.specs.Calls.{checkCall, sectionsCall, devicesCall, disksCall, canonicalCall, addDeviceCall, addDiskCall};
-ghost use Rattle.snapshot.specs.Walks.{sectionRows};
+ghost use Rattle.sections.specs.Index.{Roomy};
+ghost use Rattle.snapshot.specs.Walks.{sectionRows, Lists};
 
 // The ids of the lists that have a table.
 const DEVICES: u32 = 4;
@@ -31,7 +33,8 @@ const DISKS: u32 = 5;
 fn faults(file: &[u8]) -> Test
     ensures { λ r. ⌜ testOf r ≡ done (fileOf (now (file .entry))) ⌝ }
 {
-    match sections::scan(file) {
+    let mut index = [0u32; 1];
+    match sections::scan(file, &mut index[..0]) {
         Piece::Stop(number, place) => Test::Fault(number, place),
         Piece::Ends(_) => Test::Fine,
     }
@@ -70,7 +73,8 @@ fn put_rows(file: &[u8], out: &mut [u8])
 pub fn sections(file: &[u8], table: &mut [u8]) -> Answer
     ensures { λ r. ⌜ Writes (sectionsCall (length (now (table .entry))) (now (file .entry))) (now (table .entry)) r (now (table .exit)) ⌝ }
 {
-    match sections::scan(file) {
+    let mut index = [0u32; 1];
+    match sections::scan(file, &mut index[..0]) {
         Piece::Stop(number, place) => Answer {
             number,
             place: place as u64,
@@ -92,28 +96,70 @@ pub fn sections(file: &[u8], table: &mut [u8]) -> Answer
     }
 }
 
-// The table of the list with an id. The list's reader gets its payload alone, as a part of the file.
-fn list_table(t: Table, id: u32, file: &[u8], table: &mut [u8]) -> Answer
-    requires { ⌜ (known id ≡ true) × ((v : ℕ) → bodyOf id v ≡ list (described t)) ⌝ }
+// The records of the list whose section is at a place, from its starts in the index, where there is room for them.
+fn put_list(
+    t: Table,
+    id: u32,
+    file: &[u8],
+    at: usize,
+    index: &[u32],
+    first: usize,
+    table: &mut [u8],
+) -> Answer
+    requires { ⌜ Lists t id (now file) at (now index) first ⌝ }
     ensures { λ r. ⌜ Writes (file_tables.table (file_tables.listRows t id) (length (now (table .entry))) (now (file .entry))) (now (table .entry)) r (now (table .exit)) ⌝ }
 {
-    match sections::find(file, id) {
-        Piece::Stop(number, place) => Answer {
+    let b = at + 16;
+    let e = end_at(file, at);
+    let n = wire::u32_at(file, b) as usize;
+    let need = 24 * n;
+    if table.len() < need {
+        return Answer {
+            number: ROOM,
+            place: need as u64,
+        };
+    }
+    let last = first + n;
+    tables::put_rows(t, &file[b..e], b as u32, &index[first..last], table);
+    Answer {
+        number: TAKEN,
+        place: need as u64,
+    }
+}
+
+// The table of the list with an id, with room for the file's index.
+fn list_table_in(t: Table, id: u32, file: &[u8], index: &mut [u32], table: &mut [u8]) -> Answer
+    requires { ⌜ (known id ≡ true) × ((v : ℕ) → bodyOf id v ≡ list (described t)) × Roomy (now file) (length (now index)) ⌝ }
+    ensures { λ r. ⌜ Writes (file_tables.table (file_tables.listRows t id) (length (now (table .entry))) (now (file .entry))) (now (table .entry)) r (now (table .exit)) ⌝ }
+{
+    match sections::find(file, id, index) {
+        Spot::Fault(number, place) => Answer {
             number,
             place: place as u64,
         },
-        Piece::Ends(at) => {
+        Spot::At(at, first) => {
             if file.len() <= at {
                 return Answer {
                     number: TAKEN,
                     place: 0,
                 };
             }
-            let b = at + 16;
-            let e = end_at(file, at);
-            tables::write(t, &file[b..e], b as u32, table)
+            put_list(t, id, file, at, index, first, table)
         }
     }
+}
+
+// The same of a file that has at most 256 entries, or more.
+fn list_table(t: Table, id: u32, file: &[u8], table: &mut [u8]) -> Answer
+    requires { ⌜ (known id ≡ true) × ((v : ℕ) → bodyOf id v ≡ list (described t)) ⌝ }
+    ensures { λ r. ⌜ Writes (file_tables.table (file_tables.listRows t id) (length (now (table .entry))) (now (file .entry))) (now (table .entry)) r (now (table .exit)) ⌝ }
+{
+    if sections::count(file) <= 256 {
+        let mut index = [0u32; 256];
+        return list_table_in(t, id, file, &mut index, table);
+    }
+    let mut index = [0u32; 4864];
+    list_table_in(t, id, file, &mut index, table)
 }
 
 // The table of devices in key order.

@@ -2,14 +2,19 @@
 -- Assumes nothing.
 use mathlib.Core.Path.{_≡_}
 use mathlib.Core.List.{List}
-use Prim.Native.Nat.{ℕ}
+use Prim.Native.Nat.{ℕ, _/_}
+use lib.ListN.{length, take}
 use Rattle.answer.specs.declared.Answer.{Answer}
 use Rattle.answer.specs.Calls.{Writes}
 use Rattle.answer.proofs.Once.{writes-once}
-use Rattle.wire.specs.Parts.{put}
-use Rattle.wire.proofs.Once.{store-once}
+use Rattle.wire.specs.Parts.{put, Wrote}
+use Rattle.wire.proofs.Once.{store-once, wrote-once}
 use Rattle.tables.specs.declared.Table.{Table}
-use Rattle.tables.specs.Tables.{framedRow, tableOf}
+use Rattle.tables.specs.Tables.{framedRow, rowsAt, tableOf}
+
+pub rows-once : (t : Table) (base : ℕ) (s starts old : List ℕ) {r q : ℕ} {new now : List ℕ}
+    → Wrote (rowsAt t base s (take (length old / 24) starts)) old new r → Wrote (rowsAt t base s (take (length old / 24) starts)) old now q → (r ≡ q) × (new ≡ now)
+rows-once t base s starts old a b = wrote-once a b
 
 pub write-once : (t : Table) (have base : ℕ) (s : List ℕ) {old new now : List ℕ} {r p : Answer}
     → Writes (tableOf t have base s) old r new → Writes (tableOf t have base s) old p now → (r ≡ p) × (new ≡ now)

@@ -2,31 +2,33 @@
 -- Assumes nothing.
 use mathlib.Core.Path.{_≡_, refl, sym, _∙_, ap}
 use mathlib.Core.List.{List, [], _∷_, _++_, append-nil}
-use Prim.Native.Nat.{ℕ, _+_, _-_, _*_, _≤_, _<_}
+use Prim.Native.Nat.{ℕ, _+_, _-_, _*_, _/_, _≤_, _<_}
 use native.Mathlib.Numerals.{add-one}
 use native.Mathlib.Omega.{arith}
 use lib.ListN.{length, take, drop, getD, length-append}
-use lib.Seq.{take-suc}
+use lib.Seq.{take-suc, take-all}
 use borrow.Author.Tests.{le-leb, lt-leb}
 use Rattle.answer.specs.Numbers.{ROOM}
 use Rattle.answer.specs.Outcome.{Outcome, taken, refused, after, fitting}
+use Rattle.answer.specs.Calls.{Writes}
 use Rattle.answer.proofs.Outcomes.{taken-is}
 use Rattle.answer.proofs.Checks.{checked-pass}
 use Rattle.wire.specs.Parts.{Wrote}
 use Rattle.wire.proofs.Numbers.{length-bytesOf}
 use Rattle.wire.proofs.Parts.{wrote-tail}
+use Rattle.wire.proofs.Calls.{writes-taken}
 use Rattle.order.specs.Keyed.{flat}
 use Rattle.order.proofs.Folds.{flat-append}
 use Rattle.entries.specs.Kinds.{Description}
 use Rattle.entries.specs.declared.Kind.{Kind}
 use Rattle.entries.specs.Code.{describe}
 use Rattle.entries.proofs.Lawful.{lawful}
-use Rattle.lists.specs.Lists.{partChecks, listAt, indexOf}
+use Rattle.lists.specs.Lists.{partChecks, listAt, listOf, indexOf}
 use Rattle.lists.specs.Promises.{Indexed}
 use Rattle.lists.specs.Steps.{Room}
 use Rattle.lists.proofs.Taken.{list-sound}
 use Rattle.lists.proofs.Ordered.{index-length}
-use Rattle.lists.proofs.Callers.{indexed-stop, indexed-done, listOf, list-then, index-roomy}
+use Rattle.lists.proofs.Callers.{indexed-stop, indexed-done, list-then, index-roomy}
 use Rattle.answer.specs.declared.Piece.the-variants.{Stop, Ends}
 use Rattle.tables.specs.declared.Table.{Table}
 use Rattle.tables.specs.declared.Table.the-variants.{Devices, Disks, Controllers}
@@ -36,6 +38,17 @@ pub length-row : (t : Table) (p : ℕ) (e : List ℕ) → length (rowOf t p e) �
 length-row Devices p e = simp (length-append, length-bytesOf)
 length-row Disks p e = simp (length-append, length-bytesOf)
 length-row Controllers p e = simp (length-append, length-bytesOf)
+
+-- where there is room for the records of all starts, they are all of those that fit
+pub rows-all : (l : List ℕ) (have : ℕ) → 24 * length l ≤ have → take (have / 24) l ≡ l
+rows-all l have h = take-all (have / 24) l (omega arith)
+
+-- after the first i of them, where there are no more or where there is no room for one more, they are those that fit
+pub rows-end : (l : List ℕ) (have i : ℕ) → 24 * i ≤ have → length l ≤ i → take i l ≡ take (have / 24) l
+rows-end l have i k h = take-all i l h ∙ sym (rows-all l have (omega arith))
+
+pub rows-full : (l : List ℕ) (have i : ℕ) → 24 * i ≤ have → have - 24 * i < 24 → take i l ≡ take (have / 24) l
+rows-full l have i k h = let e : i ≡ have / 24 = omega arith in ap (λ (n : ℕ). take n l) e
 
 module _ (t : Table) (base : ℕ) (s : List ℕ) where
   pub length-rows : (l : List ℕ) → length (rowsAt t base s l) ≡ 24 * length l
@@ -67,7 +80,7 @@ module _ (t : Table) (k : Kind) (q : describe k ≡ described t) (have base : �
       ∙ ap (λ (o : Outcome (List ℕ)). after o rowsOf) (sym (index-roomy (lawful k) m s R))
 
   pub table-stop : {old new : List ℕ} {n p : ℕ} → Indexed (indexOf (describe k) m s) old (Stop n p) new → tableOf t have base s ≡ refused n p
-  table-stop h = by-index ∙ ap (λ (o : Outcome (List ℕ)). after o rowsOf) (indexed-stop (indexOf (describe k) m s) h .0)
+  table-stop h = by-index ∙ ap (λ (o : Outcome (List ℕ)). after o rowsOf) (indexed-stop (indexOf (describe k) m s) h)
 
   module _ {old new : List ℕ} {n : ℕ} (h : Indexed (indexOf (describe k) m s) old (Ends n) new) where
     done : indexOf (describe k) m s ≡ taken (take n new)
@@ -89,5 +102,6 @@ module _ (t : Table) (k : Kind) (q : describe k ≡ described t) (have base : �
     pub table-short : have < 24 * n → tableOf t have base s ≡ refused ROOM (24 * n)
     table-short k = found ∙ rw (need, lt-leb (24 * n) have k)
 
-    pub table-done : 24 * n ≤ have → tableOf t have base s ≡ taken (rowsAt t base s (take n new))
-    table-done k = found ∙ rw (need, le-leb (24 * n) have k)
+    pub table-done : 24 * n ≤ have → {out last : List ℕ} {r : ℕ} → Wrote (rowsAt t base s (take (have / 24) (take n new))) out last r
+        → Writes (tableOf t have base s) out (record { number = 0; place = r }) last
+    table-done k w = writes-taken (found ∙ rw (need, le-leb (24 * n) have k)) (rw (rows-all (take n new) have (omega (arith, table-count .0))) at w)

@@ -8,7 +8,7 @@ use lib.Dec.{leb}
 use lib.ListN.{drop}
 use Rattle.answer.proofs.Once.{equal-once}
 use Rattle.wire.specs.Numbers.{leAt}
-use Rattle.wire.specs.Parts.{put}
+use Rattle.wire.specs.Parts.{put, Wrote}
 
 pub fits-once : (len at n : ℕ) {r s : Bool} → r ≡ leb (at + n) len → s ≡ leb (at + n) len → r ≡ s
 fits-once len at n e f = equal-once e f
@@ -26,3 +26,7 @@ load-once n s at e f = equal-once e f
 -- `put_u8` to `put_u64`, and `copy`
 pub store-once : (at : ℕ) (bs old : List ℕ) {new now : List ℕ} → new ≡ put at bs old → now ≡ put at bs old → new ≡ now
 store-once at bs old e f = equal-once e f
+
+-- calls that write over the start of lent memory and answer how much
+pub wrote-once : {bs old new now : List ℕ} {n m : ℕ} → Wrote bs old new n → Wrote bs old now m → (n ≡ m) × (new ≡ now)
+wrote-once a b = (equal-once (a .count) (b .count), equal-once (a .bytes) (b .bytes))

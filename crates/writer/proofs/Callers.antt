@@ -2,7 +2,7 @@
 -- Assumes nothing.
 use mathlib.Core.Path.{_≡_, sym, _∙_, ap}
 use mathlib.Core.List.{List}
-use Prim.Native.Nat.{ℕ, _+_}
+use Prim.Native.Nat.{ℕ}
 use lib.ListN.{length}
 use borrow.Author.Tests.{leb-true}
 use Rattle.answer.specs.Outcome.{Outcome, taken, after, checked, fitting, room}
@@ -11,9 +11,9 @@ use Rattle.answer.proofs.Outcomes.{taken-is, after-taken}
 use Rattle.entries.specs.Kinds.{Description}
 use Rattle.entries.proofs.Lawful.{Lawful}
 use Rattle.lists.specs.Lists.{partChecks, listAt}
-use Rattle.writer.specs.Writer.{sortedBytes, withBytes, sortedOf, newChecks, withOf}
+use Rattle.writer.specs.Writer.{sortedBytes, sortedOf}
 use Rattle.writer.specs.Steps.{Listed}
-use Rattle.writer.proofs.Whole.{sorted-size, with-size}
+use Rattle.writer.proofs.Whole.{sorted-size}
 
 -- what a call that goes on from a list has found where it is taken
 found : (d : Description) (s : List ℕ) (o : Outcome (List ℕ)) {b : List ℕ} → checked (partChecks s) (after (listAt d s) (λ _. o)) ≡ taken b → (l : List ℕ) × Listed d s l × (o ≡ taken b)
@@ -33,11 +33,3 @@ module _ {d : Description} (K : Lawful d) (have : ℕ) (s : List ℕ) {b : List 
       let f = found d s (fitting have (sortedBytes d s)) h in
       let e = fitted have (sortedBytes d s) b (f .2) in
       (e, ap length e ∙ sorted-size K (f .1))
-
-  -- one that is written with an entry more is longer by that entry
-  pub written-with : (e : List ℕ) → withOf d have s e ≡ taken b → (b ≡ withBytes d s e) × (length b ≡ length s + length e)
-  written-with e h =
-      let f = found d s (checked (newChecks d s e) (fitting have (withBytes d s e))) h in
-      let g = checked-pass (newChecks d s e) (fitting have (withBytes d s e)) b (f .2) in
-      let q = fitted have (withBytes d s e) b (g .1) in
-      (q, ap length q ∙ with-size K (f .1) e)

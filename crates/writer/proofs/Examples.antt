@@ -1,31 +1,29 @@
--- Lists written by computation: the payload of P4 becomes that of P5, and an entry is added to it.
+-- Lists written by computation: the payload of P4 becomes that of P5.
 -- Assumes nothing.
 use mathlib.Core.Path.{_≡_, refl}
-use mathlib.Core.List.{List, [], _∷_, _++_}
+use mathlib.Core.List.{List, [], _∷_, _++_, map}
 use Prim.Native.Nat.{ℕ}
-use Rattle.answer.specs.Numbers.{KEY, HAVE, ROOM}
+use Rattle.answer.specs.Numbers.{KEY, ROOM}
 use Rattle.answer.specs.Outcome.{taken, refused}
 use Rattle.wire.specs.Numbers.{le, leAt, bytesOf}
-use Rattle.format.specs.Format.{read}
+use Rattle.format.specs.Format.{read, span}
 use Rattle.order.specs.Keyed.{insert, has}
-use Rattle.order.specs.Entries.{split}
+use Rattle.order.specs.Entries.{join, split}
 use Rattle.entries.specs.Kinds.{devices}
 use Rattle.lists.specs.Lists.{entryAt, walk, listAt}
-use Rattle.writer.specs.Writer.{sortedOf, withOf, together}
+use Rattle.writer.specs.Runs.{entryBy, fits}
+use Rattle.writer.specs.Writer.{sortedOf}
 
 -- device (id, 1, 0) with one or two payload bytes
 abbrev device : ℕ → ℕ → List ℕ → List ℕ
-device id n payload = together (id ∷ 0 ∷ 0 ∷ 0 ∷ 1 ∷ 0 ∷ 0 ∷ 0 ∷ []) (n ∷ 0 ∷ 0 ∷ 0 ∷ 0 ∷ 0 ∷ 0 ∷ 0 ∷ []) payload []
+device id n payload = id ∷ 0 ∷ 0 ∷ 0 ∷ 1 ∷ 0 ∷ 0 ∷ 0 ∷ n ∷ 0 ∷ 0 ∷ 0 ∷ 0 ∷ 0 ∷ 0 ∷ 0 ∷ payload
 
--- entry (14, 1, 0) with `11`, entry (3, 1, 0) with `AB CD`, and one between them
+-- entry (14, 1, 0) with `11`, entry (3, 1, 0) with `AB CD`
 abbrev fourteen : List ℕ
 fourteen = device 14 1 (17 ∷ [])
 
 abbrev three : List ℕ
 three = device 3 2 (171 ∷ 205 ∷ [])
-
-abbrev nine : List ℕ
-nine = device 9 1 (7 ∷ [])
 
 abbrev counted : ℕ → List ℕ → List ℕ
 counted n entries = n ∷ 0 ∷ 0 ∷ 0 ∷ entries
@@ -43,10 +41,7 @@ pub sorted : (sortedOf devices 39 payload ≡ taken (counted 2 (three ++ fourtee
 unfolding listAt walk entryAt read leAt le bytesOf insert has split
 sorted = (refl, refl, refl, refl)
 
--- (9, 1, 0) goes between; (3, 1, 0) is there, which comes before the room
-pub added : (withOf devices 100 payload nine ≡ taken (counted 3 (three ++ nine ++ fourteen)))
-    × (withOf devices 55 payload nine ≡ refused ROOM 56)
-    × (withOf devices 0 payload three ≡ refused HAVE 0)
-    × (withOf devices 100 (counted 0 []) nine ≡ taken (counted 1 nine))
-unfolding listAt walk entryAt read leAt le bytesOf insert has split
-added = (refl, refl, refl, refl)
+-- (3, 1, 0) fits, (14, 1, 0) does not, and nothing stands past the end
+pub run : (join (fits 34 (map (entryBy devices payload) (21 ∷ 4 ∷ []))) ≡ three) × (join (fits 35 (map (entryBy devices payload) (21 ∷ 99 ∷ 4 ∷ []))) ≡ three ++ fourteen)
+unfolding span leAt le
+run = (refl, refl)

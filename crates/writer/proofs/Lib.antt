@@ -1,5 +1,5 @@
+pub mod Fits
 pub mod Runs
-pub mod Fronts
 pub mod Straight
 pub mod Whole
 pub mod Asked

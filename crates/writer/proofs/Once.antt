@@ -1,20 +1,28 @@
 -- Each promise fixes its answer and all of the lent memory: any two that it allows are equal.
 -- Assumes nothing.
 use mathlib.Core.Path.{_≡_}
-use mathlib.Core.List.{List}
+use mathlib.Core.Bool.{Bool}
+use mathlib.Core.List.{List, map}
 use Prim.Native.Nat.{ℕ}
 use lib.ListN.{length}
 use Rattle.answer.specs.declared.Answer.{Answer}
 use Rattle.answer.specs.Calls.{Writes}
-use Rattle.answer.proofs.Once.{writes-once}
+use Rattle.answer.proofs.Once.{equal-once, writes-once}
+use Rattle.wire.specs.Parts.{Wrote}
+use Rattle.wire.proofs.Once.{wrote-once}
+use Rattle.order.specs.Entries.{join}
 use Rattle.entries.specs.declared.Kind.{Kind}
 use Rattle.entries.specs.Code.{describe}
-use Rattle.writer.specs.Writer.{sortedOf, withOf, together}
+use Rattle.writer.specs.Runs.{entryBy, fits, inOrder}
+use Rattle.writer.specs.Writer.{sortedOf}
+
+pub run-once : (k : Kind) (s starts old : List ℕ) {r q : ℕ} {new now : List ℕ}
+    → Wrote (join (fits (length old) (map (entryBy (describe k) s) starts))) old new r → Wrote (join (fits (length old) (map (entryBy (describe k) s) starts))) old now q → (r ≡ q) × (new ≡ now)
+run-once k s starts old a b = wrote-once a b
+
+pub order-once : (starts : List ℕ) {r q : Bool} → r ≡ inOrder starts → q ≡ inOrder starts → r ≡ q
+order-once starts e f = equal-once e f
 
 pub write-once : (k : Kind) (s old : List ℕ) {r q : Answer} {new now : List ℕ}
     → Writes (sortedOf (describe k) (length old) s) old r new → Writes (sortedOf (describe k) (length old) s) old q now → (r ≡ q) × (new ≡ now)
 write-once k s old a b = writes-once a b
-
-pub write-with-once : (k : Kind) (s head a mid b old : List ℕ) {r q : Answer} {new now : List ℕ}
-    → Writes (withOf (describe k) (length old) s (together head a mid b)) old r new → Writes (withOf (describe k) (length old) s (together head a mid b)) old q now → (r ≡ q) × (new ≡ now)
-write-with-once k s head a mid b old v w = writes-once v w

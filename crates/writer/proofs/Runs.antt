@@ -1,33 +1,32 @@
--- Entries written one after another: the entry that is cut out at its start, and a run of entries, each behind the last.
+-- Entries written from where they start: the one that is cut out at a place, and those of a list that is taken, which are its entries.
 -- Assumes nothing.
 use mathlib.Core.Path.{_≡_, refl, sym, _∙_, ap}
-use mathlib.Core.List.{List, [], _∷_, _++_, map, map-append, append-nil}
-use Prim.Native.Nat.{ℕ, _+_, _-_, _≤_, _<_, zero-le}
+use mathlib.Core.List.{List, [], _∷_, _++_, map}
+use Prim.Native.Nat.{ℕ, _+_, _-_, _≤_, _<_}
 use native.Mathlib.Numerals.{add-one}
 use native.Mathlib.Omega.{arith}
-use lib.ListN.{length, take, drop, getD, length-take, length-drop, length-append, take-append-drop}
-use lib.Seq.{take-suc, take-all, take-take, take-length, take-at}
-use Rattle.answer.specs.Outcome.{taken, refused}
-use Rattle.answer.proofs.Outcomes.{taken-is, taken-refused}
-use Rattle.wire.specs.Parts.{put, Wrote}
-use Rattle.wire.proofs.Parts.{none, wrote-put, wrote-tail, wrote-length, length-tail}
-use Rattle.format.specs.Places.{readAt}
+use lib.ListN.{length, take, drop, getD, drop-of-length-le, length-take, length-append, take-append-drop}
+use lib.Seq.{drop-cons, take-take, take-length, take-at}
+use Rattle.wire.specs.Parts.{Wrote}
+use Rattle.wire.proofs.Parts.{wrote-tail, wrote-length, length-tail}
+use Rattle.format.specs.Format.{span}
+use Rattle.format.proofs.Meaning.{complete}
+use Rattle.format.proofs.Spans.{span-read}
 use Rattle.order.specs.Keyed.{Every}
-use Rattle.order.specs.Entries.{join}
-use Rattle.order.proofs.Places.{every-at}
-use Rattle.order.proofs.Entries.{join-append}
+use Rattle.order.specs.Entries.{join, first}
+use Rattle.order.proofs.Folds.{append-every}
 use Rattle.entries.specs.Kinds.{Description}
+use Rattle.entries.proofs.Lawful.{Lawful}
 use Rattle.lists.specs.Lists.{widthOf}
-use Rattle.writer.specs.Steps.{entryFrom, run, Stands}
+use Rattle.lists.proofs.Taken.{self}
+use Rattle.lists.proofs.Ordered.{index-every}
+use Rattle.writer.specs.Runs.{entryBy, fits}
+use Rattle.writer.specs.Steps.{entryFrom, run, Listed}
+use Rattle.writer.proofs.Fits.{fits-all, Fitting, fitting-end}
 
--- ---- bytes at the start, and behind what is written
+-- ---- behind what is written
 
-pub wrote-first : {bs old new : List ℕ} → length bs ≤ length old → new ≡ put 0 bs old → Wrote bs old new (length bs)
-wrote-first {bs} {old} h e =
-    let w = wrote-put (none old) bs (omega arith) e in
-    record { count = refl; bytes = w .bytes }
-
--- there is room for them in the tail that is lent
+-- there is room for so many bytes in the tail that is lent
 pub room-behind : {w old l : List ℕ} {at : ℕ} → Wrote w old l at → (n : ℕ) → length w + n ≤ length old → n ≤ length (take (length l - at) (drop at l))
 room-behind {l = l} {at = at} so n h = rw (length-tail at l) (omega (arith, so .count, wrote-length so (omega arith)))
 
@@ -47,71 +46,60 @@ wrote-front {bs} {old} so = rw (so .bytes) (take-at bs (drop (length bs) old) _ 
 take-own : (n : ℕ) (l : List ℕ) → take (length (take n l)) l ≡ take n l
 take-own n l = sym (take-take (length (take n l)) n l (omega (arith, length-take n l))) ∙ take-length (take n l)
 
-module _ (d : Description) (s : List ℕ) (y : ℕ) (h : Stands d s y) where
-  pub never-stops : {a b : ℕ} → refused a b ≡ readAt (d .form) s y → ⊥
-  never-stops q = taken-refused (sym (h .reads) ∙ sym q)
+module _ (d : Description) (s : List ℕ) (y : ℕ) {n : ℕ} {b : List ℕ} (p : n ≡ length (entryBy d s y)) (q : b ≡ drop y s) where
+  pub cut-within : n ≤ length b
+  cut-within = rw q (omega (arith, length-take (span (d .form) (drop y s)) (drop y s)))
 
-  module _ {e : ℕ} (q : taken e ≡ readAt (d .form) s y) where
-    end : e ≡ y + length (entryFrom d s y)
-    end = taken-is (q ∙ h .reads)
+  pub cut-is : take n b ≡ entryBy d s y
+  cut-is = rw (q, p) (take-own (span (d .form) (drop y s)) (drop y s))
 
-    pub ends-within : (y ≤ e) × (e ≤ length s)
-    ends-within = (omega (arith, end), omega (arith, end, h .within, length-take (widthOf d (drop y s)) (drop y s), length-drop y s))
+-- ---- a run, entry by entry: those from the start with the number i on are to come
 
-    cut : take (e - y) (drop y s) ≡ entryFrom d s y
-    cut = let n : e - y ≡ length (entryFrom d s y) = omega (arith, end) in rw n (take-own (widthOf d (drop y s)) (drop y s))
+module _ (d : Description) (s l : List ℕ) {all old : List ℕ} {at i : ℕ} {new : List ℕ} (v : Fitting all old (map (entryBy d s) (drop i l)) at new) where
+  pub run-turn : i < length l → Fitting all old (entryBy d s (getD l i 0) ∷ map (entryBy d s) (drop (i + 1) l)) at new
+  run-turn h = rw (add-one i) (rw (drop-cons l i 0 h) at v)
 
-    pub entry-wrote : {old new : List ℕ} → length (entryFrom d s y) ≤ length old → new ≡ put 0 (take (e - y) (drop y s)) old → Wrote (entryFrom d s y) old new (e - y)
-    entry-wrote k p =
-        let w = wrote-first k (rw cut at p) in
-        record { count = omega (arith, end); bytes = w .bytes }
+  pub run-end : length l ≤ i → Wrote all old new at
+  run-end h = fitting-end (rw (drop-of-length-le l h) at v)
 
--- ---- a run
+-- ---- the entries of a list that is taken
 
-pub run-append : (d : Description) (s l m : List ℕ) → run d s (l ++ m) ≡ run d s l ++ run d s m
-run-append d s l m = ap join (map-append (entryFrom d s) l m) ∙ join-append (map (entryFrom d s) l) (map (entryFrom d s) m)
+map-same : {A B : Type 0} (f g : A → B) (l : List A) → Every (λ x. f x ≡ g x) l → map f l ≡ map g l
+map-same f g [] h = refl
+map-same f g (x ∷ l) h = cc (h .0, map-same f g l (h .1))
 
--- the first entries of a run, and the others
-pub run-split : (d : Description) (s l : List ℕ) (i : ℕ) → run d s (take i l) ++ run d s (drop i l) ≡ run d s l
-run-split d s l i = sym (run-append d s (take i l) (drop i l)) ∙ ap (run d s) (take-append-drop i l)
+module _ {d : Description} (K : Lawful d) {s l : List ℕ} (h : Listed d s l) where
+  -- each entry is as long as its lengths say
+  alike : Every (λ y. entryBy d s y ≡ entryFrom d s y) l
+  alike = index-every K s (h .list) (λ b. take (span (d .form) b) b ≡ first (widthOf d) b) (λ e rest i.
+      ap (λ (n : ℕ). take n (e ++ rest)) (span-read (d .form) (e ++ rest) (complete (d .form) e rest i) ∙ sym (self d .measured e rest i)))
 
-split-length : (d : Description) (s l : List ℕ) (i : ℕ) → length (run d s (take i l)) + length (run d s (drop i l)) ≡ length (run d s l)
-split-length d s l i = sym (length-append (run d s (take i l)) (run d s (drop i l))) ∙ ap length (run-split d s l i)
+  pub by-all : map (entryBy d s) l ≡ map (entryFrom d s) l
+  by-all = map-same (entryBy d s) (entryFrom d s) l alike
 
--- the first i entries are written, and end at `at`
-pub record Running (d : Description) (s l old new : List ℕ) (at i : ℕ) : Type 0 where
-  pub turns : i ≤ length l
-  pub room : length (run d s l) ≤ length old
-  pub wrote : Wrote (run d s (take i l)) old new at
+  -- the first q of them, and the others
+  module _ (q : ℕ) where
+    apart : Every (λ y. entryBy d s y ≡ entryFrom d s y) (take q l) × Every (λ y. entryBy d s y ≡ entryFrom d s y) (drop q l)
+    apart = append-every _ (take q l) (drop q l) (rw (take-append-drop q l) alike)
 
-module _ (d : Description) (s l : List ℕ) where
-  pub running-start : (old : List ℕ) → length (run d s l) ≤ length old → Running d s l old old 0 0
-  running-start old h = record { turns = zero-le; room = h; wrote = none old }
+    pub by-take : map (entryBy d s) (take q l) ≡ map (entryFrom d s) (take q l)
+    by-take = map-same (entryBy d s) (entryFrom d s) (take q l) (apart .0)
 
-  -- one entry more
-  next : (i : ℕ) → i < length l → run d s (take (i + 1) l) ≡ run d s (take i l) ++ entryFrom d s (getD l i 0)
-  next i h = rw (add-one i, take-suc l i 0 h) (run-append d s (take i l) (getD l i 0 ∷ []) ∙ ap (λ (b : List ℕ). run d s (take i l) ++ b) (append-nil (entryFrom d s (getD l i 0))))
+    pub by-drop : map (entryBy d s) (drop q l) ≡ map (entryFrom d s) (drop q l)
+    by-drop = map-same (entryBy d s) (entryFrom d s) (drop q l) (apart .1)
 
-  within : (i : ℕ) → i < length l → length (run d s (take i l)) + length (entryFrom d s (getD l i 0)) ≤ length (run d s l)
-  within i h = omega (arith, split-length d s l (i + 1), ap length (next i h), length-append (run d s (take i l)) (entryFrom d s (getD l i 0)))
+-- where there is room for the run of such entries, it is what is written
+module _ (d : Description) (s l : List ℕ) (e : map (entryBy d s) l ≡ map (entryFrom d s) l) where
+  pub run-fits : (have : ℕ) → length (run d s l) ≤ have → join (fits have (map (entryBy d s) l)) ≡ run d s l
+  run-fits have h = rw e (ap join (fits-all have (map (entryFrom d s) l) h))
 
-  module _ {old new : List ℕ} {at i : ℕ} (v : Running d s l old new at i) where
-    pub running-length : length new ≡ length old
-    running-length = wrote-length (v .wrote) (omega (arith, v .room, split-length d s l i))
+  pub run-wrote : {old new : List ℕ} {n : ℕ} → length (run d s l) ≤ length old → Wrote (join (fits (length old) (map (entryBy d s) l))) old new n → Wrote (run d s l) old new n
+  run-wrote {old} h w = rw (run-fits (length old) h) at w
 
-    pub running-at : at ≤ length new
-    running-at = omega (arith, running-length, v .room, v .wrote .count, split-length d s l i)
-
-    module _ (h : i < length l) where
-      pub running-ready : Every (Stands d s) l → Stands d s (getD l i 0) × (length (entryFrom d s (getD l i 0)) ≤ length (take (length new - at) (drop at new)))
-      running-ready a = (every-at 0 (Stands d s) l a i h, room-behind (v .wrote) _ (omega (arith, v .room, within i h)))
-
-      pub running-end : {last : List ℕ} {n : ℕ} → Wrote (entryFrom d s (getD l i 0)) (take (length new - at) (drop at new)) last n → at + n ≤ length new
-      running-end w = omega (arith, running-length, v .room, v .wrote .count, w .count, within i h)
-
-      pub running-next : {last : List ℕ} {n : ℕ} → Wrote (entryFrom d s (getD l i 0)) (take (length new - at) (drop at new)) last n
-          → Running d s l old (take at new ++ (last ++ drop (length new - at) (drop at new))) (at + n) (i + 1)
-      running-next w = record { turns = omega arith; room = v .room; wrote = rw (next i h) (wrote-tail (v .wrote) w) }
-
-  pub running-done : {old new : List ℕ} {at i : ℕ} → Running d s l old new at i → length l ≤ i → Wrote (run d s l) old new at
-  running-done {i = i} v h = rw (take-all i l h) at (v .wrote)
+-- bytes, and behind them parts as long as they fit
+pub wrote-fits : {bs old l : List ℕ} {at : ℕ} → Wrote bs old l at → length bs ≤ length old → (parts : List (List ℕ)) {new : List ℕ} {n : ℕ}
+    → Wrote (join (fits (length (take (length l - at) (drop at l))) parts)) (take (length l - at) (drop at l)) new n
+    → Wrote (bs ++ join (fits (length old - length bs) parts)) old (take at l ++ (new ++ drop (length l - at) (drop at l))) (at + n)
+wrote-fits {bs} {old} {l} {at} so h parts w =
+    let e : length (take (length l - at) (drop at l)) ≡ length old - length bs = length-tail at l ∙ omega (arith, wrote-length so h, so .count) in
+    wrote-tail so (rw e at w)

@@ -2,10 +2,9 @@
 -- Assumes nothing.
 use mathlib.Core.Path.{_≡_}
 use mathlib.Core.List.{List, map}
-use Prim.Native.Nat.{ℕ, _+_, _≤_}
+use Prim.Native.Nat.{ℕ, _≤_}
 use lib.ListN.{length, drop}
 use Rattle.answer.specs.Outcome.{taken}
-use Rattle.format.specs.Places.{readAt}
 use Rattle.order.specs.Entries.{join, first}
 use Rattle.entries.specs.Kinds.{Description}
 use Rattle.lists.specs.Lists.{listAt, widthOf}
@@ -17,11 +16,6 @@ entryFrom d s y = first (widthOf d) (drop y s)
 -- the entries that start at places, one after another
 abbrev pub run : Description → List ℕ → List ℕ → List ℕ
 run d s l = join (map (entryFrom d s) l)
-
--- an entry is read at a place
-pub record Stands (d : Description) (s : List ℕ) (y : ℕ) : Type 0 where
-  pub within : y ≤ length s
-  pub reads : readAt (d .form) s y ≡ taken (y + length (entryFrom d s y))
 
 -- s is a list, and l where its entries start, in the order of their keys
 pub record Listed (d : Description) (s l : List ℕ) : Type 0 where

@@ -1,7 +1,4 @@
-use Rattle.sections.proofs.Found.{made-read, found-at}
-use Rattle.answer.proofs.Outcomes.{made-same}
-use Rattle.sections.specs.Walks.{placeOf}
-use Rattle.aerosnap.specs.File.{fileOf}
+use Rattle.sections.proofs.Found.{made-read, found-stop, found-at}
 use lib.ListN.{length}
 use borrow.Author.Needs.{needs}
 use Rattle.sections.proofs.find.Statement.{statement}
@@ -17,14 +14,29 @@ enum-told : tie.Need-enum-told
 enum-told c = search needs
 
 seek-requires : tie.Need-seek-requires
-seek-requires c κs = made-read (c .before .before .before .before .args .file .now) length (rw (c .enum-told .given .1) at (c .before .before .scan .ensures))
+seek-requires c κs = made-read (c .before .before .before .before .before .before .before .before .args .file .now) length (rw (c .enum-told .given .1) at (c .before .before .before .before .scan .ensures .answers))
+
+same-length : tie.Need-same-length
+same-length c = search needs
 
 returns : tie.Need-returns
-returns c = let a = c .before .before .before .before .before .args in made-same (fileOf (a .file .now)) length (placeOf (a .id) 16) (rw (c .before .number .given .1) at (c .before .before .before .scan .ensures))
+returns c = let a = c .before .before .before .before .before .before .before .before .before .args in found-stop (a .id) (a .file .now) (rw (c .before .number .given .1) at (c .before .before .before .before .before .scan .ensures))
+
+same-length-2 : tie.Need-same-length-2
+same-length-2 c = search needs
 
 returns-2 : tie.Need-returns-2
-returns-2 c = let a = c .before .before .before .before .before .args in found-at (a .id) (a .file .now) (made-read (a .file .now) length (rw (c .before .enum-told .given .1) at (c .before .before .before .scan .ensures))) (c .seek .ensures)
+returns-2 c = let a = c .before .before .before .before .before .before .before .before .before .args in found-at (a .id) (a .file .now) (rw (c .before .enum-told .given .1) at (c .before .before .before .before .before .scan .ensures)) (c .seek .ensures)
 
 pub find-spec : {M : Type 1} → statement M
 find-spec =
-    tie.close (tie.spec scan-requires enum-known-number enum-told seek-requires returns returns-2)
+    tie.close
+    (tie.spec
+    scan-requires
+    enum-known-number
+    enum-told
+    seek-requires
+    same-length
+    returns
+    same-length-2
+    returns-2)

@@ -1,4 +1,6 @@
-use Rattle.sections.proofs.Rules.{ruled-not, part-length}
+use Rattle.wire.specs.Numbers.{leAt}
+use lib.ListN.{length, take, drop}
+use Rattle.sections.proofs.Rules.{ruled-not, part-length, none-kept, keeps-done}
 use Rattle.aerosnap.specs.Known as spec
 use borrow.Author.Tests.{not-true, not-false}
 use native.Mathlib.Nat.{add-sub-cancel-left}
@@ -16,7 +18,7 @@ known-requires : tie.Need-known-requires
 known-requires c κs = search needs
 
 returns : tie.Need-returns
-returns c = λ l n m. ruled-not l (c .before .before .before .before .args .at) _ _ _ _ (ap spec.known (sym (c .before .before .u32-at .ensures)) ∙ sym (c .before .known .ensures) ∙ not-true _ (c .if1 .taken))
+returns c = λ l n m. let a = c .before .before .before .before .before .args in let s = a .s .now in let k = ap spec.known (sym (c .before .before .u32-at .ensures)) ∙ sym (c .before .known .ensures) ∙ not-true _ (c .if1 .taken) in let z = none-kept (leAt 4 s (a .at)) (leAt 2 s (a .at + 4)) (length (a .index .now)) (take (a .m) (drop (a .at + 16) s)) (a .index .now) k in keeps-done (ruled-not l (a .at) _ _ _ _ k) (z .0) (z .1)
 
 add-u16-at : tie.Need-add-u16-at
 add-u16-at c = search needs
@@ -46,10 +48,13 @@ part-ruled-end : tie.Need-part-ruled-end
 part-ruled-end c = search needs
 
 ruled-requires : tie.Need-ruled-requires
-ruled-requires c κs = let a = c .before .before .before .before .before .before .before .args in (sym (c .before .before .before .before .known .ensures) ∙ not-false _ (c .before .before .before .if1 .left), omega (arith, part-length (a .s .now) (a .at + 16) (a .m) (omega arith)))
+ruled-requires c κs = let a = c .before .before .before .before .before .before .before .before .before .args in (sym (c .before .before .before .before .before .known .ensures) ∙ not-false _ (c .before .before .before .before .if1 .left), omega (arith, part-length (a .s .now) (a .at + 16) (a .m) (omega arith)))
+
+same-length : tie.Need-same-length
+same-length c = search needs
 
 returns-2 : tie.Need-returns-2
-returns-2 c = λ l n m. rw (← c .before .before .before .before .before .before .u32-at .ensures, ← c .before .before .before .u16-at .ensures, ← c .before .before .u16-at2 .ensures) (rw add-sub-cancel-left at (c .ruled .ensures l n m))
+returns-2 c = λ l n m. rw (← c .before .before .before .before .before .before .before .before .before .u32-at .ensures, ← c .before .before .before .before .before .before .u16-at .ensures, ← c .before .before .before .before .before .u16-at2 .ensures) (rw add-sub-cancel-left at (c .before .before .ruled .ensures l n m))
 
 pub judged-spec : {M : Type 1} → statement M
 judged-spec =
@@ -68,4 +73,5 @@ judged-spec =
     part-ruled-start
     part-ruled-end
     ruled-requires
+    same-length
     returns-2)

@@ -1,67 +1,46 @@
-use Rattle.snapshot.proofs.Reading.{list-stop, list-none, list-fits, list-same}
-use lib.ListN.{length}
+use Rattle.sections.proofs.Reading.{roomy-few, roomy-all}
 use native.Mathlib.Omega.{arith}
 use borrow.Author.Needs.{needs}
 use Rattle.snapshot.proofs.list_table.Statement.{statement}
 use Rattle.snapshot.proofs.list_table.Tie as tie
 
-find-requires : tie.Need-find-requires
-find-requires c κs = search needs
+count-requires : tie.Need-count-requires
+count-requires c κs = search needs
 
-enum-known-number : tie.Need-enum-known-number
-enum-known-number c = search needs
+slice-aggregate-list-table-in : tie.Need-slice-aggregate-list-table-in
+slice-aggregate-list-table-in c = search needs
 
-enum-known-at : tie.Need-enum-known-at
-enum-known-at c = search needs
-
-returns : tie.Need-returns
-returns c = let a = c .before .before .before .before .before .before .before .args in list-none (a .t) (a .id) (a .file .now) (rw (c .before .before .at .given .1) at (c .before .before .before .before .find .ensures)) (c .if1 .taken) (a .table .now)
-
-add-b : tie.Need-add-b
-add-b c = search needs
-
-end-at-requires : tie.Need-end-at-requires
-end-at-requires c κs = let a = c .before .before .before .before .before .before .before .args in let g = list-fits (a .t) (a .id) (a .file .now) (rw (c .before .before .at .given .1) at (c .before .before .before .before .find .ensures)) (c .before .before .before .before .before .before .before .pre .0) (c .if1 .left) in omega (arith, g .0, g .1)
-
-sub-write : tie.Need-sub-write
-sub-write c = search needs
-
-part-write-start : tie.Need-part-write-start
-part-write-start c = search needs
-
-part-write-end : tie.Need-part-write-end
-part-write-end c = let a = c .before .before .before .before .before .before .before .before .args in let g = list-fits (a .t) (a .id) (a .file .now) (rw (c .before .before .before .at .given .1) at (c .before .before .before .before .before .find .ensures)) (c .before .before .before .before .before .before .before .before .pre .0) (c .before .if1 .left) in omega (arith, g .0, g .1)
-
-cast-write : tie.Need-cast-write
-cast-write c = let a = c .before .before .before .before .before .before .before .before .before .args in let g = list-fits (a .t) (a .id) (a .file .now) (rw (c .before .before .before .before .at .given .1) at (c .before .before .before .before .before .before .find .ensures)) (c .before .before .before .before .before .before .before .before .before .pre .0) (c .before .before .if1 .left) in omega (arith, g .0, g .1)
-
-write-requires : tie.Need-write-requires
-write-requires c κs = search needs
-
-returns-2 : tie.Need-returns-2
-returns-2 c = let a = c .before .before .before .before .before .before .args in list-stop (a .file .now) (a .t) (a .id) (a .table .now) (rw (c .before .number .given .1) at (c .before .before .before .find .ensures))
+list-table-in-requires : tie.Need-list-table-in-requires
+list-table-in-requires c κs = let t = c .before .before .before .before .before .before in (t .pre .0, t .pre .1, roomy-few (t .args .file .now) (omega (arith, c .before .before .before .count .ensures, c .before .before .if1 .taken)))
 
 same-length : tie.Need-same-length
 same-length c = search needs
 
-returns-3 : tie.Need-returns-3
-returns-3 c = let w = c .before .before .before .before .before .before .before .before .before .before .before .before .before .pre in let a = c .before .before .before .before .before .before .before .before .before .before .before .before .before .args in rw (list-same (a .t) (a .id) (a .file .now) (rw (c .before .before .before .before .before .before .before .before .at .given .1) at (c .before .before .before .before .before .before .before .before .before .before .find .ensures)) (w .0) (c .before .before .before .before .before .before .if1 .left) (w .1) (length (a .table .now)) (c .before .before .before .before .before .end-at .ensures)) at (c .before .before .write .ensures)
+returns : tie.Need-returns
+returns c = search needs
+
+slice-aggregate-list-table-in-2 : tie.Need-slice-aggregate-list-table-in-2
+slice-aggregate-list-table-in-2 c = search needs
+
+list-table-in-requires-2 : tie.Need-list-table-in-requires-2
+list-table-in-requires-2 c κs = let t = c .before .before .before .before .before .before in (t .pre .0, t .pre .1, roomy-all (t .args .file .now))
+
+same-length-2 : tie.Need-same-length-2
+same-length-2 c = search needs
+
+returns-2 : tie.Need-returns-2
+returns-2 c = search needs
 
 pub list-table-spec : {M : Type 1} → statement M
 list-table-spec =
     tie.close
     (tie.spec
-    find-requires
-    enum-known-number
-    enum-known-at
-    returns
-    add-b
-    end-at-requires
-    sub-write
-    part-write-start
-    part-write-end
-    cast-write
-    write-requires
-    returns-2
+    count-requires
+    slice-aggregate-list-table-in
+    list-table-in-requires
     same-length
-    returns-3)
+    returns
+    slice-aggregate-list-table-in-2
+    list-table-in-requires-2
+    same-length-2
+    returns-2)

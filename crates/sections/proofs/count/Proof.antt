@@ -1,0 +1,77 @@
+use mathlib.Core.Path.{sym, _∙_}
+use borrow.Author.Tests.{not-true, not-false}
+use Rattle.sections.proofs.Counts.{Counting, counting-start, counting-none, counting-stop, counting-goes, counting-next, counting-done}
+use Prim.Native.Nat.{_-_}
+use native.Mathlib.Omega.{arith}
+use borrow.Author.Needs.{needs}
+use Rattle.sections.proofs.count.Statement.{statement}
+use Rattle.sections.proofs.count.Tie as tie
+
+abbrev Inv-loop : tie.InvT-loop
+Inv-loop file at₀ i₀ n₀ at i n = Counting file at i n
+
+abbrev μ-loop : tie.MeasureT-loop
+μ-loop file at₀ i₀ n₀ at i n = 64 - i
+
+returns : tie.Need-returns Inv-loop μ-loop
+returns c = counting-none (c .before .before .args .file .now) (c .if1 .taken)
+
+loop-holds : tie.Need-loop-holds Inv-loop μ-loop
+loop-holds c = counting-start _ (c .if1 .left)
+
+fits-requires : tie.Need-fits-requires Inv-loop μ-loop
+fits-requires c κs = (c .before .loop .inv) .inside
+
+returns-2 : tie.Need-returns-2 Inv-loop μ-loop
+returns-2 c = counting-stop (c .before .before .before .loop .inv) (c .before .before .loop-test .taken) (sym (c .before .fits2 .ensures) ∙ not-true _ (c .if2 .taken))
+
+entries-at-requires : tie.Need-entries-at-requires Inv-loop μ-loop
+entries-at-requires c κs = (c .before .before .before .loop .inv) .inside
+
+add-n : tie.Need-add-n Inv-loop μ-loop
+add-n c = omega (arith, (c .before .before .before .before .loop .inv) .few, (c .before .before .before .before .loop .inv) .turns, c .entries-at .ensures .1)
+
+add-u64-at : tie.Need-add-u64-at Inv-loop μ-loop
+add-u64-at c = omega (arith, counting-goes (c .before .before .before .before .loop .inv) (c .before .before .before .loop-test .taken) (sym (c .before .before .fits2 .ensures) ∙ not-false _ (c .before .if2 .left)))
+
+u64-at-requires : tie.Need-u64-at-requires Inv-loop μ-loop
+u64-at-requires c κs = search needs
+
+add-at : tie.Need-add-at Inv-loop μ-loop
+add-at c = omega (arith, counting-goes (c .before .before .before .before .before .loop .inv) (c .before .before .before .before .loop-test .taken) (sym (c .before .before .before .fits2 .ensures) ∙ not-false _ (c .before .before .if2 .left)), c .u64-at .ensures)
+
+add-at-2 : tie.Need-add-at-2 Inv-loop μ-loop
+add-at-2 c = omega (arith, counting-goes (c .before .before .before .before .before .loop .inv) (c .before .before .before .before .loop-test .taken) (sym (c .before .before .before .fits2 .ensures) ∙ not-false _ (c .before .before .if2 .left)), c .u64-at .ensures)
+
+add-i : tie.Need-add-i Inv-loop μ-loop
+add-i c = omega arith
+
+loop-less : tie.Need-loop-less Inv-loop μ-loop
+loop-less c = omega arith
+
+loop-again : tie.Need-loop-again Inv-loop μ-loop
+loop-again c = counting-next (c .before .before .before .before .before .loop .inv) (c .before .before .before .before .loop-test .taken) (sym (c .before .before .before .fits2 .ensures) ∙ not-false _ (c .before .before .if2 .left)) (c .before .entries-at .ensures .0) (c .before .entries-at .ensures .1) (c .u64-at .ensures)
+
+returns-3 : tie.Need-returns-3 Inv-loop μ-loop
+returns-3 c = counting-done (c .before .loop .inv) (c .loop-test .left)
+
+pub count-spec : {M : Type 1} → statement M
+count-spec =
+    tie.close
+    (tie.spec
+    Inv-loop
+    μ-loop
+    returns
+    loop-holds
+    fits-requires
+    returns-2
+    entries-at-requires
+    add-n
+    add-u64-at
+    u64-at-requires
+    add-at
+    add-at-2
+    add-i
+    loop-less
+    loop-again
+    returns-3)
