@@ -8,3 +8,4 @@ pub mod Reading
 pub mod Once
 pub mod Examples
 pub mod Turns
+pub mod Tops

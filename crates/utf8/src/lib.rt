@@ -34,6 +34,30 @@ fn highest(s: &[u8]) -> u8
     top
 }
 
+fn higher(a: u8, b: u8) -> u8
+    ensures { λ r. ⌜ (a ≤ r) × (b ≤ r) ⌝ }
+{
+    if a < b {
+        return b;
+    }
+    a
+}
+
+// The highest byte of a text of any length: whole blocks, and the last bytes once more as a block of their own, so that no loop goes byte by byte but for the shortest.
+fn peak(s: &[u8]) -> u8
+    ensures { λ r. ⌜ AtMost (now (s .entry)) r ⌝ }
+{
+    let n = s.len();
+    if n < 16 {
+        return highest(s);
+    }
+    if n < 32 {
+        return higher(highest(&s[..16]), highest(&s[n - 16..]));
+    }
+    let m = n - n % 32;
+    higher(highest(&s[..m]), highest(&s[n - 32..]))
+}
+
 // What a first byte lets follow: the alternatives of the RFC, section 4, in its order.
 fn lead(b: u8) -> Step
     ensures { λ r. ⌜ r ≡ leadOf b ⌝ }
@@ -140,7 +164,7 @@ fn walk(s: &[u8]) -> Found
 pub fn text(s: &[u8]) -> Found
     ensures { λ r. ⌜ Reads (now (s .entry)) r ⌝ }
 {
-    if highest(s) < 0x80 {
+    if peak(s) < 0x80 {
         return Found::Whole;
     }
     walk(s)
