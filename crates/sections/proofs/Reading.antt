@@ -46,8 +46,8 @@ module _ (e : List ℕ) (w : IsSection e) {d : Description} (q : bodyOf (idOf e)
 
 -- ---- an index that holds all starts of a file
 
-pub roomy-few : (s : List ℕ) → counts 64 (drop 16 s) ≤ 256 → Roomy s 256
-roomy-few s h l c = omega (arith, counts-all s c)
+pub roomy-few : (s : List ℕ) (m : ℕ) → counts 64 (drop 16 s) ≤ m → Roomy s m
+roomy-few s m h l c = omega (arith, counts-all s c)
 
 pub roomy-all : (s : List ℕ) → Roomy s 4864
 roomy-all s l c = starts-bound s c

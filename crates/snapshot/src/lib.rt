@@ -149,12 +149,17 @@ fn list_table_in(t: Table, id: u32, file: &[u8], index: &mut [u32], table: &mut 
     }
 }
 
-// The same of a file that has at most 256 entries, or more.
+// The same, with an index of as many places as the file needs: clearing places costs more than reading a short list.
 fn list_table(t: Table, id: u32, file: &[u8], table: &mut [u8]) -> Answer
     requires { ⌜ (known id ≡ true) × ((v : ℕ) → bodyOf id v ≡ list (described t)) ⌝ }
     ensures { λ r. ⌜ Writes (file_tables.table (file_tables.listRows t id) (length (now (table .entry))) (now (file .entry))) (now (table .entry)) r (now (table .exit)) ⌝ }
 {
-    if sections::count(file) <= 256 {
+    let n = sections::count(file);
+    if n <= 32 {
+        let mut index = [0u32; 32];
+        return list_table_in(t, id, file, &mut index, table);
+    }
+    if n <= 256 {
         let mut index = [0u32; 256];
         return list_table_in(t, id, file, &mut index, table);
     }
