@@ -10,6 +10,7 @@ pub mod Shift
 pub mod Loop
 pub mod Filing
 pub mod Picks
+pub mod Descent
 pub mod Callers
 pub mod InPlace
 pub mod Once
