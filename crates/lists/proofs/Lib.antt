@@ -11,6 +11,7 @@ pub mod Loop
 pub mod Filing
 pub mod Picks
 pub mod Descent
+pub mod Gaps
 pub mod Callers
 pub mod InPlace
 pub mod Once
