@@ -2,7 +2,7 @@
  * Cimbrolau: AEROSNAP version 1 snapshots, DSKC disk-controller wrappers and AIPC messages.
  *
  * Link with target/staticlib/libcimbrolau.a, which `tools/library` makes. Of other libraries it wants memcpy, memmove and memset.
- * It keeps no state and allocates nothing, so several threads may call it at once. A call takes at most 104 KiB of stack.
+ * It keeps no state and allocates nothing, so several threads may call it at once. A call takes at most 108 KiB of stack.
  *
  * Every call takes every input, ends, and answers with a number and a place:
  *
