@@ -63,11 +63,17 @@ fn time(nanoseconds: f64) -> String {
 
 /// The processor, its cores, and how busy they are.
 fn machine() -> String {
-    let about = std::fs::read_to_string("/proc/cpuinfo").unwrap_or_default();
-    let model = about.lines().find_map(|line| line.strip_prefix("model name")).unwrap_or("unknown");
     let cores = std::thread::available_parallelism().map_or(1, |n| n.get());
-    let model = model.trim_matches([' ', '\t', ':']);
+    let model = model().unwrap_or_else(|| std::env::consts::ARCH.to_string());
     format!("{model}, {cores} cores, load {} at the start", load())
+}
+
+/// The processor's name, which `lscpu` knows on every kind of machine.
+fn model() -> Option<String> {
+    let output = std::process::Command::new("lscpu").output().ok()?;
+    let about = String::from_utf8(output.stdout).ok()?;
+    let name = about.lines().find_map(|line| line.strip_prefix("Model name:"))?;
+    Some(name.trim().to_string())
 }
 
 /// The mean number of busy processes over the last minute.
