@@ -398,12 +398,13 @@ fn size(f: Form, bytes: &[u8]) -> usize
 }
 
 // VALUE and TEXT, LIMIT, ROOM.
-fn write_test(f: Form, bytes: &[u8], have: usize) -> Test
+fn write_test(f: Form, bytes: &[u8], need: usize, have: usize) -> Test
+    requires { ⌜ need ≡ length (formBytes f (now bytes)) ⌝ }
     ensures { λ r. ⌜ testOf r ≡ asked (writing f (now (bytes .entry)) have) ⌝ }
 {
     match faults(f, bytes) {
         Test::Fault(number, place) => Test::Fault(number, place),
-        Test::Fine => limits(size(f, bytes), have),
+        Test::Fine => limits(need, have),
     }
 }
 
@@ -500,7 +501,8 @@ pub fn write(message: Message, bytes: &[u8], out: &mut [u8]) -> Answer
     ensures { λ r. ⌜ Writes (writeMessage message (now (bytes .entry)) (length (now (out .entry)))) (now (out .entry)) r (now (out .exit)) ⌝ }
 {
     let f = kinds::form_of(message);
-    match write_test(f, bytes, out.len()) {
+    let need = size(f, bytes);
+    match write_test(f, bytes, need, out.len()) {
         Test::Fault(number, place) => Answer {
             number,
             place: place as u64,
@@ -509,7 +511,7 @@ pub fn write(message: Message, bytes: &[u8], out: &mut [u8]) -> Answer
             put_form(out, f, bytes);
             Answer {
                 number: TAKEN,
-                place: size(f, bytes) as u64,
+                place: need as u64,
             }
         }
     }

@@ -1,5 +1,6 @@
 // The entries of lists: the kinds, and for each kind the readers of an entry at a place.
 // Each takes every slice and every place. Bytes past the end read as 0, and an entry that is not whole is refused.
+// Slices that are handed on as `&s[..]` go in registers (decision 38).
 use answer::ADDRESS;
 use answer::Piece;
 use answer::RESERVED;
@@ -16,14 +17,14 @@ use wire::u16_at;
 use wire::u32_at;
 use wire::u64_at;
 ghost use mathlib.Core.Path.{_≡_};
-ghost use Prim.Native.Nat.{ℕ, _+_, min};
+ghost use Prim.Native.Nat.{ℕ, _+_, _*_, min};
 ghost use lib.ListN.{length, take, drop};
 ghost use Rattle.answer.specs.Outcome.{moved};
 ghost use Rattle.answer.specs.Calls.{pieceOf, testOf, asked};
 ghost use Rattle.format.specs.Format.{any, sized, pair, blob, text, values, span};
 ghost use Rattle.format.specs.Places.{readAt};
 ghost use Rattle.entries.specs.States.{cpuLength, cpuLengthChecks, cpuState, cpuWhole, registers, extension, mmuLength};
-ghost use Rattle.entries.specs.Kinds.{leadChecks, deviceKey, controllerChecks, controllerHead, devices, disks, cpus, controllers};
+ghost use Rattle.entries.specs.Kinds.{leadChecks, controllerChecks, controllerHead, devices, disks, cpus, controllers};
 ghost use Rattle.entries.specs.Code.{describe};
 
 // The kinds of entry; CPUs and MMUs by the version of their section.
@@ -198,25 +199,28 @@ pub fn lead_at(kind: Kind, s: &[u8], at: usize) -> Test
 
 // ---- keys
 
-fn device_key(b: &[u8]) -> u64
-    ensures { λ r. ⌜ r ≡ deviceKey (now (b .entry)) ⌝ }
+// A device's key: the first field weighs most, although its bytes come first.
+fn device_key(id: u32, version: u16, flags: u16) -> u64
+    ensures { λ r. ⌜ r ≡ (id * 65536 + version) * 65536 + flags ⌝ }
 {
-    let id = u32_at(b, 0) as u64;
-    let version = u16_at(b, 4) as u64;
-    let flags = u16_at(b, 6) as u64;
-    (id * 65536 + version) * 65536 + flags
+    ((id as u64) * 65536 + (version as u64)) * 65536 + (flags as u64)
 }
 
-// The key of the entry that begins the bytes: a number, so that 256 comes after 1.
+// The key of the entry that begins the bytes: a number, so that 256 comes after 1. Every key lies in the first eight bytes, which are read at once.
 pub fn key_of(kind: Kind, b: &[u8]) -> u64
     ensures { λ r. ⌜ r ≡ describe kind .key (now (b .entry)) ⌝ }
 {
+    let x = u64_at(b, 0);
     match kind {
-        Kind::Devices => device_key(b),
-        Kind::Disks => u32_at(b, 0) as u64,
-        Kind::Cpus(_) => u32_at(b, 0) as u64,
-        Kind::Mmus(_) => u32_at(b, 0) as u64,
-        Kind::Controllers => u16_at(b, 0) as u64,
+        Kind::Devices => device_key(
+            (x % 4294967296) as u32,
+            (x / 4294967296 % 65536) as u16,
+            (x / 281474976710656) as u16,
+        ),
+        Kind::Disks => x % 4294967296,
+        Kind::Cpus(_) => x % 4294967296,
+        Kind::Mmus(_) => x % 4294967296,
+        Kind::Controllers => x % 65536,
     }
 }
 
@@ -334,11 +338,11 @@ pub fn entry_at(kind: Kind, s: &[u8], at: usize) -> Piece
     ensures { λ r. ⌜ pieceOf r ≡ readAt (describe kind .form) (now (s .entry)) at ⌝ }
 {
     match kind {
-        Kind::Devices => device_at(s, at),
-        Kind::Disks => disk_at(s, at),
-        Kind::Cpus(v) => cpu_at(v, s, at),
-        Kind::Mmus(v) => block_at(s, at, 4 + mmu_length(v)),
-        Kind::Controllers => controller_at(s, at),
+        Kind::Devices => device_at(&s[..], at),
+        Kind::Disks => disk_at(&s[..], at),
+        Kind::Cpus(v) => cpu_at(v, &s[..], at),
+        Kind::Mmus(v) => block_at(&s[..], at, 4 + mmu_length(v)),
+        Kind::Controllers => controller_at(&s[..], at),
     }
 }
 

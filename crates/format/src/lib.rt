@@ -50,20 +50,20 @@ fn held_at(s: &[u8], at: usize, w: usize, n: u64, most: u64) -> Piece
 pub fn part_at(s: &[u8], at: usize, most: u32) -> Piece
     ensures { λ r. ⌜ pieceOf r ≡ readAt (blob 4 most) (now (s .entry)) at ⌝ }
 {
-    if wire::left(s.len(), at) < 4 {
-        return Piece::Stop(SHAPE, at);
+    if wire::fits(s.len(), at, 4) {
+        return held_at(s, at, 4, wire::u32_at(s, at) as u64, most as u64);
     }
-    held_at(s, at, 4, wire::u32_at(s, at) as u64, most as u64)
+    Piece::Stop(SHAPE, at)
 }
 
 // A u64 length, at most so much, and as many bytes.
 pub fn blob_at(s: &[u8], at: usize, most: u64) -> Piece
     ensures { λ r. ⌜ pieceOf r ≡ readAt (blob 8 most) (now (s .entry)) at ⌝ }
 {
-    if wire::left(s.len(), at) < 8 {
-        return Piece::Stop(SHAPE, at);
+    if wire::fits(s.len(), at, 8) {
+        return held_at(s, at, 8, wire::u64_at(s, at), most);
     }
-    held_at(s, at, 8, wire::u64_at(s, at), most)
+    Piece::Stop(SHAPE, at)
 }
 
 // A u32 length, at most so much, and as many bytes of UTF-8.

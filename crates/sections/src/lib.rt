@@ -1,4 +1,5 @@
 // The sections of a snapshot file: the header, one step of the walk, the walk up to the end of the file, and where a section stands in a file that is taken.
+// Slices that are handed on as `&s[..]` go in registers (decision 38).
 use answer::CUT;
 use answer::ENDIAN;
 use answer::LIMIT;
@@ -242,12 +243,12 @@ fn header(s: &[u8]) -> Test
 pub fn scan(file: &[u8], index: &mut [u32]) -> Piece
     ensures { λ r. ⌜ Scanned (fileOf (now (file .entry))) (now (index .entry)) r (now (index .exit)) ⌝ }
 {
-    match header(file) {
+    match header(&file[..]) {
         Test::Fault(number, place) => {
             lists::forget(index);
             Piece::Stop(number, place)
         }
-        Test::Fine => walk(file, index),
+        Test::Fine => walk(&file[..], index),
     }
 }
 
@@ -301,9 +302,9 @@ fn seek(file: &[u8], id: u32) -> Spot
 pub fn find(file: &[u8], id: u32, index: &mut [u32]) -> Spot
     ensures { λ r. ⌜ Spotted id (fileOf (now (file .entry))) (now (index .entry)) r (now (index .exit)) ⌝ }
 {
-    match scan(file, index) {
+    match scan(&file[..], index) {
         Piece::Stop(number, place) => Spot::Fault(number, place),
-        Piece::Ends(_) => seek(file, id),
+        Piece::Ends(_) => seek(&file[..], id),
     }
 }
 

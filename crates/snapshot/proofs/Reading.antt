@@ -9,7 +9,8 @@ use lib.Seq.{length-take-le}
 use borrow.Author.Tests.{le-leb, lt-leb}
 use Rattle.answer.specs.Numbers.{ROOM}
 use Rattle.answer.specs.Outcome.{Outcome, taken, refused, after, done, fitting}
-use Rattle.answer.specs.Calls.{Writes}
+use Rattle.answer.specs.declared.Answer.{Answer}
+use Rattle.answer.specs.Calls.{verdict, Writes}
 use Rattle.answer.proofs.Outcomes.{made-stop, made-taken}
 use Rattle.wire.specs.Numbers.{leAt}
 use Rattle.wire.specs.Parts.{Wrote}
@@ -25,7 +26,7 @@ use Rattle.aerosnap.specs.Payloads.{list, bodyOf}
 use Rattle.aerosnap.specs.File.{idOf, versionOf, fileOf}
 use Rattle.aerosnap.specs.Tables.{placed, startsOf, listRows, table, sectionTable}
 use Rattle.aerosnap.proofs.Taken.{file-sound}
-use Rattle.aerosnap.proofs.Standing.{stand-start, endAt}
+use Rattle.aerosnap.proofs.Standing.{stand-start, endAt, finished}
 use Rattle.sections.specs.Walks.{counted, sectionsIn}
 use Rattle.sections.specs.Index.{spotIn}
 use Rattle.sections.proofs.Found.{spot-stop, Sited, Here, none-there, there, made-none, made-one}
@@ -33,6 +34,10 @@ use Rattle.sections.proofs.Reading.{starts-list, found-inside, found-starts}
 use Rattle.snapshot.specs.Walks.{sectionRows, Lists}
 
 -- ---- by the outcome of the file
+
+none-placed : placed 16 [] ≡ []
+unfolding placed
+none-placed = refl
 
 pub counted-taken : (o : Outcome (List (List ℕ))) {n : ℕ} → taken n ≡ counted o → (l : List (List ℕ)) × (o ≡ taken l) × (n ≡ length l)
 counted-taken o h = made-taken o length h
@@ -57,6 +62,13 @@ module _ (s : List ℕ) where
   -- a file that is taken: its table, for an output of so many bytes
   pub table-of : (rows : ℕ × List ℕ → List ℕ) (have : ℕ) {l : List (List ℕ)} → fileOf s ≡ taken l → table rows have s ≡ fitting have (flat rows (placed 16 l))
   table-of rows have h = ap (λ (o : Outcome (List (List ℕ))). after o (λ l. fitting have (flat rows (placed 16 l)))) h
+
+  -- a file that has no section: no record, so that its verdict is the answer
+  pub no-section : (rows : ℕ × List ℕ → List ℕ) (old : List ℕ) → length s ≤ 16 → {r : Answer} → r ≡ verdict (fileOf s) → Writes (table rows (length old) s) old r old
+  no-section rows old h k = subst (λ (r : Answer). Writes (table rows (length old) s) old r old) (sym k) (go (fileOf s) refl) where
+    go : (o : Outcome (List (List ℕ))) → fileOf s ≡ o → Writes (table rows (length old) s) old (verdict o) old
+    go (refused n p) e = stopped rows old e
+    go (taken l) e = writes-taken (table-of rows (length old) e ∙ ap (λ (m : List (List ℕ)). fitting (length old) (flat rows (placed 16 m))) (finished l (stand-start s e) h) ∙ rw (none-placed, le-leb 0 (length old) (omega arith))) (none old)
 
 -- ---- the table of sections
 

@@ -1,4 +1,5 @@
 // Snapshot files, all calls: checked whole, their tables handed out, written in canonical form, and with a device or a disk more.
+// Slices that are handed on as `&s[..]` go in registers (decision 38).
 use answer::Answer;
 use answer::Piece;
 use answer::ROOM;
@@ -23,6 +24,9 @@ ghost use Rattle.aerosnap.specs.Tables as file_tables;
 ghost use Rattle.aerosnap.specs.Calls.{checkCall, sectionsCall, devicesCall, disksCall, canonicalCall, addDeviceCall, addDiskCall};
 ghost use Rattle.sections.specs.Index.{Roomy};
 ghost use Rattle.snapshot.specs.Walks.{sectionRows, Lists};
+
+// A file that is no longer than its header has no section, and its tables are empty.
+const HEADER: usize = 16;
 
 // The ids of the lists that have a table.
 const DEVICES: u32 = 4;
@@ -132,7 +136,7 @@ fn list_table_in(t: Table, id: u32, file: &[u8], index: &mut [u32], table: &mut 
     requires { ⌜ (known id ≡ true) × ((v : ℕ) → bodyOf id v ≡ list (described t)) × Roomy (now file) (length (now index)) ⌝ }
     ensures { λ r. ⌜ Writes (file_tables.table (file_tables.listRows t id) (length (now (table .entry))) (now (file .entry))) (now (table .entry)) r (now (table .exit)) ⌝ }
 {
-    match sections::find(file, id, index) {
+    match sections::find(&file[..], id, index) {
         Spot::Fault(number, place) => Answer {
             number,
             place: place as u64,
@@ -144,7 +148,7 @@ fn list_table_in(t: Table, id: u32, file: &[u8], index: &mut [u32], table: &mut 
                     place: 0,
                 };
             }
-            put_list(t, id, file, at, index, first, table)
+            put_list(t, id, &file[..], at, index, first, table)
         }
     }
 }
@@ -154,23 +158,26 @@ fn list_table(t: Table, id: u32, file: &[u8], table: &mut [u8]) -> Answer
     requires { ⌜ (known id ≡ true) × ((v : ℕ) → bodyOf id v ≡ list (described t)) ⌝ }
     ensures { λ r. ⌜ Writes (file_tables.table (file_tables.listRows t id) (length (now (table .entry))) (now (file .entry))) (now (table .entry)) r (now (table .exit)) ⌝ }
 {
-    let n = sections::count(file);
+    let n = sections::count(&file[..]);
     if n <= 32 {
         let mut index = [0u32; 32];
-        return list_table_in(t, id, file, &mut index, table);
+        return list_table_in(t, id, &file[..], &mut index, table);
     }
     if n <= 256 {
         let mut index = [0u32; 256];
-        return list_table_in(t, id, file, &mut index, table);
+        return list_table_in(t, id, &file[..], &mut index, table);
     }
     let mut index = [0u32; 4864];
-    list_table_in(t, id, file, &mut index, table)
+    list_table_in(t, id, &file[..], &mut index, table)
 }
 
 // The table of devices in key order.
 pub fn devices(file: &[u8], table: &mut [u8]) -> Answer
     ensures { λ r. ⌜ Writes (devicesCall (length (now (table .entry))) (now (file .entry))) (now (table .entry)) r (now (table .exit)) ⌝ }
 {
+    if file.len() <= HEADER {
+        return check(file);
+    }
     list_table(Table::Devices, DEVICES, file, table)
 }
 
@@ -178,6 +185,9 @@ pub fn devices(file: &[u8], table: &mut [u8]) -> Answer
 pub fn disks(file: &[u8], table: &mut [u8]) -> Answer
     ensures { λ r. ⌜ Writes (disksCall (length (now (table .entry))) (now (file .entry))) (now (table .entry)) r (now (table .exit)) ⌝ }
 {
+    if file.len() <= HEADER {
+        return check(file);
+    }
     list_table(Table::Disks, DISKS, file, table)
 }
 

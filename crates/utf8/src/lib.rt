@@ -1,4 +1,5 @@
 // UTF-8 as in RFC 3629: whether bytes are a text, and if not, the first place at which no text continues.
+// Slices that are handed on as `&s[..]` go in registers (decision 38).
 ghost use mathlib.Core.Path.{_≡_};
 ghost use Prim.Native.Nat.{_≤_};
 ghost use lib.ListN.{length};
@@ -164,10 +165,10 @@ fn walk(s: &[u8]) -> Found
 pub fn text(s: &[u8]) -> Found
     ensures { λ r. ⌜ Reads (now (s .entry)) r ⌝ }
 {
-    if peak(s) < 0x80 {
+    if peak(&s[..]) < 0x80 {
         return Found::Whole;
     }
-    walk(s)
+    walk(&s[..])
 }
 
 // Whether s is a text.

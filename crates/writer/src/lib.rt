@@ -1,5 +1,6 @@
 // Lists written in the order of their keys, whatever their kind: runs of entries from their starts, and whole lists.
 // Of a whole list the length needed is known before anything is written, and a refusal leaves `out` as it was.
+// Slices that are handed on as `&s[..]` go in registers (decision 38).
 use answer::Answer;
 use answer::Piece;
 use answer::ROOM;
@@ -41,7 +42,7 @@ pub fn put_run(kind: Kind, s: &[u8], starts: &[u32], out: &mut [u8]) -> usize
     let mut i = 0;
     while i < starts.len() {
         let y = starts[i] as usize;
-        let n = put_entry(kind, s, y, &mut out[at..]);
+        let n = put_entry(kind, &s[..], y, &mut out[at..]);
         if out.len() - at < n {
             return at;
         }

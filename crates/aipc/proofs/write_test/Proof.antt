@@ -20,9 +20,6 @@ enum-known-number c = search needs
 enum-told : tie.Need-enum-told
 enum-told c = search needs
 
-size-requires : tie.Need-size-requires
-size-requires c κs = tt
-
 limits-requires : tie.Need-limits-requires
 limits-requires c κs = tt
 
@@ -30,7 +27,7 @@ returns : tie.Need-returns
 returns c = let a = c .before .before .before .before .before .args in test-stops _ (faults (a .f) (a .bytes .now)) (c .before .before .before .faults .ensures) _ (c .before .number .given .1) ∙ sym (writing-checks (a .f) (a .bytes .now) (a .have) (taken tt))
 
 returns-2 : tie.Need-returns-2
-returns-2 c = let a = c .before .before .before .before .before .before .args in c .limits .ensures ∙ rw (c .before .size .ensures) (test-goes _ (faults (a .f) (a .bytes .now)) (c .before .before .before .before .faults .ensures) (asked (limits (length (formBytes (a .f) (a .bytes .now))) (a .have))) (c .before .before .enum-told .given .1)) ∙ sym (writing-checks (a .f) (a .bytes .now) (a .have) (taken tt))
+returns-2 c = let t = c .before .before .before .before .before in let a = t .args in c .limits .ensures ∙ rw (t .pre) (test-goes _ (faults (a .f) (a .bytes .now)) (c .before .before .before .faults .ensures) (asked (limits (length (formBytes (a .f) (a .bytes .now))) (a .have))) (c .before .enum-told .given .1)) ∙ sym (writing-checks (a .f) (a .bytes .now) (a .have) (taken tt))
 
 pub write-test-spec : {M : Type 1} → statement M
 write-test-spec =
@@ -39,7 +36,6 @@ write-test-spec =
     faults-requires
     enum-known-number
     enum-told
-    size-requires
     limits-requires
     returns
     returns-2)
