@@ -8,13 +8,13 @@ use native.Mathlib.Omega.{arith}
 use lib.ListN.{length, drop, length-append}
 use Rattle.answer.specs.Outcome.{Outcome, taken}
 use Rattle.order.specs.Keyed.{Every, flat}
-use Rattle.lists.specs.Lists.{listAt}
+use Rattle.lists.specs.Lists.{listAt, startsIn}
 use Rattle.tables.specs.Tables.{described, framedRow, rowsAt}
 use Rattle.tables.specs.declared.Table.{Table}
 use Rattle.tables.specs.declared.Table.the-variants.{Devices}
 use Rattle.tables.proofs.Rows.{length-row}
 use Rattle.aerosnap.specs.Content.{isId}
-use Rattle.aerosnap.specs.Tables.{placed, startsOf, listRows}
+use Rattle.aerosnap.specs.Tables.{placed, listRows}
 
 -- the records of the first section, and those of the others
 pub rows-first : (rows : ℕ × List ℕ → List ℕ) (at : ℕ) (e : List ℕ) (l : List (List ℕ)) → flat rows (placed at (e ∷ l)) ≡ rows (at, e) ++ flat rows (placed (at + length e) l)
@@ -48,4 +48,4 @@ module _ (t : Table) (i : ℕ) where
       rows-first (listRows t i) at e l
       ∙ ap (λ (m : List ℕ). listRows t i (at, e) ++ m) (rows-none (at + length e) l o)
       ∙ append-nil (listRows t i (at, e))
-      ∙ rw (h, cond) (ap (λ (o : Outcome (List ℕ)). rowsAt t (at + 16) (drop 16 e) (startsOf o)) q)
+      ∙ rw (h, cond) (ap (λ (o : Outcome (List ℕ)). rowsAt t (at + 16) (drop 16 e) (startsIn o)) q)

@@ -4,9 +4,9 @@ use mathlib.Core.List.{List, [], _∷_}
 use mathlib.Core.Bool.{cond}
 use Prim.Native.Nat.{ℕ, _+_}
 use lib.ListN.{length, drop}
-use Rattle.answer.specs.Outcome.{Outcome, taken, refused, after, fitting}
+use Rattle.answer.specs.Outcome.{Outcome, after, fitting}
 use Rattle.order.specs.Keyed.{flat}
-use Rattle.lists.specs.Lists.{listAt}
+use Rattle.lists.specs.Lists.{listAt, startsIn}
 use Rattle.tables.specs.Tables.{described, framedRow, rowsAt}
 use Rattle.tables.specs.declared.Table.{Table}
 use Rattle.tables.specs.declared.Table.the-variants.{Devices, Disks}
@@ -19,14 +19,9 @@ unfoldable pub placed : ℕ → List (List ℕ) → List (ℕ × List ℕ)
 placed at [] = []
 placed at (e ∷ l) = (at, e) ∷ placed (at + length e) l
 
--- where the entries of a list that was taken start, in the order of their keys
-abbrev pub startsOf : Outcome (List ℕ) → List ℕ
-startsOf (taken l) = l
-startsOf (refused n p) = []
-
 -- the records of a section's entries, if it is the one with that id
 abbrev pub listRows : Table → ℕ → ℕ × List ℕ → List ℕ
-listRows t i q = cond (isId i (q .1)) (rowsAt t (q .0 + 16) (drop 16 (q .1)) (startsOf (listAt (described t) (drop 16 (q .1))))) []
+listRows t i q = cond (isId i (q .1)) (rowsAt t (q .0 + 16) (drop 16 (q .1)) (startsIn (listAt (described t) (drop 16 (q .1))))) []
 
 -- the records of each section, for an output of so many bytes; the whole input is checked first
 abbrev pub table : (ℕ × List ℕ → List ℕ) → ℕ → List ℕ → Outcome (List ℕ)

@@ -40,6 +40,11 @@ countChecks d s = (leb 4 (length s), SHAPE, 0) ∷ (leb (leAt 4 s 0) (d .most), 
 unfoldable pub listAt : Description → List ℕ → Outcome (List ℕ)
 listAt d s = checked (countChecks d s) (walk d s (leAt 4 s 0) 4 [])
 
+-- the starts of a list that was taken; none of one that was refused
+abbrev pub startsIn : Outcome (List ℕ) → List ℕ
+startsIn (taken l) = l
+startsIn (refused n p) = []
+
 -- the length of the entry that begins b
 abbrev pub widthOf : Description → List ℕ → ℕ
 widthOf d b = elim (read (d .form) b) [ taken w ↦ w | refused n p ↦ 0 ]

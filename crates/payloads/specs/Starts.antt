@@ -2,8 +2,8 @@
 -- Assumes nothing.
 use mathlib.Core.List.{List, []}
 use Prim.Native.Nat.{ℕ}
-use Rattle.answer.specs.Outcome.{Outcome, taken, refused, checked, after}
-use Rattle.lists.specs.Lists.{listAt, partChecks, whole}
+use Rattle.answer.specs.Outcome.{Outcome, taken, checked, after}
+use Rattle.lists.specs.Lists.{listAt, startsIn, partChecks, whole}
 use Rattle.aerosnap.specs.Payloads.{Body, meta, cpu, mmu, list, opaque, bodyOf, payload}
 
 -- where the entries of a payload start, in the order of their keys; none where it is no list or is refused
@@ -11,7 +11,7 @@ abbrev pub starts : Body → List ℕ → List ℕ
 starts meta p = []
 starts (cpu v) p = []
 starts (mmu v) p = []
-starts (list d) p = elim (listAt d p) [ taken l ↦ l | refused n q ↦ [] ]
+starts (list d) p = startsIn (listAt d p)
 starts opaque p = []
 
 -- the call that reads a payload, where so many places are lent for starts: all of a list's, or none where it has more

@@ -17,14 +17,14 @@ use Rattle.wire.specs.Parts.{Wrote}
 use Rattle.wire.proofs.Parts.{none}
 use Rattle.wire.proofs.Calls.{writes-refused, writes-taken}
 use Rattle.order.specs.Keyed.{flat}
-use Rattle.lists.specs.Lists.{listAt}
+use Rattle.lists.specs.Lists.{listAt, startsIn}
 use Rattle.tables.specs.declared.Table.{Table}
 use Rattle.tables.specs.declared.Table.the-variants.{Devices}
 use Rattle.tables.specs.Tables.{described, framedRow, rowsAt}
 use Rattle.tables.proofs.Rows.{length-row, length-rows, rows-all}
 use Rattle.aerosnap.specs.Payloads.{list, bodyOf}
 use Rattle.aerosnap.specs.File.{idOf, versionOf, fileOf}
-use Rattle.aerosnap.specs.Tables.{placed, startsOf, listRows, table, sectionTable}
+use Rattle.aerosnap.specs.Tables.{placed, listRows, table, sectionTable}
 use Rattle.aerosnap.proofs.Taken.{file-sound}
 use Rattle.aerosnap.proofs.Standing.{stand-start, endAt, finished}
 use Rattle.sections.specs.Walks.{counted, sectionsIn}
@@ -103,7 +103,7 @@ module _ (s old : List ℕ) {n : ℕ} (h : taken n ≡ counted (fileOf s)) where
 -- no section has it: no record
 pub list-none : (t : Table) (i : ℕ) (s : List ℕ) {p n : ℕ} → Sited i s p n → length s ≤ p → (old : List ℕ) → Writes (table (listRows t i) (length old) s) old (record { number = 0; place = 0 }) old
 list-none t i s x g old =
-    let n = made-none i (λ q. rowsAt t (q .0 + 16) (drop 16 (q .1)) (startsOf (listAt (described t) (drop 16 (q .1))))) 16 (sectionsIn s) (none-there i s (x .read) (x .place) g) in
+    let n = made-none i (λ q. rowsAt t (q .0 + 16) (drop 16 (q .1)) (startsIn (listAt (described t) (drop 16 (q .1))))) 16 (sectionsIn s) (none-there i s (x .read) (x .place) g) in
     writes-taken (table-of s (listRows t i) (length old) (x .read) ∙ rw (n, le-leb 0 (length old) (omega arith))) (none old)
 
 module _ (t : Table) (i : ℕ) (s index : List ℕ) {p first : ℕ} (x : Lists t i s p index first) where
@@ -131,9 +131,9 @@ module _ (t : Table) (i : ℕ) (s index : List ℕ) {p first : ℕ} (x : Lists t
           let b : List ℕ = drop 16 (found .sec) in
           let z : e - (p + 16) ≡ leAt 8 s (p + 8) = omega arith in
           let part : take (e - (p + 16)) (drop (p + 16) s) ≡ b = ap (λ (j : ℕ). take j (drop (p + 16) s)) z ∙ found .part in
-          made-one i (λ q. rowsAt t (q .0 + 16) (drop 16 (q .1)) (startsOf (listAt (described t) (drop 16 (q .1))))) 16 (sectionsIn s) (found .alone)
-          ∙ ap (λ (j : ℕ). rowsAt t (j + 16) b (startsOf (listAt (described t) b))) (sym (x .place))
-          ∙ ap (λ (o : Outcome (List ℕ)). rowsAt t (p + 16) b (startsOf o)) (starts-list (found .sec) (found .is) body-is)
+          made-one i (λ q. rowsAt t (q .0 + 16) (drop 16 (q .1)) (startsIn (listAt (described t) (drop 16 (q .1))))) 16 (sectionsIn s) (found .alone)
+          ∙ ap (λ (j : ℕ). rowsAt t (j + 16) b (startsIn (listAt (described t) b))) (sym (x .place))
+          ∙ ap (λ (o : Outcome (List ℕ)). rowsAt t (p + 16) b (startsIn o)) (starts-list (found .sec) (found .is) body-is)
           ∙ ap (rowsAt t (p + 16) b) (sym (found-starts found body-is (x .starts) (x .front) c))
           ∙ ap (λ (u : List ℕ). rowsAt t (p + 16) u (take (first + n - first) (drop first index))) (sym part)
 
