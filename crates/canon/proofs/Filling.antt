@@ -1,7 +1,7 @@
 -- Lent memory that is filled part by part, each part into the tail from where the last one ended.
 -- Assumes nothing.
 use mathlib.Core.Path.{_≡_, refl, sym, _∙_, ap}
-use mathlib.Core.List.{List, [], _++_, append-assoc, append-nil}
+use mathlib.Core.List.{List, [], _∷_, _++_, append-assoc, append-nil}
 use Prim.Native.Nat.{ℕ, _+_, _-_, _≤_}
 use native.Mathlib.Omega.{arith}
 use lib.ListN.{length, take, drop, length-append, drop-of-length-le}
@@ -44,6 +44,11 @@ module _ {all old rest : List ℕ} {t : ℕ} {new : List ℕ} (v : Filling all o
   -- the rest is written
   pub filling-done : {last : List ℕ} {n : ℕ} → Wrote rest (take (length new - t) (drop t new)) last n → Wrote all old (take t new ++ (last ++ drop (length new - t) (drop t new))) (t + n)
   filling-done w = rw (v .whole) (wrote-tail (v .wrote) w)
+
+-- nothing is to come, by the lengths
+pub filling-whole : (rest : List ℕ) {all old : List ℕ} {t : ℕ} {new : List ℕ} → Filling all old rest t new → length all ≤ t → Wrote all old new t
+filling-whole [] v h = filling-end v
+filling-whole (x ∷ r) v h = absurd (omega (arith, filling-sum v))
 
 module _ {all old : List ℕ} (x rest : List ℕ) {t : ℕ} {new : List ℕ} (v : Filling all old (x ++ rest) t new) where
   -- there is room for the next part
