@@ -2,7 +2,7 @@
 -- Assumes nothing.
 use mathlib.Core.Path.{_≡_, refl, sym, _∙_, ap, subst}
 use mathlib.Core.List.{List, [], _∷_, _++_}
-use mathlib.Core.Bool.{Bool, true, false, not, _||_}
+use mathlib.Core.Bool.{Bool, true, false, not}
 use mathlib.Core.Logic.{_≢_}
 use Prim.Native.Nat.{ℕ, _+_, _-_, _≤_, _<_}
 use native.Mathlib.Omega.{arith}
@@ -12,7 +12,7 @@ use lib.Dec.{leb, ltb, eqb}
 use borrow.Author.Tests.{le-leb, lt-leb, le-ltb, lt-ltb, eq-eqb, ne-eqb}
 use Rattle.answer.specs.declared.Piece.{Piece}
 use Rattle.answer.specs.declared.Piece.the-variants.{Stop, Ends}
-use Rattle.answer.specs.Numbers.{CUT, MANY, SECVER, RESERVED, TWICE, LIMIT}
+use Rattle.answer.specs.Numbers.{CUT, MANY}
 use Rattle.answer.specs.Outcome.{Outcome, taken, refused, checked, after, moved}
 use Rattle.answer.proofs.Checks.{fails, pass-checked, checked-pass, checked-after}
 use Rattle.answer.proofs.Outcomes.{after-taken, after-after, taken-is, taken-refused, made-stop, made-taken}
@@ -20,30 +20,19 @@ use Rattle.wire.specs.Numbers.{leAt}
 use Rattle.wire.proofs.Numbers.{leAt-drop, leAt-here}
 use Rattle.order.specs.Keyed.{has}
 use Rattle.lists.specs.Lists.{partChecks, whole}
-use Rattle.aerosnap.specs.Known.{known, takes, slot}
+use Rattle.aerosnap.specs.Known.{known, slot}
 use Rattle.aerosnap.specs.Payloads.{bodyOf, payload}
 use Rattle.aerosnap.specs.File.{sectionsMost, slotOf, knownChecks, ruled, sectionOf}
 use Rattle.aerosnap.proofs.Bodies.{lawful-body, payload-within}
 use Rattle.payloads.specs.Starts.{starts, keptOf}
 use Rattle.sections.specs.Walks.{Marks}
 use Rattle.sections.specs.Index.{startsOf, Keeps}
+use Rattle.sections.proofs.Rows.{Left}
 use Rattle.sections.proofs.Kept.{body-other}
 
 -- ---- a known section
 
 module _ (l : List (List ℕ)) (at id v f : ℕ) (p : List ℕ) where
-  abbrev version : Bool × ℕ × ℕ
-  version = (takes id v, SECVER, at + 4)
-
-  abbrev flags : Bool × ℕ × ℕ
-  flags = (eqb f 0, RESERVED, at + 6)
-
-  abbrev twice : Bool × ℕ × ℕ
-  twice = (not (has slotOf (slot id) l), TWICE, at)
-
-  abbrev big : Bool × ℕ × ℕ
-  big = (not (eqb id 4) || leb (length p) 268435456, LIMIT, at + 8)
-
   abbrev body : Outcome (Unit {0})
   body = moved (at + 16) (payload (bodyOf id v) p)
 
@@ -54,37 +43,29 @@ module _ (l : List (List ℕ)) (at id v f : ℕ) (p : List ℕ) where
   pub ruled-not : known id ≡ false → taken tt ≡ ruled l at id v f p
   ruled-not k = sym (by-known k)
 
-  module _ (k : known id ≡ true) where
-    pub ruled-version : takes id v ≡ false → refused SECVER (at + 4) ≡ ruled l at id v f p
-    ruled-version h = sym (by-known k ∙ fails [] version (flags ∷ twice ∷ big ∷ []) body tt h)
+  -- its rows from the nth on
+  abbrev pub Ruling : ℕ → Type 0
+  Ruling n = Left (drop n (knownChecks l at id v f p)) body (ruled l at id v f p)
 
-    module _ (a : takes id v ≡ true) where
-      pub ruled-flags : 0 < f → refused RESERVED (at + 6) ≡ ruled l at id v f p
-      ruled-flags h = sym (by-known k ∙ fails (version ∷ []) flags (twice ∷ big ∷ []) body (a, tt) (ne-eqb f 0 (λ e. omega arith)))
+  pub ruled-all : known id ≡ true → Ruling 0
+  ruled-all k = record { same = sym (by-known k) }
 
-      module _ (b : f ≤ 0) where
-        zero-flags : eqb f 0 ≡ true
-        zero-flags = eq-eqb f 0 (omega arith)
+pub some-flags : (f : ℕ) → 0 < f → eqb f 0 ≡ false
+some-flags f h = ne-eqb f 0 (λ e. omega arith)
 
-        pub ruled-twice : has slotOf (slot id) l ≡ true → refused TWICE at ≡ ruled l at id v f p
-        ruled-twice h = sym (by-known k ∙ fails (version ∷ flags ∷ []) twice (big ∷ []) body (a, (zero-flags, tt)) (ap not h))
+pub zero-flags : (f : ℕ) → f ≤ 0 → eqb f 0 ≡ true
+zero-flags f h = eq-eqb f 0 (omega arith)
 
-        module _ (c : has slotOf (slot id) l ≡ false) where
-          pub ruled-big : (not (eqb id 4) || leb (length p) 268435456) ≡ false → refused LIMIT (at + 8) ≡ ruled l at id v f p
-          ruled-big h = sym (by-known k ∙ fails (version ∷ flags ∷ twice ∷ []) big [] body (a, (zero-flags, (ap not c, tt))) h)
+-- no row is left: the payload's own reader, on its part of the file
+module _ (at id v : ℕ) (p : List ℕ) {o : Outcome (Unit {0})} (w : Left [] (moved (at + 16) (payload (bodyOf id v) p)) o) (i : length p ≤ 1073741824) where
+  by-payload : {r : Outcome (Unit {0})} → r ≡ checked (partChecks p) (payload (bodyOf id v) p) → moved (at + 16) r ≡ o
+  by-payload h = ap (moved (at + 16)) (h ∙ pass-checked (partChecks p) (payload (bodyOf id v) p) (le-leb (length p) 1073741824 i, tt)) ∙ w .same
 
-          module _ (d : (not (eqb id 4) || leb (length p) 268435456) ≡ true) (i : length p ≤ 1073741824) where
-            -- the payload's own reader, on its part of the file
-            all : {r : Outcome (Unit {0})} → r ≡ checked (partChecks p) (payload (bodyOf id v) p) → moved (at + 16) r ≡ ruled l at id v f p
-            all h =
-                ap (moved (at + 16)) (h ∙ pass-checked (partChecks p) (payload (bodyOf id v) p) (le-leb (length p) 1073741824 i, tt))
-                ∙ sym (by-known k ∙ pass-checked (knownChecks l at id v f p) body (a, (zero-flags, (ap not c, (d, tt)))))
+  pub ruled-fault : {n q : ℕ} → refused n q ≡ checked (partChecks p) (payload (bodyOf id v) p) → refused n (at + 16 + q) ≡ o
+  ruled-fault h = by-payload h
 
-            pub ruled-fault : {n q : ℕ} → refused n q ≡ checked (partChecks p) (payload (bodyOf id v) p) → refused n (at + 16 + q) ≡ ruled l at id v f p
-            ruled-fault h = all h
-
-            pub ruled-fine : taken tt ≡ checked (partChecks p) (payload (bodyOf id v) p) → taken tt ≡ ruled l at id v f p
-            ruled-fine h = all h
+  pub ruled-fine : taken tt ≡ checked (partChecks p) (payload (bodyOf id v) p) → taken tt ≡ o
+  ruled-fine h = by-payload h
 
 -- the payload's reader, where places are lent for starts
 module _ (have id v : ℕ) (p : List ℕ) where
@@ -125,11 +106,11 @@ module _ {A : Type 0} {o : Outcome A} {k old new : List ℕ} where
 -- ---- marks
 
 module _ (m : List ℕ) (l : List (List ℕ)) (n id k : ℕ) (h : Marks m l n) (e : k ≡ slot id) (i : 1 ≤ k) (j : k ≤ 8) where
-  pub marked : getD m k 0 ≡ 1 → has slotOf (slot id) l ≡ true
-  marked q = ap (λ (x : ℕ). has slotOf x l) (sym e) ∙ h .says k i j ∙ eq-eqb (getD m k 0) 1 q
+  pub marked : getD m k 0 ≡ 1 → not (has slotOf (slot id) l) ≡ false
+  marked q = ap not (ap (λ (x : ℕ). has slotOf x l) (sym e) ∙ h .says k i j ∙ eq-eqb (getD m k 0) 1 q)
 
-  pub unmarked : getD m k 0 ≢ 1 → has slotOf (slot id) l ≡ false
-  unmarked q = ap (λ (x : ℕ). has slotOf x l) (sym e) ∙ h .says k i j ∙ ne-eqb (getD m k 0) 1 q
+  pub unmarked : getD m k 0 ≢ 1 → not (has slotOf (slot id) l) ≡ true
+  unmarked q = ap not (ap (λ (x : ℕ). has slotOf x l) (sym e) ∙ h .says k i j ∙ ne-eqb (getD m k 0) 1 q)
 
 -- ---- the section at a place
 
