@@ -14,12 +14,14 @@ use Rattle.answer.specs.declared.Piece.{Piece}
 use Rattle.answer.specs.declared.Piece.the-variants.{Stop, Ends}
 use Rattle.answer.specs.Numbers.{CUT, MANY}
 use Rattle.answer.specs.Outcome.{Outcome, taken, refused, checked, after, moved}
+use Rattle.answer.specs.Calls.{pieceOf}
 use Rattle.answer.proofs.Checks.{fails, pass-checked, checked-pass, checked-after}
 use Rattle.answer.proofs.Outcomes.{after-taken, after-after, taken-is, taken-refused, made-stop, made-taken}
 use Rattle.wire.specs.Numbers.{leAt}
 use Rattle.wire.proofs.Numbers.{leAt-drop, leAt-here}
 use Rattle.order.specs.Keyed.{has}
 use Rattle.lists.specs.Lists.{partChecks, whole}
+use Rattle.lists.specs.Promises.{placed, Indexed}
 use Rattle.aerosnap.specs.Known.{known, slot}
 use Rattle.aerosnap.specs.Payloads.{bodyOf, payload}
 use Rattle.aerosnap.specs.File.{sectionsMost, slotOf, knownChecks, ruled, sectionOf}
@@ -67,28 +69,37 @@ module _ (at id v : ℕ) (p : List ℕ) {o : Outcome (Unit {0})} (w : Left [] (m
   pub ruled-fine : taken tt ≡ checked (partChecks p) (payload (bodyOf id v) p) → taken tt ≡ o
   ruled-fine h = by-payload h
 
--- the payload's reader, where places are lent for starts
-module _ (have id v : ℕ) (p : List ℕ) where
+-- the payload's reader, where the places that held `old` are lent for starts
+module _ (id v : ℕ) (p old : List ℕ) where
   abbrev its-starts : List ℕ
-  its-starts = whole have (starts (bodyOf id v) p)
+  its-starts = whole (length old) (starts (bodyOf id v) p)
 
-  pub read-stop : {n q : ℕ} → refused n q ≡ after (keptOf have id v p) (λ l. taken (length l)) → refused n q ≡ checked (partChecks p) (payload (bodyOf id v) p)
-  read-stop h =
-      sym (made-stop (checked (partChecks p) (payload (bodyOf id v) p)) (λ _. its-starts) (sym (checked-after (partChecks p) (payload (bodyOf id v) p) (λ _. taken its-starts) ∙ made-stop (keptOf have id v p) length h)))
+  abbrev read : Outcome (Unit {0})
+  read = checked (partChecks p) (payload (bodyOf id v) p)
 
   -- what it took
-  pub record Took (n : ℕ) : Type 0 where
-    pub fine : taken tt ≡ checked (partChecks p) (payload (bodyOf id v) p)
+  pub record Took (n : ℕ) (new : List ℕ) : Type 0 where
+    pub fine : taken tt ≡ read
     pub count : n ≡ length its-starts
-    pub kept : keptOf have id v p ≡ taken its-starts
+    pub kept : new ≡ its-starts ++ drop (length its-starts) old
 
-  pub read-took : {n : ℕ} → taken n ≡ after (keptOf have id v p) (λ l. taken (length l)) → Took n
-  read-took {n} h =
-      let a = made-taken (keptOf have id v p) length h in
-      let c = checked-pass (partChecks p) (after (payload (bodyOf id v) p) (λ _. taken its-starts)) (a .0) (a .1) in
-      let d = after-taken (payload (bodyOf id v) p) (λ _. taken its-starts) (c .1) in
-      let e : its-starts ≡ a .0 = taken-is (d .2) in
-      record { fine = sym (pass-checked (partChecks p) (payload (bodyOf id v) p) (c .0) ∙ d .1); count = a .2 ∙ ap length (sym e); kept = a .1 ∙ ap taken (sym e) }
+  module _ {r : Piece} {new : List ℕ} (w : Indexed (keptOf (length old) id v p) old r new) where
+    pub read-stop : {n q : ℕ} → r ≡ Stop n q → refused n q ≡ read
+    read-stop h =
+        let stop = made-stop (keptOf (length old) id v p) length (sym (ap pieceOf h) ∙ w .answers) in
+        sym (made-stop read (λ _. its-starts) (sym (checked-after (partChecks p) (payload (bodyOf id v) p) (λ _. taken its-starts) ∙ stop)))
+
+    pub read-took : {n : ℕ} → r ≡ Ends n → Took n new
+    read-took {n} h =
+        let a = made-taken (keptOf (length old) id v p) length (sym (ap pieceOf h) ∙ w .answers) in
+        let c = checked-pass (partChecks p) (after (payload (bodyOf id v) p) (λ _. taken its-starts)) (a .0) (a .1) in
+        let d = after-taken (payload (bodyOf id v) p) (λ _. taken its-starts) (c .1) in
+        let e : its-starts ≡ a .0 = taken-is (d .2) in
+        record {
+          fine = sym (pass-checked (partChecks p) (payload (bodyOf id v) p) (c .0) ∙ d .1);
+          count = a .2 ∙ ap length (sym e);
+          kept = w .leaves ∙ ap (λ (o : Outcome (List ℕ)). placed o old) (a .1 ∙ ap taken (sym e));
+        }
 
 -- a fault in a payload lies within it
 pub fault-place : (id v : ℕ) (p : List ℕ) {n q : ℕ} → length p ≤ 1073741824 → refused n q ≡ checked (partChecks p) (payload (bodyOf id v) p) → q ≤ length p

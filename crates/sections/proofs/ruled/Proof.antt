@@ -3,14 +3,11 @@ use Rattle.sections.proofs.Rules.{Ruling, ruled-all, ruled-fault, ruled
 use Rattle.sections.specs.Walks.{Marks}
 use Rattle.aerosnap.specs.Payloads.{bodyOf, payload}
 use Rattle.lists.specs.Lists.{partChecks}
-use Rattle.lists.specs.Promises.{placed}
-use Rattle.answer.specs.Outcome.{Outcome, taken, refused, checked}
-use Rattle.answer.specs.Calls.{pieceOf}
+use Rattle.answer.specs.Outcome.{refused, checked}
 use borrow.Author.Tests.{not-true, not-false}
-use mathlib.Core.Path.{_≡_, sym, _∙_, ap}
+use mathlib.Core.Path.{_≡_, sym, _∙_}
 use mathlib.Core.List.{List}
 use Prim.Native.Nat.{ℕ}
-use lib.ListN.{length}
 use native.Mathlib.Omega.{arith}
 use borrow.Author.Needs.{needs}
 use Rattle.sections.proofs.ruled.Statement.{statement}
@@ -64,16 +61,17 @@ stopped : (c : tie.After-number) → let a = judged (asked (refused-by c)) .args
 stopped c =
     let i = refused-by c in
     let a = judged (asked i) .args in
-    read-stop (length (a .index .now)) (a .id) (a .version) (a .p .now) (sym (ap pieceOf (c .number .given .1)) ∙ i .index .ensures .answers)
+    read-stop (a .id) (a .version) (a .p .now) (a .index .now) (i .index .ensures) (c .number .given .1)
 
 abbrev taken-by : tie.After-n → tie.After-index
 taken-by c = c .before .before .before .before
 
-took : (c : tie.After-n) → let a = judged (asked (taken-by c)) .args in Took (length (a .index .now)) (a .id) (a .version) (a .p .now) (c .n .given .0 .0)
+took : (c : tie.After-n) → let i = taken-by c in let a = judged (asked i) .args in
+    Took (a .id) (a .version) (a .p .now) (a .index .now) (c .n .given .0 .0) (i .index .last .1 .1 .1 .0)
 took c =
     let i = taken-by c in
     let a = judged (asked i) .args in
-    read-took (length (a .index .now)) (a .id) (a .version) (a .p .now) (sym (ap pieceOf (c .n .given .1)) ∙ i .index .ensures .answers)
+    read-took (a .id) (a .version) (a .p .now) (a .index .now) (i .index .ensures) (c .n .given .1)
 
 takes-requires : tie.Need-takes-requires
 takes-requires c κs = search needs
@@ -148,8 +146,7 @@ returns-6 c =
     let t = judged (asked i) in
     let a = t .args in
     let k = took (c .before) in
-    let kept = i .index .ensures .leaves ∙ ap (λ (o : Outcome (List ℕ)). placed o (a .index .now)) (k .kept) in
-    λ l n m. keeps-done (ruled-fine (a .at) (a .id) (a .version) (a .p .now) (small (asked i) l n m) (omega (arith, t .pre .1)) (k .fine)) (k .count) kept
+    λ l n m. keeps-done (ruled-fine (a .at) (a .id) (a .version) (a .p .now) (small (asked i) l n m) (omega (arith, t .pre .1)) (k .fine)) (k .count) (k .kept)
 
 pub ruled-spec : {M : Type 1} → statement M
 ruled-spec =
