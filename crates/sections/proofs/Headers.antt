@@ -1,16 +1,16 @@
--- The header of a file, by the exits of the code that checks it, and the file by its header and its sections.
+-- The rows of a header as the code asks them, and the file by its header and its sections.
 -- Assumes nothing.
 use mathlib.Core.Path.{_≡_, refl, sym, _∙_, ap, subst}
 use mathlib.Core.Logic.{_≢_}
 use mathlib.Core.List.{List, [], _∷_}
+use mathlib.Core.Bool.{true, false}
 use Prim.Native.Nat.{ℕ, zero, suc, _≤_, _<_}
 use native.Mathlib.Omega.{arith}
-use lib.ListN.{length, take}
+use lib.ListN.{length, take, drop}
 use lib.Dec.{eqb}
-use borrow.Author.Tests.{le-leb, lt-leb, eq-eqb, ne-eqb, leb-true}
+use borrow.Author.Tests.{eq-eqb, ne-eqb, leb-true}
 use Rattle.answer.specs.declared.Piece.{Piece}
 use Rattle.answer.specs.declared.Piece.the-variants.{Stop}
-use Rattle.answer.specs.Numbers.{SHORT, MAGIC, VERSION, ENDIAN, RESERVED, SIZE}
 use Rattle.answer.specs.Outcome.{Outcome, taken, refused, after}
 use Rattle.answer.specs.Calls.{asked}
 use Rattle.answer.proofs.Checks.{checked-pass}
@@ -22,6 +22,7 @@ use Rattle.aerosnap.proofs.Turns.{file-header}
 use Rattle.lists.specs.Promises.{zeros}
 use Rattle.sections.specs.Walks.{walkedFrom}
 use Rattle.sections.specs.Index.{Scanned}
+use Rattle.sections.proofs.Rows.{Left}
 
 abbrev Below : List ℕ → Type 0
 Below [] = Unit {0}
@@ -32,41 +33,32 @@ bytes-of [] h i = omega arith
 bytes-of (x ∷ l) h zero = h .0
 bytes-of (x ∷ l) h (suc i) = bytes-of l (h .1) i
 
+-- a number that was read, against the one that must stand there
+pub read-is : {a n k : ℕ} → a ≡ n → a ≡ k → eqb n k ≡ true
+read-is {a} {n} {k} p h = eq-eqb n k (sym p ∙ h)
+
+pub read-not : {a n k : ℕ} → a ≡ n → a ≢ k → eqb n k ≡ false
+read-not {a} {n} {k} p h = ne-eqb n k (λ e. h (p ∙ e))
+
 -- the letters, as the number that they say
 letters-number : (s : List ℕ) → Bytes s → 16 ≤ length s → same (take 8 s) letters ≡ eqb (leAt 8 s 0) 0x50414E534F524541
 unfolding le
 letters-number s b h = same-number 8 s 0 letters b (bytes-of letters (omega arith)) (omega arith) refl
 
-module _ (s : List ℕ) where
-  pub head-size : fileMost < length s → refused SIZE 0 ≡ asked (headerChecks s)
-  head-size h = rw (lt-leb (length s) fileMost h)
+-- the rows of the header from the nth on
+abbrev pub Headed : List ℕ → ℕ → Type 0
+Headed s n = Left (drop n (headerChecks s)) (taken tt) (asked (headerChecks s))
 
-  module _ (i : length s ≤ fileMost) where
-    pub head-short : length s < 16 → refused SHORT 0 ≡ asked (headerChecks s)
-    head-short h = rw (le-leb (length s) fileMost i, lt-leb 16 (length s) h)
+pub head-all : (s : List ℕ) → Headed s 0
+head-all s = record { same = refl }
 
-    module _ (j : 16 ≤ length s) (b : Bytes s) {a : ℕ} (p : a ≡ leAt 8 s 0) where
-      pub head-magic : a ≢ 0x50414E534F524541 → refused MAGIC 0 ≡ asked (headerChecks s)
-      head-magic h = rw (le-leb (length s) fileMost i, le-leb 16 (length s) j, letters-number s b j, ← p, ne-eqb a 0x50414E534F524541 h)
+-- the letters, by the number that was read
+module _ (s : List ℕ) (h : 16 ≤ length s) (b : Bytes s) {a : ℕ} (p : a ≡ leAt 8 s 0) where
+  pub letters-there : a ≡ 0x50414E534F524541 → same (take 8 s) letters ≡ true
+  letters-there k = letters-number s b h ∙ read-is p k
 
-      module _ (k : a ≡ 0x50414E534F524541) {v : ℕ} (q : v ≡ leAt 2 s 8) where
-        pub head-version : v ≢ 1 → refused VERSION 8 ≡ asked (headerChecks s)
-        head-version h = rw (le-leb (length s) fileMost i, le-leb 16 (length s) j, letters-number s b j, ← p, eq-eqb a 0x50414E534F524541 k, ← q, ne-eqb v 1 h)
-
-        module _ (l : v ≡ 1) {e : ℕ} (r : e ≡ leAt 1 s 10) where
-          pub head-endian : e ≢ 1 → refused ENDIAN 10 ≡ asked (headerChecks s)
-          head-endian h = rw (le-leb (length s) fileMost i, le-leb 16 (length s) j, letters-number s b j, ← p, eq-eqb a 0x50414E534F524541 k, ← q, eq-eqb v 1 l, ← r, ne-eqb e 1 h)
-
-          module _ (m : e ≡ 1) {x : ℕ} (t : x ≡ leAt 1 s 11) where
-            pub head-byte : x ≢ 0 → refused RESERVED 11 ≡ asked (headerChecks s)
-            head-byte h = rw (le-leb (length s) fileMost i, le-leb 16 (length s) j, letters-number s b j, ← p, eq-eqb a 0x50414E534F524541 k, ← q, eq-eqb v 1 l, ← r, eq-eqb e 1 m, ← t, ne-eqb x 0 h)
-
-            module _ (n : x ≡ 0) {y : ℕ} (u : y ≡ leAt 4 s 12) where
-              pub head-number : y ≢ 0 → refused RESERVED 12 ≡ asked (headerChecks s)
-              head-number h = rw (le-leb (length s) fileMost i, le-leb 16 (length s) j, letters-number s b j, ← p, eq-eqb a 0x50414E534F524541 k, ← q, eq-eqb v 1 l, ← r, eq-eqb e 1 m, ← t, eq-eqb x 0 n, ← u, ne-eqb y 0 h)
-
-              pub head-fine : y ≡ 0 → taken tt ≡ asked (headerChecks s)
-              head-fine h = rw (le-leb (length s) fileMost i, le-leb 16 (length s) j, letters-number s b j, ← p, eq-eqb a 0x50414E534F524541 k, ← q, eq-eqb v 1 l, ← r, eq-eqb e 1 m, ← t, eq-eqb x 0 n, ← u, eq-eqb y 0 h)
+  pub letters-not : a ≢ 0x50414E534F524541 → same (take 8 s) letters ≡ false
+  letters-not k = letters-number s b h ∙ read-not p k
 
 -- ---- the file
 

@@ -2,7 +2,7 @@
 -- Assumes nothing.
 use mathlib.Core.Path.{_≡_, refl, sym, _∙_, ap, subst}
 use mathlib.Core.List.{List, [], _∷_, _++_}
-use mathlib.Core.Bool.{Bool, true, false, not, _||_}
+use mathlib.Core.Bool.{Bool, true, false, not}
 use mathlib.Core.Logic.{_≢_}
 use Prim.Native.Nat.{ℕ, _+_, _-_, _≤_, _<_}
 use native.Mathlib.Omega.{arith}
@@ -12,38 +12,29 @@ use lib.Dec.{leb, ltb, eqb}
 use borrow.Author.Tests.{le-leb, lt-leb, le-ltb, lt-ltb, eq-eqb, ne-eqb}
 use Rattle.answer.specs.declared.Piece.{Piece}
 use Rattle.answer.specs.declared.Piece.the-variants.{Stop, Ends}
-use Rattle.answer.specs.Numbers.{CUT, MANY, SECVER, RESERVED, TWICE, LIMIT}
+use Rattle.answer.specs.Numbers.{CUT, MANY}
 use Rattle.answer.specs.Outcome.{Outcome, taken, refused, checked, after, moved}
+use Rattle.answer.specs.Calls.{pieceOf}
 use Rattle.answer.proofs.Checks.{fails, pass-checked, checked-pass, checked-after}
 use Rattle.answer.proofs.Outcomes.{after-taken, after-after, taken-is, taken-refused, made-stop, made-taken}
 use Rattle.wire.specs.Numbers.{leAt}
 use Rattle.wire.proofs.Numbers.{leAt-drop, leAt-here}
 use Rattle.order.specs.Keyed.{has}
 use Rattle.lists.specs.Lists.{partChecks, whole}
-use Rattle.aerosnap.specs.Known.{known, takes, slot}
+use Rattle.lists.specs.Promises.{placed, Indexed}
+use Rattle.aerosnap.specs.Known.{known, slot}
 use Rattle.aerosnap.specs.Payloads.{bodyOf, payload}
 use Rattle.aerosnap.specs.File.{sectionsMost, slotOf, knownChecks, ruled, sectionOf}
 use Rattle.aerosnap.proofs.Bodies.{lawful-body, payload-within}
 use Rattle.payloads.specs.Starts.{starts, keptOf}
 use Rattle.sections.specs.Walks.{Marks}
 use Rattle.sections.specs.Index.{startsOf, Keeps}
+use Rattle.sections.proofs.Rows.{Left}
 use Rattle.sections.proofs.Kept.{body-other}
 
 -- ---- a known section
 
 module _ (l : List (List ℕ)) (at id v f : ℕ) (p : List ℕ) where
-  abbrev version : Bool × ℕ × ℕ
-  version = (takes id v, SECVER, at + 4)
-
-  abbrev flags : Bool × ℕ × ℕ
-  flags = (eqb f 0, RESERVED, at + 6)
-
-  abbrev twice : Bool × ℕ × ℕ
-  twice = (not (has slotOf (slot id) l), TWICE, at)
-
-  abbrev big : Bool × ℕ × ℕ
-  big = (not (eqb id 4) || leb (length p) 268435456, LIMIT, at + 8)
-
   abbrev body : Outcome (Unit {0})
   body = moved (at + 16) (payload (bodyOf id v) p)
 
@@ -54,60 +45,61 @@ module _ (l : List (List ℕ)) (at id v f : ℕ) (p : List ℕ) where
   pub ruled-not : known id ≡ false → taken tt ≡ ruled l at id v f p
   ruled-not k = sym (by-known k)
 
-  module _ (k : known id ≡ true) where
-    pub ruled-version : takes id v ≡ false → refused SECVER (at + 4) ≡ ruled l at id v f p
-    ruled-version h = sym (by-known k ∙ fails [] version (flags ∷ twice ∷ big ∷ []) body tt h)
+  -- its rows from the nth on
+  abbrev pub Ruling : ℕ → Type 0
+  Ruling n = Left (drop n (knownChecks l at id v f p)) body (ruled l at id v f p)
 
-    module _ (a : takes id v ≡ true) where
-      pub ruled-flags : 0 < f → refused RESERVED (at + 6) ≡ ruled l at id v f p
-      ruled-flags h = sym (by-known k ∙ fails (version ∷ []) flags (twice ∷ big ∷ []) body (a, tt) (ne-eqb f 0 (λ e. omega arith)))
+  pub ruled-all : known id ≡ true → Ruling 0
+  ruled-all k = record { same = sym (by-known k) }
 
-      module _ (b : f ≤ 0) where
-        zero-flags : eqb f 0 ≡ true
-        zero-flags = eq-eqb f 0 (omega arith)
+pub some-flags : (f : ℕ) → 0 < f → eqb f 0 ≡ false
+some-flags f h = ne-eqb f 0 (λ e. omega arith)
 
-        pub ruled-twice : has slotOf (slot id) l ≡ true → refused TWICE at ≡ ruled l at id v f p
-        ruled-twice h = sym (by-known k ∙ fails (version ∷ flags ∷ []) twice (big ∷ []) body (a, (zero-flags, tt)) (ap not h))
+pub zero-flags : (f : ℕ) → f ≤ 0 → eqb f 0 ≡ true
+zero-flags f h = eq-eqb f 0 (omega arith)
 
-        module _ (c : has slotOf (slot id) l ≡ false) where
-          pub ruled-big : (not (eqb id 4) || leb (length p) 268435456) ≡ false → refused LIMIT (at + 8) ≡ ruled l at id v f p
-          ruled-big h = sym (by-known k ∙ fails (version ∷ flags ∷ twice ∷ []) big [] body (a, (zero-flags, (ap not c, tt))) h)
+-- no row is left: the payload's own reader, on its part of the file
+module _ (at id v : ℕ) (p : List ℕ) {o : Outcome (Unit {0})} (w : Left [] (moved (at + 16) (payload (bodyOf id v) p)) o) (i : length p ≤ 1073741824) where
+  by-payload : {r : Outcome (Unit {0})} → r ≡ checked (partChecks p) (payload (bodyOf id v) p) → moved (at + 16) r ≡ o
+  by-payload h = ap (moved (at + 16)) (h ∙ pass-checked (partChecks p) (payload (bodyOf id v) p) (le-leb (length p) 1073741824 i, tt)) ∙ w .same
 
-          module _ (d : (not (eqb id 4) || leb (length p) 268435456) ≡ true) (i : length p ≤ 1073741824) where
-            -- the payload's own reader, on its part of the file
-            all : {r : Outcome (Unit {0})} → r ≡ checked (partChecks p) (payload (bodyOf id v) p) → moved (at + 16) r ≡ ruled l at id v f p
-            all h =
-                ap (moved (at + 16)) (h ∙ pass-checked (partChecks p) (payload (bodyOf id v) p) (le-leb (length p) 1073741824 i, tt))
-                ∙ sym (by-known k ∙ pass-checked (knownChecks l at id v f p) body (a, (zero-flags, (ap not c, (d, tt)))))
+  pub ruled-fault : {n q : ℕ} → refused n q ≡ checked (partChecks p) (payload (bodyOf id v) p) → refused n (at + 16 + q) ≡ o
+  ruled-fault h = by-payload h
 
-            pub ruled-fault : {n q : ℕ} → refused n q ≡ checked (partChecks p) (payload (bodyOf id v) p) → refused n (at + 16 + q) ≡ ruled l at id v f p
-            ruled-fault h = all h
+  pub ruled-fine : taken tt ≡ checked (partChecks p) (payload (bodyOf id v) p) → taken tt ≡ o
+  ruled-fine h = by-payload h
 
-            pub ruled-fine : taken tt ≡ checked (partChecks p) (payload (bodyOf id v) p) → taken tt ≡ ruled l at id v f p
-            ruled-fine h = all h
-
--- the payload's reader, where places are lent for starts
-module _ (have id v : ℕ) (p : List ℕ) where
+-- the payload's reader, where the places that held `old` are lent for starts
+module _ (id v : ℕ) (p old : List ℕ) where
   abbrev its-starts : List ℕ
-  its-starts = whole have (starts (bodyOf id v) p)
+  its-starts = whole (length old) (starts (bodyOf id v) p)
 
-  pub read-stop : {n q : ℕ} → refused n q ≡ after (keptOf have id v p) (λ l. taken (length l)) → refused n q ≡ checked (partChecks p) (payload (bodyOf id v) p)
-  read-stop h =
-      sym (made-stop (checked (partChecks p) (payload (bodyOf id v) p)) (λ _. its-starts) (sym (checked-after (partChecks p) (payload (bodyOf id v) p) (λ _. taken its-starts) ∙ made-stop (keptOf have id v p) length h)))
+  abbrev read : Outcome (Unit {0})
+  read = checked (partChecks p) (payload (bodyOf id v) p)
 
   -- what it took
-  pub record Took (n : ℕ) : Type 0 where
-    pub fine : taken tt ≡ checked (partChecks p) (payload (bodyOf id v) p)
+  pub record Took (n : ℕ) (new : List ℕ) : Type 0 where
+    pub fine : taken tt ≡ read
     pub count : n ≡ length its-starts
-    pub kept : keptOf have id v p ≡ taken its-starts
+    pub kept : new ≡ its-starts ++ drop (length its-starts) old
 
-  pub read-took : {n : ℕ} → taken n ≡ after (keptOf have id v p) (λ l. taken (length l)) → Took n
-  read-took {n} h =
-      let a = made-taken (keptOf have id v p) length h in
-      let c = checked-pass (partChecks p) (after (payload (bodyOf id v) p) (λ _. taken its-starts)) (a .0) (a .1) in
-      let d = after-taken (payload (bodyOf id v) p) (λ _. taken its-starts) (c .1) in
-      let e : its-starts ≡ a .0 = taken-is (d .2) in
-      record { fine = sym (pass-checked (partChecks p) (payload (bodyOf id v) p) (c .0) ∙ d .1); count = a .2 ∙ ap length (sym e); kept = a .1 ∙ ap taken (sym e) }
+  module _ {r : Piece} {new : List ℕ} (w : Indexed (keptOf (length old) id v p) old r new) where
+    pub read-stop : {n q : ℕ} → r ≡ Stop n q → refused n q ≡ read
+    read-stop h =
+        let stop = made-stop (keptOf (length old) id v p) length (sym (ap pieceOf h) ∙ w .answers) in
+        sym (made-stop read (λ _. its-starts) (sym (checked-after (partChecks p) (payload (bodyOf id v) p) (λ _. taken its-starts) ∙ stop)))
+
+    pub read-took : {n : ℕ} → r ≡ Ends n → Took n new
+    read-took {n} h =
+        let a = made-taken (keptOf (length old) id v p) length (sym (ap pieceOf h) ∙ w .answers) in
+        let c = checked-pass (partChecks p) (after (payload (bodyOf id v) p) (λ _. taken its-starts)) (a .0) (a .1) in
+        let d = after-taken (payload (bodyOf id v) p) (λ _. taken its-starts) (c .1) in
+        let e : its-starts ≡ a .0 = taken-is (d .2) in
+        record {
+          fine = sym (pass-checked (partChecks p) (payload (bodyOf id v) p) (c .0) ∙ d .1);
+          count = a .2 ∙ ap length (sym e);
+          kept = w .leaves ∙ ap (λ (o : Outcome (List ℕ)). placed o old) (a .1 ∙ ap taken (sym e));
+        }
 
 -- a fault in a payload lies within it
 pub fault-place : (id v : ℕ) (p : List ℕ) {n q : ℕ} → length p ≤ 1073741824 → refused n q ≡ checked (partChecks p) (payload (bodyOf id v) p) → q ≤ length p
@@ -125,11 +117,11 @@ module _ {A : Type 0} {o : Outcome A} {k old new : List ℕ} where
 -- ---- marks
 
 module _ (m : List ℕ) (l : List (List ℕ)) (n id k : ℕ) (h : Marks m l n) (e : k ≡ slot id) (i : 1 ≤ k) (j : k ≤ 8) where
-  pub marked : getD m k 0 ≡ 1 → has slotOf (slot id) l ≡ true
-  marked q = ap (λ (x : ℕ). has slotOf x l) (sym e) ∙ h .says k i j ∙ eq-eqb (getD m k 0) 1 q
+  pub marked : getD m k 0 ≡ 1 → not (has slotOf (slot id) l) ≡ false
+  marked q = ap not (ap (λ (x : ℕ). has slotOf x l) (sym e) ∙ h .says k i j ∙ eq-eqb (getD m k 0) 1 q)
 
-  pub unmarked : getD m k 0 ≢ 1 → has slotOf (slot id) l ≡ false
-  unmarked q = ap (λ (x : ℕ). has slotOf x l) (sym e) ∙ h .says k i j ∙ ne-eqb (getD m k 0) 1 q
+  pub unmarked : getD m k 0 ≢ 1 → not (has slotOf (slot id) l) ≡ true
+  unmarked q = ap not (ap (λ (x : ℕ). has slotOf x l) (sym e) ∙ h .says k i j ∙ ne-eqb (getD m k 0) 1 q)
 
 -- ---- the section at a place
 

@@ -120,8 +120,9 @@ module _ {s : List ℕ} {i at t : ℕ} {m old new : List ℕ} (v : Walks s i at 
   abbrev tail : List ℕ
   tail = take (length new - t) (drop t new)
 
-  abbrev Read : Piece → List ℕ → Type 0
-  Read r last = Keeps (sectionOf (v .before) at (drop at s)) (whole (length tail) (startsOf (drop at s))) tail r last
+  -- what the call said that read the section at the place
+  abbrev pub Told : Piece → List ℕ → Type 0
+  Told r last = Keeps (sectionOf (v .before) at (drop at s)) (whole (length tail) (startsOf (drop at s))) tail r last
 
   pub walks-long : length new ≡ length old
   walks-long = wrote-length (v .wrote) (kept-fits (length old) (v .before))
@@ -133,7 +134,7 @@ module _ {s : List ℕ} {i at t : ℕ} {m old new : List ℕ} (v : Walks s i at 
   pub walks-back : (last : List ℕ) → length last ≡ length tail → length (take t new ++ (last ++ drop (length new - t) (drop t new))) ≡ length old
   walks-back last h = rw (length-append, length-append, length-take, length-drop, length-drop) (omega (arith, h, length-tail t new, walks-at, walks-long))
 
-  pub walks-stop : at < length s → {a b : ℕ} {last now : List ℕ} → Read (Stop a b) last → now ≡ zeros (length old) → Scanned (walkedFrom s) old (Stop a b) now
+  pub walks-stop : at < length s → {a b : ℕ} {last now : List ℕ} → Told (Stop a b) last → now ≡ zeros (length old) → Scanned (walkedFrom s) old (Stop a b) now
   walks-stop h {a} {b} k z =
       let e : walkedFrom s ≡ refused a b = v .same ∙ walk-stop (v .before) s at (64 - i) h (made-stop (sectionOf (v .before) at (drop at s)) _ (k .answers)) in
       record { answers = sym (ap counted e); leaves = z ∙ sym (ap (λ (o : Outcome (List (List ℕ))). placed (keptIn (length old) o) old) e) }
@@ -143,7 +144,7 @@ module _ {s : List ℕ} {i at t : ℕ} {m old new : List ℕ} (v : Walks s i at 
       let e : walkedFrom s ≡ taken (v .before) = v .same ∙ walk-end (v .before) s at (64 - i) h in
       record { answers = ap taken (v .marks .count) ∙ sym (ap counted e); leaves = v .wrote .bytes ∙ sym (ap (λ (o : Outcome (List (List ℕ))). placed (keptIn (length old) o) old) e) }
 
-  module _ (h : at < length s) {n : ℕ} {last : List ℕ} (k : Read (Ends n) last) where
+  module _ (h : at < length s) {n : ℕ} {last : List ℕ} (k : Told (Ends n) last) where
     -- the section that was passed
     pub passed : Passed (v .before) s at
     passed =
