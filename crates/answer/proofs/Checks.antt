@@ -46,6 +46,25 @@ checked-refused {A} (c ∷ l) a n p e = go (c .0) refl e (checked-refused l a n 
     go true q e r = later q (r e)
     go false q e r = let i : c .1 ≡ n = cc in let j : c .2 ≡ p = cc in rw (← i, ← j) (row q)
 
+-- ---- asked one after another
+
+-- what is left to ask of all rows once those before it are passed
+pub record Left (all rows : Checks) : Type 0 where
+  pub same : asked all ≡ asked rows
+
+pub left-all : (l : Checks) → Left l l
+left-all l = record { same = refl }
+
+module _ {all l : Checks} {b : Bool} {n p : ℕ} (g : Left all ((b, n, p) ∷ l)) where
+  pub left-fails : b ≡ false → refused n p ≡ asked all
+  left-fails h = sym (g .same ∙ rw h)
+
+  pub left-passes : b ≡ true → Left all l
+  left-passes h = record { same = g .same ∙ rw h }
+
+pub left-none : {all : Checks} → Left all [] → taken tt ≡ asked all
+left-none g = sym (g .same)
+
 -- ---- what comes behind
 
 pub checked-after : {A B : Type 0} (l : Checks) (a : Outcome A) (f : A → Outcome B) → after (checked l a) f ≡ checked l (after a f)

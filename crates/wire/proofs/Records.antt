@@ -3,6 +3,7 @@
 use mathlib.Core.Path.{_≡_, _∙_, ap}
 use mathlib.Core.List.{List, [], _∷_, _++_, append-assoc, append-nil}
 use Prim.Native.Nat.{ℕ, _+_, _≤_}
+use native.Mathlib.Nat.{zero-add, add-assoc}
 use native.Mathlib.Omega.{arith}
 use lib.ListN.{length}
 use Rattle.wire.specs.Numbers.{bytesOf}
@@ -16,28 +17,28 @@ Fields = List (ℕ × ℕ)
 
 abbrev pub fieldBytes : Fields → List ℕ
 fieldBytes [] = []
-fieldBytes (f ∷ l) = bytesOf (f .0) (f .1) ++ fieldBytes l
+fieldBytes (f ∷ []) = bytesOf (f .0) (f .1)
+fieldBytes (f ∷ (g ∷ l)) = bytesOf (f .0) (f .1) ++ fieldBytes (g ∷ l)
 
 abbrev pub fieldsLength : Fields → ℕ
 fieldsLength [] = 0
 fieldsLength (f ∷ l) = f .0 + fieldsLength l
 
--- each field put behind the one before it, from a place on, with what the memory holds after each
-abbrev pub Stored : Fields → ℕ → List ℕ → List ℕ → Type 0
-Stored [] at old new = new ≡ old
-Stored (f ∷ l) at old new = (mid : List ℕ) × (mid ≡ put at (bytesOf (f .0) (f .1)) old) × Stored l (at + f .0) mid new
+-- P holds of the memory once each field is put behind the one before it, from a place on
+abbrev pub Stored : Fields → ℕ → List ℕ → (List ℕ → Type 0) → Type 0
+Stored [] at now P = P now
+Stored (f ∷ l) at now P = (new : List ℕ) → new ≡ put at (bytesOf (f .0) (f .1)) now → Stored l (at + f .0) new P
 
-stored-from : (l : Fields) {w old mid new : List ℕ} {at : ℕ} → Wrote w old mid at → at + fieldsLength l ≤ length mid → Stored l at mid new → Wrote (w ++ fieldBytes l) old new (at + fieldsLength l)
-stored-from [] {w} so h e = record { count = rw append-nil (omega (arith, so .count)); bytes = rw append-nil (e ∙ so .bytes) }
-stored-from (f ∷ l) {w} {old} {mid} {new} {at} so h (m, e, more) =
-    let n : length (bytesOf (f .0) (f .1)) ≡ f .0 = length-bytesOf (f .0) (f .1) in
-    let one : Wrote (w ++ bytesOf (f .0) (f .1)) old m (at + f .0) = rw n at (wrote-put so (bytesOf (f .0) (f .1)) (omega arith) e) in
-    let long : length m ≡ length mid = ap length e ∙ length-put at (bytesOf (f .0) (f .1)) mid in
-    let all = stored-from l one (omega arith) more in
-    record { count = omega (arith, rw (append-assoc w (bytesOf (f .0) (f .1)) (fieldBytes l)) at (all .count)); bytes = rw (append-assoc w (bytesOf (f .0) (f .1)) (fieldBytes l)) at (all .bytes) }
+stored-one : (f : ℕ × ℕ) {w old mid new : List ℕ} {at : ℕ} → Wrote w old mid at → at + f .0 ≤ length mid → new ≡ put at (bytesOf (f .0) (f .1)) mid → Wrote (w ++ bytesOf (f .0) (f .1)) old new (at + f .0)
+stored-one f so h e = let n : length (bytesOf (f .0) (f .1)) ≡ f .0 = length-bytesOf (f .0) (f .1) in rw n at (wrote-put so (bytesOf (f .0) (f .1)) (omega arith) e)
+
+stored-from : (l : Fields) {w old mid : List ℕ} {at : ℕ} → Wrote w old mid at → at + fieldsLength l ≤ length mid → Stored l at mid (λ new. Wrote (w ++ fieldBytes l) old new (at + fieldsLength l))
+stored-from [] so h = record { count = rw append-nil (omega (arith, so .count)); bytes = rw append-nil (so .bytes) }
+stored-from (f ∷ []) so h = λ new e. let one = stored-one f so (omega arith) e in record { count = omega (arith, one .count); bytes = one .bytes }
+stored-from (f ∷ (g ∷ l)) {w} {old} {mid} {at} so h = λ new e.
+    let long : length new ≡ length mid = ap length e ∙ length-put at (bytesOf (f .0) (f .1)) mid in
+    rw (← append-assoc w (bytesOf (f .0) (f .1)) (fieldBytes (g ∷ l)), ← add-assoc at (f .0) (fieldsLength (g ∷ l))) (stored-from (g ∷ l) (stored-one f so (omega arith) e) (omega arith))
 
 -- the whole record, written over the start
-pub stored-record : (l : Fields) (old new : List ℕ) → fieldsLength l ≤ length old → Stored l 0 old new → Wrote (fieldBytes l) old new (fieldsLength l)
-stored-record l old new h e =
-    let all = stored-from l (none old) (omega arith) e in
-    record { count = omega (arith, all .count); bytes = all .bytes }
+pub stored-record : (l : Fields) (old : List ℕ) → fieldsLength l ≤ length old → Stored l 0 old (λ new. Wrote (fieldBytes l) old new (fieldsLength l))
+stored-record l old h = rw (zero-add (fieldsLength l)) at (stored-from l (none old) (omega arith))

@@ -38,7 +38,15 @@ same-length : tie.Need-same-length
 same-length c = search needs
 
 returns : tie.Need-returns
-returns c = let a = c .before .before .before .before .before .before .before .before .before .before .before .before .before .before .before .before .before .before .before .before .before .before .before .before .args in put-four (a .f) (a .out .now) (c .before .before .before .before .before .before .before .before .before .before .before .before .before .before .before .before .before .before .width .ensures .0) (c .before .before .before .before .before .before .before .before .before .before .before .before .before .before .before .before .before .width2 .ensures .0) (c .before .before .before .before .before .before .before .before .before .before .before .before .before .before .before .before .width3 .ensures .0) (c .before .before .before .before .before .before .before .before .before .before .before .before .before .before .put-field .ensures) (c .before .before .before .before .before .before .before .before .before .before .put-field2 .ensures) (c .before .before .before .before .before .before .put-field3 .ensures) (c .before .before .put-field4 .ensures)
+returns c =
+    let fourth = c .before .before in
+    let third = fourth .before .before .before .before in
+    let second = third .before .before .before .before in
+    let first = second .before .before .before .before in
+    let widths = first .before .before in
+    let a = widths .before .before .before .before .before .before .before .before .args in
+    put-four (a .f) (a .out .now) (widths .before .before .width .ensures .0) (widths .before .width2 .ensures .0) (widths .width3 .ensures .0)
+    (first .put-field .ensures) (second .put-field2 .ensures) (third .put-field3 .ensures) (fourth .put-field4 .ensures)
 
 pub put-numbers-spec : {M : Type 1} → statement M
 put-numbers-spec =

@@ -1,41 +1,79 @@
-use borrow.Author.Tests.{not-true, not-false}
-use Rattle.dskc.proofs.Headers.{head-size, head-short, head-aero, head-first, head-dskc, head-second, head-fine}
+use Rattle.answer.proofs.Checks.{Left, left-all, left-fails, left-passes, left-none}
+use Rattle.wire.specs.Numbers.{Bytes}
+use Rattle.dskc.specs.Wrapper.{headerChecks}
+use Rattle.dskc.proofs.Headers.{aero-number, dskc-number}
+use lib.ListN.{drop}
+use mathlib.Core.Path.{sym, _∙_}
+use mathlib.Core.List.{List}
+use Prim.Native.Nat.{ℕ}
+use borrow.Author.Tests.{not-true, not-false, le-leb, lt-leb, eq-eqb, ne-eqb}
 use borrow.Author.Needs.{needs}
 use Rattle.dskc.proofs.header.Statement.{statement}
 use Rattle.dskc.proofs.header.Tie as tie
 
+-- the checks from the n-th on are left to ask
+abbrev From : ℕ → List ℕ → Type 0
+From n s = Left (headerChecks s) (drop n (headerChecks s))
+
+-- what is read, once its length is known to be one of a wrapper
+abbrev read : tie.Else2 → List ℕ
+read c = c .before .before .before .args .s .now
+
+abbrev bytes : (c : tie.Else2) → Bytes (read c)
+bytes c = λ i. c .before .before .shared-slice-known .given i .fits
+
+-- the checks passed
+most : (c : tie.Else1) → From 1 (c .before .before .args .s .now)
+most c = left-passes (left-all (headerChecks (c .before .before .args .s .now))) (le-leb _ _ (c .if1 .left))
+
+short : (c : tie.Else2) → From 2 (read c)
+short c = left-passes (most (c .before)) (le-leb _ _ (c .if2 .left))
+
+letters : (c : tie.Else3) → From 3 (read (c .before .before))
+letters c = let p = c .before .before in left-passes (short p) (aero-number (read p) (bytes p) (p .if2 .left) (c .before .u32-at .ensures) ∙ eq-eqb _ _ (c .if3 .left))
+
+pair : (c : tie.Else4) → From 4 (read (c .before .before .before .before))
+pair c = left-passes (letters (c .before .before)) (sym (c .before .pair-at .ensures) ∙ not-false _ (c .if4 .left))
+
+more-letters : (c : tie.Else5) → From 5 (read (c .before .before .before .before .before .before))
+more-letters c =
+    let p = c .before .before .before .before .before .before in
+    left-passes (pair (c .before .before)) (dskc-number (read p) (bytes p) (p .if2 .left) (c .before .u32-at2 .ensures) ∙ eq-eqb _ _ (c .if5 .left))
+
 returns : tie.Need-returns
-returns c = head-size (c .before .before .args .s .now) (c .if1 .taken)
+returns c = left-fails (left-all (headerChecks (c .before .before .args .s .now))) (lt-leb _ _ (c .if1 .taken))
 
 returns-2 : tie.Need-returns-2
-returns-2 c = head-short (c .before .before .before .args .s .now) (c .before .if1 .left) (c .if2 .taken)
+returns-2 c = left-fails (most (c .before)) (lt-leb _ _ (c .if2 .taken))
 
 u32-at-requires : tie.Need-u32-at-requires
 u32-at-requires c κs = search needs
 
 returns-3 : tie.Need-returns-3
-returns-3 c = head-aero (c .before .before .before .before .before .args .s .now) (c .before .before .before .if1 .left) (c .before .before .if2 .left) (λ i. c .before .before .before .before .shared-slice-known .given i .fits) (c .before .u32-at .ensures) (c .if3 .taken)
+returns-3 c = let p = c .before .before in left-fails (short p) (aero-number (read p) (bytes p) (p .if2 .left) (c .before .u32-at .ensures) ∙ ne-eqb _ _ (c .if3 .taken))
 
 pair-at-requires : tie.Need-pair-at-requires
 pair-at-requires c κs = search needs
 
 returns-4 : tie.Need-returns-4
-returns-4 c = head-first (c .before .before .before .before .before .before .before .args .s .now) (c .before .before .before .before .before .if1 .left) (c .before .before .before .before .if2 .left) (λ i. c .before .before .before .before .before .before .shared-slice-known .given i .fits) (c .before .before .before .u32-at .ensures) (c .before .before .if3 .left) (c .before .pair-at .ensures) (not-true _ (c .if4 .taken))
+returns-4 c = left-fails (letters (c .before .before)) (sym (c .before .pair-at .ensures) ∙ not-true _ (c .if4 .taken))
 
 u32-at-requires-2 : tie.Need-u32-at-requires-2
 u32-at-requires-2 c κs = search needs
 
 returns-5 : tie.Need-returns-5
-returns-5 c = head-dskc (c .before .before .before .before .before .before .before .before .before .args .s .now) (c .before .before .before .before .before .before .before .if1 .left) (c .before .before .before .before .before .before .if2 .left) (λ i. c .before .before .before .before .before .before .before .before .shared-slice-known .given i .fits) (c .before .before .before .before .before .u32-at .ensures) (c .before .before .before .before .if3 .left) (c .before .before .before .pair-at .ensures) (not-false _ (c .before .before .if4 .left)) (c .before .u32-at2 .ensures) (c .if5 .taken)
+returns-5 c =
+    let p = c .before .before .before .before .before .before in
+    left-fails (pair (c .before .before)) (dskc-number (read p) (bytes p) (p .if2 .left) (c .before .u32-at2 .ensures) ∙ ne-eqb _ _ (c .if5 .taken))
 
 pair-at-requires-2 : tie.Need-pair-at-requires-2
 pair-at-requires-2 c κs = search needs
 
 returns-6 : tie.Need-returns-6
-returns-6 c = head-second (c .before .before .before .before .before .before .before .before .before .before .before .args .s .now) (c .before .before .before .before .before .before .before .before .before .if1 .left) (c .before .before .before .before .before .before .before .before .if2 .left) (λ i. c .before .before .before .before .before .before .before .before .before .before .shared-slice-known .given i .fits) (c .before .before .before .before .before .before .before .u32-at .ensures) (c .before .before .before .before .before .before .if3 .left) (c .before .before .before .before .before .pair-at .ensures) (not-false _ (c .before .before .before .before .if4 .left)) (c .before .before .before .u32-at2 .ensures) (c .before .before .if5 .left) (c .before .pair-at2 .ensures) (not-true _ (c .if6 .taken))
+returns-6 c = left-fails (more-letters (c .before .before)) (sym (c .before .pair-at2 .ensures) ∙ not-true _ (c .if6 .taken))
 
 returns-7 : tie.Need-returns-7
-returns-7 c = head-fine (c .before .before .before .before .before .before .before .before .before .before .before .args .s .now) (c .before .before .before .before .before .before .before .before .before .if1 .left) (c .before .before .before .before .before .before .before .before .if2 .left) (λ i. c .before .before .before .before .before .before .before .before .before .before .shared-slice-known .given i .fits) (c .before .before .before .before .before .before .before .u32-at .ensures) (c .before .before .before .before .before .before .if3 .left) (c .before .before .before .before .before .pair-at .ensures) (not-false _ (c .before .before .before .before .if4 .left)) (c .before .before .before .u32-at2 .ensures) (c .before .before .if5 .left) (c .before .pair-at2 .ensures) (not-false _ (c .if6 .left))
+returns-7 c = left-none (left-passes (more-letters (c .before .before)) (sym (c .before .pair-at2 .ensures) ∙ not-false _ (c .if6 .left)))
 
 pub header-spec : {M : Type 1} → statement M
 header-spec =

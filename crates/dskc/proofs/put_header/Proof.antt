@@ -1,8 +1,6 @@
 use Rattle.wire.proofs.Records.{stored-record}
 use Rattle.wire.specs.Numbers.{bytesOf}
 use mathlib.Core.List.{[], _∷_}
-use mathlib.Core.Path.{refl}
-use native.Mathlib.Omega.{arith}
 use borrow.Author.Needs.{needs}
 use Rattle.dskc.proofs.put_header.Statement.{statement}
 use Rattle.dskc.proofs.put_header.Tie as tie
@@ -24,7 +22,14 @@ same-length c = search needs
 
 returns : tie.Need-returns
 unfolding bytesOf
-returns c = stored-record ((4, 0x4F524541) ∷ (4, 1) ∷ (4, 0x434B5344) ∷ (4, 1) ∷ []) (c .before .before .before .before .before .before .before .before .before .before .before .before .before .before .before .before .before .args .out .now) _ (omega arith) (_, c .before .before .before .before .before .before .before .before .before .before .before .before .before .before .put-u32 .ensures, (_, c .before .before .before .before .before .before .before .before .before .before .put-u322 .ensures, (_, c .before .before .before .before .before .before .put-u323 .ensures, (_, c .before .before .put-u324 .ensures, refl))))
+returns c =
+    let fourth = c .before .before in
+    let third = fourth .before .before .before .before in
+    let second = third .before .before .before .before in
+    let first = second .before .before .before .before in
+    let t = first .before .before .before in
+    stored-record ((4, 0x4F524541) ∷ (4, 1) ∷ (4, 0x434B5344) ∷ (4, 1) ∷ []) (t .args .out .now) (t .pre)
+    _ (first .put-u32 .ensures) _ (second .put-u322 .ensures) _ (third .put-u323 .ensures) _ (fourth .put-u324 .ensures)
 
 pub put-header-spec : {M : Type 1} → statement M
 put-header-spec =
