@@ -48,22 +48,19 @@ checked-refused {A} (c ∷ l) a n p e = go (c .0) refl e (checked-refused l a n 
 
 -- ---- asked one after another
 
--- what is left to ask of all rows once those before it are passed
-pub record Left (all rows : Checks) : Type 0 where
-  pub same : asked all ≡ asked rows
+-- the rows that are left when those before them have passed: with what comes behind them they answer as the whole does
+pub record Left {A : Type 0} (rows : Checks) (next whole : Outcome A) : Type 0 where
+  pub same : checked rows next ≡ whole
 
-pub left-all : (l : Checks) → Left l l
-left-all l = record { same = refl }
+pub left-all : {A : Type 0} (rows : Checks) (next : Outcome A) → Left rows next (checked rows next)
+left-all rows next = record { same = refl }
 
-module _ {all l : Checks} {b : Bool} {n p : ℕ} (g : Left all ((b, n, p) ∷ l)) where
-  pub left-fails : b ≡ false → refused n p ≡ asked all
-  left-fails h = sym (g .same ∙ rw h)
+module _ {A : Type 0} {b : Bool} {n p : ℕ} {rows : Checks} {next whole : Outcome A} (l : Left ((b, n, p) ∷ rows) next whole) where
+  pub left-pass : b ≡ true → Left rows next whole
+  left-pass h = record { same = sym (ap (λ (t : Bool). checked ((t, n, p) ∷ rows) next) h) ∙ l .same }
 
-  pub left-passes : b ≡ true → Left all l
-  left-passes h = record { same = g .same ∙ rw h }
-
-pub left-none : {all : Checks} → Left all [] → taken tt ≡ asked all
-left-none g = sym (g .same)
+  pub left-fail : b ≡ false → refused n p ≡ whole
+  left-fail h = sym (ap (λ (t : Bool). checked ((t, n, p) ∷ rows) next) h) ∙ l .same
 
 -- ---- what comes behind
 

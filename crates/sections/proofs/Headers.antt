@@ -13,7 +13,7 @@ use Rattle.answer.specs.declared.Piece.{Piece}
 use Rattle.answer.specs.declared.Piece.the-variants.{Stop}
 use Rattle.answer.specs.Outcome.{Outcome, taken, refused, after}
 use Rattle.answer.specs.Calls.{asked}
-use Rattle.answer.proofs.Checks.{checked-pass}
+use Rattle.answer.proofs.Checks.{checked-pass, Left, left-all}
 use Rattle.wire.specs.Numbers.{Bytes, le, leAt}
 use Rattle.wire.specs.Parts.{same}
 use Rattle.wire.proofs.Letters.{same-number}
@@ -22,7 +22,6 @@ use Rattle.aerosnap.proofs.Turns.{file-header}
 use Rattle.lists.specs.Promises.{zeros}
 use Rattle.sections.specs.Walks.{walkedFrom}
 use Rattle.sections.specs.Index.{Scanned}
-use Rattle.sections.proofs.Rows.{Left}
 
 abbrev Below : List ℕ → Type 0
 Below [] = Unit {0}
@@ -50,7 +49,7 @@ abbrev pub Headed : List ℕ → ℕ → Type 0
 Headed s n = Left (drop n (headerChecks s)) (taken tt) (asked (headerChecks s))
 
 pub head-all : (s : List ℕ) → Headed s 0
-head-all s = record { same = refl }
+head-all s = left-all (headerChecks s) (taken tt)
 
 -- the letters, by the number that was read
 module _ (s : List ℕ) (h : 16 ≤ length s) (b : Bytes s) {a : ℕ} (p : a ≡ leAt 8 s 0) where

@@ -15,7 +15,7 @@ use Rattle.answer.specs.declared.Piece.the-variants.{Stop, Ends}
 use Rattle.answer.specs.Numbers.{CUT, MANY}
 use Rattle.answer.specs.Outcome.{Outcome, taken, refused, checked, after, moved}
 use Rattle.answer.specs.Calls.{pieceOf}
-use Rattle.answer.proofs.Checks.{fails, pass-checked, checked-pass, checked-after}
+use Rattle.answer.proofs.Checks.{fails, pass-checked, checked-pass, checked-after, Left}
 use Rattle.answer.proofs.Outcomes.{after-taken, after-after, taken-is, taken-refused, made-stop, made-taken}
 use Rattle.wire.specs.Numbers.{leAt}
 use Rattle.wire.proofs.Numbers.{leAt-drop, leAt-here}
@@ -29,7 +29,6 @@ use Rattle.aerosnap.proofs.Bodies.{lawful-body, payload-within}
 use Rattle.payloads.specs.Starts.{starts, keptOf}
 use Rattle.sections.specs.Walks.{Marks}
 use Rattle.sections.specs.Index.{startsOf, Keeps}
-use Rattle.sections.proofs.Rows.{Left}
 use Rattle.sections.proofs.Kept.{body-other}
 
 -- ---- a known section

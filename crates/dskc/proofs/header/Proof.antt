@@ -1,4 +1,6 @@
-use Rattle.answer.proofs.Checks.{Left, left-all, left-fails, left-passes, left-none}
+use Rattle.answer.specs.Outcome.{taken}
+use Rattle.answer.specs.Calls.{asked}
+use Rattle.answer.proofs.Checks.{Left, left-all, left-fail, left-pass}
 use Rattle.wire.specs.Numbers.{Bytes}
 use Rattle.dskc.specs.Wrapper.{headerChecks}
 use Rattle.dskc.proofs.Headers.{aero-number, dskc-number}
@@ -13,7 +15,7 @@ use Rattle.dskc.proofs.header.Tie as tie
 
 -- the checks from the n-th on are left to ask
 abbrev From : ℕ → List ℕ → Type 0
-From n s = Left (headerChecks s) (drop n (headerChecks s))
+From n s = Left (drop n (headerChecks s)) (taken tt) (asked (headerChecks s))
 
 -- what is read, once its length is known to be one of a wrapper
 abbrev read : tie.Else2 → List ℕ
@@ -24,39 +26,39 @@ bytes c = λ i. c .before .before .shared-slice-known .given i .fits
 
 -- the checks passed
 most : (c : tie.Else1) → From 1 (c .before .before .args .s .now)
-most c = left-passes (left-all (headerChecks (c .before .before .args .s .now))) (le-leb _ _ (c .if1 .left))
+most c = left-pass (left-all (headerChecks (c .before .before .args .s .now)) (taken tt)) (le-leb _ _ (c .if1 .left))
 
 short : (c : tie.Else2) → From 2 (read c)
-short c = left-passes (most (c .before)) (le-leb _ _ (c .if2 .left))
+short c = left-pass (most (c .before)) (le-leb _ _ (c .if2 .left))
 
 letters : (c : tie.Else3) → From 3 (read (c .before .before))
-letters c = let p = c .before .before in left-passes (short p) (aero-number (read p) (bytes p) (p .if2 .left) (c .before .u32-at .ensures) ∙ eq-eqb _ _ (c .if3 .left))
+letters c = let p = c .before .before in left-pass (short p) (aero-number (read p) (bytes p) (p .if2 .left) (c .before .u32-at .ensures) ∙ eq-eqb _ _ (c .if3 .left))
 
 pair : (c : tie.Else4) → From 4 (read (c .before .before .before .before))
-pair c = left-passes (letters (c .before .before)) (sym (c .before .pair-at .ensures) ∙ not-false _ (c .if4 .left))
+pair c = left-pass (letters (c .before .before)) (sym (c .before .pair-at .ensures) ∙ not-false _ (c .if4 .left))
 
 more-letters : (c : tie.Else5) → From 5 (read (c .before .before .before .before .before .before))
 more-letters c =
     let p = c .before .before .before .before .before .before in
-    left-passes (pair (c .before .before)) (dskc-number (read p) (bytes p) (p .if2 .left) (c .before .u32-at2 .ensures) ∙ eq-eqb _ _ (c .if5 .left))
+    left-pass (pair (c .before .before)) (dskc-number (read p) (bytes p) (p .if2 .left) (c .before .u32-at2 .ensures) ∙ eq-eqb _ _ (c .if5 .left))
 
 returns : tie.Need-returns
-returns c = left-fails (left-all (headerChecks (c .before .before .args .s .now))) (lt-leb _ _ (c .if1 .taken))
+returns c = left-fail (left-all (headerChecks (c .before .before .args .s .now)) (taken tt)) (lt-leb _ _ (c .if1 .taken))
 
 returns-2 : tie.Need-returns-2
-returns-2 c = left-fails (most (c .before)) (lt-leb _ _ (c .if2 .taken))
+returns-2 c = left-fail (most (c .before)) (lt-leb _ _ (c .if2 .taken))
 
 u32-at-requires : tie.Need-u32-at-requires
 u32-at-requires c κs = search needs
 
 returns-3 : tie.Need-returns-3
-returns-3 c = let p = c .before .before in left-fails (short p) (aero-number (read p) (bytes p) (p .if2 .left) (c .before .u32-at .ensures) ∙ ne-eqb _ _ (c .if3 .taken))
+returns-3 c = let p = c .before .before in left-fail (short p) (aero-number (read p) (bytes p) (p .if2 .left) (c .before .u32-at .ensures) ∙ ne-eqb _ _ (c .if3 .taken))
 
 pair-at-requires : tie.Need-pair-at-requires
 pair-at-requires c κs = search needs
 
 returns-4 : tie.Need-returns-4
-returns-4 c = left-fails (letters (c .before .before)) (sym (c .before .pair-at .ensures) ∙ not-true _ (c .if4 .taken))
+returns-4 c = left-fail (letters (c .before .before)) (sym (c .before .pair-at .ensures) ∙ not-true _ (c .if4 .taken))
 
 u32-at-requires-2 : tie.Need-u32-at-requires-2
 u32-at-requires-2 c κs = search needs
@@ -64,16 +66,16 @@ u32-at-requires-2 c κs = search needs
 returns-5 : tie.Need-returns-5
 returns-5 c =
     let p = c .before .before .before .before .before .before in
-    left-fails (pair (c .before .before)) (dskc-number (read p) (bytes p) (p .if2 .left) (c .before .u32-at2 .ensures) ∙ ne-eqb _ _ (c .if5 .taken))
+    left-fail (pair (c .before .before)) (dskc-number (read p) (bytes p) (p .if2 .left) (c .before .u32-at2 .ensures) ∙ ne-eqb _ _ (c .if5 .taken))
 
 pair-at-requires-2 : tie.Need-pair-at-requires-2
 pair-at-requires-2 c κs = search needs
 
 returns-6 : tie.Need-returns-6
-returns-6 c = left-fails (more-letters (c .before .before)) (sym (c .before .pair-at2 .ensures) ∙ not-true _ (c .if6 .taken))
+returns-6 c = left-fail (more-letters (c .before .before)) (sym (c .before .pair-at2 .ensures) ∙ not-true _ (c .if6 .taken))
 
 returns-7 : tie.Need-returns-7
-returns-7 c = left-none (left-passes (more-letters (c .before .before)) (sym (c .before .pair-at2 .ensures) ∙ not-false _ (c .if6 .left)))
+returns-7 c = left-pass (more-letters (c .before .before)) (sym (c .before .pair-at2 .ensures) ∙ not-false _ (c .if6 .left)) .same
 
 pub header-spec : {M : Type 1} → statement M
 header-spec =

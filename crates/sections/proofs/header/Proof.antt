@@ -1,4 +1,4 @@
-use Rattle.sections.proofs.Rows.{left-pass, left-fail}
+use Rattle.answer.proofs.Checks.{left-pass, left-fail}
 use Rattle.sections.proofs.Headers.{Headed, head-all, read-is, read-not, letters-there, letters-not}
 use Rattle.aerosnap.specs.File.{fileMost}
 use Rattle.wire.specs.Numbers.{Bytes}

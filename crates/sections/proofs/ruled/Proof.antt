@@ -1,4 +1,4 @@
-use Rattle.sections.proofs.Rows.{left-pass, left-fail}
+use Rattle.answer.proofs.Checks.{left-pass, left-fail}
 use Rattle.sections.proofs.Rules.{Ruling, ruled-all, ruled-fault, ruled-fine, some-flags, zero-flags, Took, read-stop, read-took, fault-place, keeps-stop, keeps-done, marked, unmarked}
 use Rattle.sections.specs.Walks.{Marks}
 use Rattle.aerosnap.specs.Payloads.{bodyOf, payload}
