@@ -21,7 +21,7 @@ use Rattle.lists.specs.declared.Found.the-variants.{There, Free}
 use Rattle.lists.specs.Lists.{keyAt, listAt, widthOf, entries, listBytes, IsList}
 use Rattle.lists.specs.Promises.{findIn}
 use Rattle.entries.proofs.Lawful.{Lawful}
-use Rattle.lists.proofs.Walks.{key-local, keys}
+use Rattle.lists.proofs.Walks.{key-local}
 use Rattle.lists.proofs.Taken.{self, list-entries, list-sound, list-complete}
 use Rattle.lists.proofs.Ordered.{pieceAt, index-asc, list-order, index-every, index-has}
 use Rattle.lists.proofs.Finds.{there-has, free-insert, free-has, find-map}

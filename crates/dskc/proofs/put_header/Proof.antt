@@ -20,6 +20,7 @@ put-u32-requires-4 c κs = search needs
 same-length : tie.Need-same-length
 same-length c = search needs
 
+-- the four stores, named from the last to the first, leave the header
 returns : tie.Need-returns
 unfolding bytesOf
 returns c =
