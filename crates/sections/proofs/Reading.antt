@@ -24,9 +24,11 @@ use Rattle.aerosnap.specs.Known.{known}
 use Rattle.aerosnap.proofs.Copies.{isList}
 use Rattle.lists.specs.Promises.{placed}
 use Rattle.aerosnap.specs.File.{fileOf}
+use Rattle.sections.specs.declared.Spot.{Spot}
+use Rattle.sections.specs.declared.Spot.the-variants.{At}
 use Rattle.sections.specs.Walks.{sectionsIn, Read}
-use Rattle.sections.specs.Index.{kept, keptIn, counts, Roomy, startsOf, Reading, firstOf}
-use Rattle.sections.proofs.Found.{Here}
+use Rattle.sections.specs.Index.{kept, keptIn, counts, Roomy, startsOf, Reading, firstOf, spotOf, Spotted}
+use Rattle.sections.proofs.Found.{Sited, spot-taken, Here}
 use Rattle.sections.proofs.Kept.{kept-all, counts-all, starts-bound, its-payload, its-body, listed-id, starts-count}
 
 -- ---- the starts of one section
@@ -60,6 +62,16 @@ index-reading s old {new} h r e =
     let n : new ≡ flat startsOf l ++ drop (length (flat startsOf l)) old =
     e ∙ ap (λ (o : Outcome (List (List ℕ))). placed (keptIn (length old) o) old) h ∙ ap (λ (m : List ℕ). m ++ drop (length m) old) k in
     record { rest = drop (length (flat startsOf l)) old; inside = omega arith; same = n }
+
+-- the section with an id was looked for: the file is taken, where the section stands, and the starts of all lists in the index
+pub record Opened (i : ℕ) (s index : List ℕ) (p n : ℕ) : Type 0 where
+  pub site : Sited i s p n
+  pub starts : Reading (sectionsIn s) index 0
+
+pub spot-opened : (i : ℕ) (s old : List ℕ) → Roomy s (length old) → {r : Spot} {new : List ℕ} → Spotted i (fileOf s) old r new → {p n : ℕ} → r ≡ At p n → Opened i s new p n
+spot-opened i s old room w q =
+    let y = spot-taken i s (sym (ap spotOf q) ∙ w .answers) in
+    record { site = y; starts = index-reading s old (y .read) room (w .leaves) }
 
 -- ---- the starts of sections one after another
 

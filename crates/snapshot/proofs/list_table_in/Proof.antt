@@ -1,9 +1,18 @@
 use Rattle.snapshot.proofs.Reading.{list-none, list-stop}
-use Rattle.sections.proofs.Found.{spot-taken}
-use Rattle.sections.proofs.Reading.{index-reading}
+use Rattle.sections.proofs.Reading.{Opened, spot-opened}
 use borrow.Author.Needs.{needs}
 use Rattle.snapshot.proofs.list_table_in.Statement.{statement}
 use Rattle.snapshot.proofs.list_table_in.Tie as tie
+
+-- the section is looked for, and found
+abbrev sought : tie.After-find → tie.Start
+sought c = c .before .before .before .before .before
+
+abbrev found : tie.After-at → tie.After-find
+found c = c .before .before .before .before
+
+opened : (c : tie.After-at) → let f = found c in let a = sought f .args in Opened (a .id) (a .file .now) (f .find .last .1 .1 .0) (c .at .given .0 .0) (c .at .given .0 .1 .0)
+opened c = let f = found c in let t = sought f in spot-opened (t .args .id) (t .args .file .now) (t .args .index .now) (t .pre .2) (f .find .ensures) (c .at .given .1)
 
 find-requires : tie.Need-find-requires
 find-requires c κs = search needs
@@ -18,10 +27,16 @@ same-length : tie.Need-same-length
 same-length c = search needs
 
 returns : tie.Need-returns
-returns c = let t = c .before .before .before .before .before .before .before .before .before .before .before in let a = t .args in let y = spot-taken (a .id) (a .file .now) (rw (c .before .before .at .given .1) at (c .before .before .before .before .before .before .find .ensures .answers)) in list-none (a .t) (a .id) (a .file .now) y (c .if1 .taken) (a .table .now)
+returns c =
+    let y = opened (c .before .before) in
+    let a = sought (found (c .before .before)) .args in
+    list-none (a .t) (a .id) (a .file .now) (y .site) (c .if1 .taken) (a .table .now)
 
 put-list-requires : tie.Need-put-list-requires
-put-list-requires c κs = let t = c .before .before .before .before .before .before .before .before .before .before .before .before .before in let a = t .args in let y = spot-taken (a .id) (a .file .now) (rw (c .before .before .before .before .at .given .1) at (c .before .before .before .before .before .before .before .before .find .ensures .answers)) in record { read = y .read; is-known = t .pre .0; body = t .pre .1; place = y .place; there = c .before .before .if1 .left; starts = index-reading (a .file .now) (a .index .now) (y .read) (t .pre .2) (c .before .before .before .before .before .before .before .before .find .ensures .leaves); front = y .first }
+put-list-requires c κs =
+    let y = opened (c .before .before .before .before) in
+    let t = sought (found (c .before .before .before .before)) in
+    record { read = y .site .read; is-known = t .pre .0; body = t .pre .1; place = y .site .place; there = c .before .before .if1 .left; starts = y .starts; front = y .site .first }
 
 same-length-2 : tie.Need-same-length-2
 same-length-2 c = search needs
