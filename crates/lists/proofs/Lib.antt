@@ -12,6 +12,7 @@ pub mod Filing
 pub mod Picks
 pub mod Descent
 pub mod Gaps
+pub mod Sifting
 pub mod Callers
 pub mod InPlace
 pub mod Once
