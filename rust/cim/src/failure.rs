@@ -1,5 +1,6 @@
 //! Why a command ends without its answer, what it says then and with which status.
 
+use crate::files::complain;
 use cimbrolau::Refusal;
 use std::fmt::Display;
 use std::io::{self, ErrorKind};
@@ -40,15 +41,15 @@ impl Failure {
     pub fn told(self) -> ExitCode {
         match self {
             Failure::Refused(refusal) => {
-                eprintln!("refused {refusal}");
+                complain(format_args!("refused {refusal}"));
                 ExitCode::from(1)
             }
             Failure::Usage(fault) => {
-                eprintln!("cim: {fault}");
+                complain(format_args!("cim: {fault}"));
                 ExitCode::from(2)
             }
             Failure::Io(sentence) => {
-                eprintln!("cim: {sentence}");
+                complain(format_args!("cim: {sentence}"));
                 ExitCode::from(3)
             }
             Failure::Closed => ExitCode::from(3),

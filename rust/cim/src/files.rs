@@ -2,6 +2,7 @@
 
 use crate::failure::Failure;
 use std::ffi::OsStr;
+use std::fmt::Display;
 use std::fs::{self, File, OpenOptions};
 use std::io::{self, Read, Write};
 use std::path::{Path, PathBuf};
@@ -14,6 +15,11 @@ fn is_dash(word: &OsStr) -> bool {
 /// Prints a text to standard output.
 pub fn print(text: &str) -> Result<(), Failure> {
     print_bytes(text.as_bytes())
+}
+
+/// Says a line on standard error. Where nobody listens, the status alone has to tell.
+pub fn complain(line: impl Display) {
+    let _ = writeln!(io::stderr(), "{line}");
 }
 
 fn print_bytes(bytes: &[u8]) -> Result<(), Failure> {
@@ -61,8 +67,7 @@ pub fn write(name: &OsStr, bytes: &[u8]) -> Result<(), Failure> {
 }
 
 /// Where to write: the file behind a link, so that the link stays. What is there and no file (a folder, a device) is
-/// never replaced,
-/// nor is a read-only file.
+/// never replaced, nor is a read-only file.
 fn target_of(name: &Path) -> io::Result<PathBuf> {
     match fs::metadata(name) {
         Ok(found) if found.is_file() && found.permissions().readonly() => {

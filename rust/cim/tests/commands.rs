@@ -397,6 +397,15 @@ fn an_output_that_nobody_reads_ends_quietly() {
 }
 
 #[test]
+fn a_refusal_that_nobody_reads_keeps_its_status() {
+    let at = folder("unheard");
+    put(&at, "in", &key_again());
+    let full = fs::OpenOptions::new().write(true).open("/dev/full").unwrap();
+    let output = cim(&at).args(["check", "in"]).stderr(full).output().unwrap();
+    assert_eq!(output.status.code(), Some(1));
+}
+
+#[test]
 fn an_output_with_no_room_is_told() {
     let at = folder("full");
     put(&at, "in", TWO_DEVICES);
