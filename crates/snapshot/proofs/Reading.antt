@@ -26,7 +26,7 @@ use Rattle.aerosnap.specs.Payloads.{list, bodyOf}
 use Rattle.aerosnap.specs.File.{idOf, versionOf, fileOf}
 use Rattle.aerosnap.specs.Tables.{placed, listRows, table, sectionTable}
 use Rattle.aerosnap.proofs.Taken.{file-sound}
-use Rattle.aerosnap.proofs.Standing.{stand-start, endAt, finished}
+use Rattle.aerosnap.proofs.Standing.{stand-start, endAt, no-section}
 use Rattle.sections.specs.Walks.{counted, sectionsIn}
 use Rattle.sections.specs.Index.{spotIn}
 use Rattle.sections.proofs.Found.{spot-stop, Sited, Here, none-there, there, made-none, made-one}
@@ -64,11 +64,11 @@ module _ (s : List ℕ) where
   table-of rows have h = ap (λ (o : Outcome (List (List ℕ))). after o (λ l. fitting have (flat rows (placed 16 l)))) h
 
   -- a file that has no section: no record, so that its verdict is the answer
-  pub no-section : (rows : ℕ × List ℕ → List ℕ) (old : List ℕ) → length s ≤ 16 → {r : Answer} → r ≡ verdict (fileOf s) → Writes (table rows (length old) s) old r old
-  no-section rows old h k = subst (λ (r : Answer). Writes (table rows (length old) s) old r old) (sym k) (go (fileOf s) refl) where
+  pub bare-table : (rows : ℕ × List ℕ → List ℕ) (old : List ℕ) → length s ≤ 16 → {r : Answer} → r ≡ verdict (fileOf s) → Writes (table rows (length old) s) old r old
+  bare-table rows old h k = subst (λ (r : Answer). Writes (table rows (length old) s) old r old) (sym k) (go (fileOf s) refl) where
     go : (o : Outcome (List (List ℕ))) → fileOf s ≡ o → Writes (table rows (length old) s) old (verdict o) old
     go (refused n p) e = stopped rows old e
-    go (taken l) e = writes-taken (table-of rows (length old) e ∙ ap (λ (m : List (List ℕ)). fitting (length old) (flat rows (placed 16 m))) (finished l (stand-start s e) h) ∙ rw (none-placed, le-leb 0 (length old) (omega arith))) (none old)
+    go (taken l) e = writes-taken (table-of rows (length old) e ∙ ap (λ (m : List (List ℕ)). fitting (length old) (flat rows (placed 16 m))) (no-section s e h) ∙ rw (none-placed, le-leb 0 (length old) (omega arith))) (none old)
 
 -- ---- the table of sections
 
