@@ -8,7 +8,7 @@ add-b : tie.Need-add-b
 add-b c = search needs
 
 end-at-requires : tie.Need-end-at-requires
-end-at-requires c κs = let t = c .before .before .before in let a = t .args in let g = list-fits (a .t) (a .id) (a .file .now) (a .index .now) (t .pre) in omega (arith, g .0, g .1)
+end-at-requires c κs = let t = c .before .before .before in let a = t .args in let g = list-fits (t .pre) in omega (arith, g .0, g .1)
 
 u32-at-requires : tie.Need-u32-at-requires
 u32-at-requires c κs = search needs
@@ -20,10 +20,10 @@ mul-need : tie.Need-mul-need
 mul-need c = search needs
 
 returns : tie.Need-returns
-returns c = let t = c .before .before .before .before .before .before in let a = t .args in list-short (a .t) (a .id) (a .file .now) (a .index .now) (t .pre) (c .before .u32-at .ensures) (c .before .before .end-at .ensures) (a .table .now) (c .if1 .taken)
+returns c = let t = c .before .before .before .before .before .before in let a = t .args in list-short (t .pre) (c .before .u32-at .ensures) (c .before .before .end-at .ensures) (a .table .now) (c .if1 .taken)
 
 add-last : tie.Need-add-last
-add-last c = let t = c .before .before .before .before .before .before in let a = t .args in omega (arith, list-inside (a .t) (a .id) (a .file .now) (a .index .now) (t .pre) (c .before .u32-at .ensures), t .fits)
+add-last c = let t = c .before .before .before .before .before .before in let a = t .args in omega (arith, list-inside (t .pre) (c .before .u32-at .ensures), t .fits)
 
 sub-put-rows : tie.Need-sub-put-rows
 sub-put-rows c = search needs
@@ -32,13 +32,13 @@ part-put-rows-start : tie.Need-part-put-rows-start
 part-put-rows-start c = search needs
 
 part-put-rows-end : tie.Need-part-put-rows-end
-part-put-rows-end c = let t = c .before .before .before .before .before .before in let a = t .args in let g = list-fits (a .t) (a .id) (a .file .now) (a .index .now) (t .pre) in omega (arith, g .0, g .1, c .before .before .end-at .ensures)
+part-put-rows-end c = let t = c .before .before .before .before .before .before in let a = t .args in let g = list-fits (t .pre) in omega (arith, g .0, g .1, c .before .before .end-at .ensures)
 
 cast-put-rows : tie.Need-cast-put-rows
-cast-put-rows c = let t = c .before .before .before .before .before .before .before in let a = t .args in let g = list-fits (a .t) (a .id) (a .file .now) (a .index .now) (t .pre) in omega (arith, g .0, g .1)
+cast-put-rows c = let t = c .before .before .before .before .before .before .before in let a = t .args in let g = list-fits (t .pre) in omega (arith, g .0, g .1)
 
 mul-put-rows : tie.Need-mul-put-rows
-mul-put-rows c = let t = c .before .before .before .before .before .before .before in let a = t .args in omega (arith, list-inside (a .t) (a .id) (a .file .now) (a .index .now) (t .pre) (c .before .before .u32-at .ensures))
+mul-put-rows c = let t = c .before .before .before .before .before .before .before in let a = t .args in omega (arith, list-inside (t .pre) (c .before .before .u32-at .ensures))
 
 sub-put-rows-2 : tie.Need-sub-put-rows-2
 sub-put-rows-2 c = search needs
@@ -47,7 +47,7 @@ part-put-rows-start-2 : tie.Need-part-put-rows-start-2
 part-put-rows-start-2 c = search needs
 
 part-put-rows-end-2 : tie.Need-part-put-rows-end-2
-part-put-rows-end-2 c = let t = c .before .before .before .before .before .before .before in let a = t .args in list-inside (a .t) (a .id) (a .file .now) (a .index .now) (t .pre) (c .before .before .u32-at .ensures)
+part-put-rows-end-2 c = let t = c .before .before .before .before .before .before .before in let a = t .args in list-inside (t .pre) (c .before .before .u32-at .ensures)
 
 put-rows-requires : tie.Need-put-rows-requires
 put-rows-requires c κs = search needs
@@ -56,7 +56,7 @@ same-length : tie.Need-same-length
 same-length c = search needs
 
 returns-2 : tie.Need-returns-2
-returns-2 c = let t = c .before .before .before .before .before .before .before .before .before .before .before .before in let a = t .args in list-done (a .t) (a .id) (a .file .now) (a .index .now) (t .pre) (c .before .before .before .before .before .before .before .u32-at .ensures) (c .before .before .before .before .before .before .before .before .end-at .ensures) (c .before .before .before .before .before .before .if1 .left) (c .before .before .put-rows .ensures)
+returns-2 c = let t = c .before .before .before .before .before .before .before .before .before .before .before .before in let a = t .args in list-done (t .pre) (c .before .before .before .before .before .before .before .u32-at .ensures) (c .before .before .before .before .before .before .before .before .end-at .ensures) (c .before .before .before .before .before .before .if1 .left) (c .before .before .put-rows .ensures)
 
 pub put-list-spec : {M : Type 1} → statement M
 put-list-spec =
