@@ -59,7 +59,7 @@ end-at-requires : tie.Need-end-at-requires Inv-loop μ-loop
 end-at-requires c κs = let g = on (c .before .before .before .before .before) in omega (arith, g .1, g .2)
 
 add-t : tie.Need-add-t Inv-loop μ-loop
-add-t c = omega (arith, room (c .before .before .before .before .before .before))
+add-t c = let k = c .before .before .before .before .before .before in omega (arith, room k, filling-long (rows k .fill))
 
 loop-less : tie.Need-loop-less Inv-loop μ-loop
 loop-less c = let g = on (c .before .before .before .before .before .before) in omega (arith, g .0, g .1)
