@@ -7,7 +7,7 @@ use Prim.Native.Nat.{ℕ, _≤_, _<_}
 use lib.Dec.{leb}
 use borrow.Author.Tests.{le-leb, lt-leb}
 use Rattle.answer.specs.Numbers.{VALUE}
-use Rattle.answer.specs.Outcome.{Outcome, taken, refused, checked, after}
+use Rattle.answer.specs.Outcome.{taken, refused, checked, after}
 use Rattle.answer.proofs.Checks.{Left, left-pass, left-fail}
 use Rattle.wire.specs.Numbers.{leAt}
 use Rattle.format.specs.Format.{values}

@@ -9,7 +9,7 @@ use native.Mathlib.Omega.{arith}
 use lib.ListN.{length, take, drop, getD, length-drop, length-take}
 use lib.Seq.{drop-drop}
 use lib.Dec.{leb, ltb, eqb}
-use borrow.Author.Tests.{le-leb, lt-leb, le-ltb, lt-ltb, eq-eqb, ne-eqb}
+use borrow.Author.Tests.{le-leb, eq-eqb, ne-eqb}
 use Rattle.answer.specs.declared.Piece.{Piece}
 use Rattle.answer.specs.declared.Piece.the-variants.{Stop, Ends}
 use Rattle.answer.specs.Numbers.{CUT, MANY}
