@@ -3,6 +3,7 @@ pub mod Slots
 pub mod Sections
 pub mod Taken
 pub mod Places
+pub mod Refusals
 pub mod Named
 pub mod Turns
 pub mod Standing

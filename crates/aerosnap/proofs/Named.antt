@@ -26,6 +26,7 @@ use Rattle.aerosnap.specs.Payloads.{metaForm, Body, meta, cpu, mmu, list
 use Rattle.aerosnap.specs.File.{sectionsMost, headerChecks, idOf, versionOf, flagsOf, lengthOf, payloadOf, frameChecks, knownChecks, ruled, sectionOf, sections, fileOf}
 use Rattle.aerosnap.specs.Content.{contentOf, render, contentAt, canonical}
 use Rattle.aerosnap.specs.Adding.{Item, device, disk, put, ownChecks, addChecks, addTo, addItem}
+use Rattle.aerosnap.proofs.Refusals.{Refuses, checked-refuses, after-refuses, refuses-more}
 
 -- ---- outcomes and checks
 
@@ -34,16 +35,10 @@ abbrev pub Numbered : Checks → Type 0
 Numbered = Every (λ c. isFault (c .1) ≡ true)
 
 pub checked-faulty : {A : Type 0} (l : Checks) (a : Outcome A) → Numbered l → Faulty a → Faulty (checked l a)
-checked-faulty [] a h k = k
-checked-faulty (c ∷ l) a h k = go (c .0) (checked-faulty l a (h .1) k)
-  where
-    go : (b : Bool) → Faulty (checked l a) → Faulty (checked ((b, c .1, c .2) ∷ l) a)
-    go true r = r
-    go false r = h .0
+checked-faulty l a h k = checked-refuses (λ n. isFault n ≡ true) l a h k
 
 pub after-faulty : {A B : Type 0} (r : Outcome A) (f : A → Outcome B) → Faulty r → ((a : A) → Faulty (f a)) → Faulty (after r f)
-after-faulty (taken a) f h k = k a
-after-faulty (refused n p) f h k = h
+after-faulty r f h k = after-refuses (λ n. isFault n ≡ true) r f h k
 
 pub moved-faulty : {A : Type 0} (k : ℕ) (r : Outcome A) → Faulty r → Faulty (moved k r)
 moved-faulty k (taken a) h = tt
@@ -178,9 +173,11 @@ file-faulty s = checked-faulty (headerChecks s) (sections sectionsMost [] 16 (dr
 
 -- ---- refusals of calls
 
+abbrev Nonzero : ℕ → Type 0
+Nonzero n = 1 ≤ n
+
 abbrev pub Named : {A : Type 0} → Outcome A → Type 0
-Named (taken a) = Unit {0}
-Named (refused n p) = 1 ≤ n
+Named o = Refuses Nonzero o
 
 fault-number : (n : ℕ) → isFault n ≡ true → 1 ≤ n
 fault-number n h = go (leb SHORT n) refl (leb TAG n) refl h
@@ -190,43 +187,27 @@ fault-number n h = go (leb SHORT n) refl (leb TAG n) refl h
     go false p true q e = omega (arith, leb-true TAG n q)
     go false p false q e = let z : _≡_ {A = ℕ} 0 1 = cc in absurd (omega arith)
 
-faulty-named : {A : Type 0} (o : Outcome A) → Faulty o → Named o
-faulty-named (taken a) h = tt
-faulty-named (refused n p) h = fault-number n h
-
-checked-named : {A : Type 0} (l : Checks) (a : Outcome A) → Every (λ c. 1 ≤ c .1) l → Named a → Named (checked l a)
-checked-named [] a h k = k
-checked-named (c ∷ l) a h k = go (c .0) (checked-named l a (h .1) k)
-  where
-    go : (b : Bool) → Named (checked l a) → Named (checked ((b, c .1, c .2) ∷ l) a)
-    go true r = r
-    go false r = h .0
-
-after-named : {A B : Type 0} (r : Outcome A) (f : A → Outcome B) → Named r → ((a : A) → Named (f a)) → Named (after r f)
-after-named (taken a) f h k = k a
-after-named (refused n p) f h k = h
-
 pub content-faulty : (s : List ℕ) → Faulty (contentAt s)
 content-faulty s = after-faulty (fileOf s) (λ l. taken (contentOf l)) (file-faulty s) (λ _. tt)
 
 content-named : (s : List ℕ) → Named (contentAt s)
-content-named s = faulty-named (contentAt s) (content-faulty s)
+content-named s = refuses-more (λ n. isFault n ≡ true) Nonzero fault-number (contentAt s) (content-faulty s)
 
 fitting-named : (have : ℕ) (b : List ℕ) → Named (fitting have b)
-fitting-named have b = checked-named (room have (length b)) (taken b) (omega arith, tt) tt
+fitting-named have b = checked-refuses Nonzero (room have (length b)) (taken b) (omega arith, tt) tt
 
 pub canonical-named : (have : ℕ) (s : List ℕ) → Named (canonical have s)
 unfolding canonical
-canonical-named have s = after-named (contentAt s) (λ c. fitting have (render c)) (content-named s) (λ c. fitting-named have (render c))
+canonical-named have s = after-refuses Nonzero (contentAt s) (λ c. fitting have (render c)) (content-named s) (λ c. fitting-named have (render c))
 
-own-numbered : (x : Item) → Every (λ c. 1 ≤ c .1) (ownChecks x)
+own-numbered : (x : Item) → Every (λ c. Nonzero (c .1)) (ownChecks x)
 own-numbered (device id v f p) = (omega arith, tt)
 own-numbered (disk id x y) = (omega arith, (omega arith, tt))
 
 pub add-named : (have : ℕ) (s : List ℕ) (x : Item) → Named (addItem have s x)
 unfolding addItem addTo
-add-named have s x = after-named (contentAt s) (λ c. addTo have c x) (content-named s) (λ c.
-    checked-named (ownChecks x ++ addChecks x c (put x c)) (fitting have (render (put x c)))
+add-named have s x = after-refuses Nonzero (contentAt s) (λ c. addTo have c x) (content-named s) (λ c.
+    checked-refuses Nonzero (ownChecks x ++ addChecks x c (put x c)) (fitting have (render (put x c)))
     (every-append _ (ownChecks x) (addChecks x c (put x c)) (own-numbered x) (omega arith, (omega arith, (omega arith, (omega arith, (omega arith, tt))))))
     (fitting-named have (render (put x c))))
 

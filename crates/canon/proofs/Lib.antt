@@ -1,4 +1,3 @@
-pub mod Filling
 pub mod Walks
 pub mod Pieces
 pub mod Order

@@ -6,7 +6,7 @@ use mathlib.Core.Bool.{Bool, true, false, cond, _||_}
 use mathlib.Core.Logic.{_≢_}
 use Prim.Native.Nat.{ℕ, _+_, _-_, _≤_}
 use native.Mathlib.Omega.{arith}
-use lib.ListN.{length, take, drop, length-append, length-drop, take-append-drop}
+use lib.ListN.{length, take, drop, length-drop, take-append-drop}
 use lib.Seq.{take-add, length-take-le, getD-drop}
 use lib.Dec.{eqb}
 use borrow.Author.Tests.{eq-eqb, ne-eqb, eqb-true}
@@ -14,11 +14,14 @@ use Rattle.answer.specs.Outcome.{taken}
 use Rattle.wire.specs.Numbers.{Bytes, leAt, bytesOf}
 use Rattle.wire.specs.Parts.{put, Wrote}
 use Rattle.wire.proofs.Numbers.{bytesOf-leAt}
-use Rattle.wire.proofs.Parts.{none, wrote-put, wrote-tail, tail-whole, length-tail, length-put}
+use Rattle.wire.proofs.Parts.{none, wrote-put, tail-whole}
+use Rattle.wire.proofs.Filling.{Filling, filling-room, filling-done}
 use Rattle.order.specs.Keyed.{sort}
 use Rattle.order.specs.Entries.{join}
 use Rattle.entries.specs.Kinds.{Description}
-use Rattle.entries.proofs.Lawful.{Lawful}
+use Rattle.entries.specs.declared.Kind.{Kind}
+use Rattle.entries.specs.Code.{describe}
+use Rattle.entries.proofs.Lawful.{Lawful, lawful}
 use Rattle.lists.specs.Lists.{entries}
 use Rattle.lists.proofs.Ordered.{list-order}
 use Rattle.writer.specs.Writer.{sortedBytes}
@@ -74,47 +77,58 @@ plain-wrote e old i h r p =
 pub as-list : (e : List ℕ) {id v : ℕ} {d : Description} → id ≡ idOf e → v ≡ versionOf e → bodyOf id v ≡ list d → bodyOf (idOf e) (versionOf e) ≡ list d
 as-list e {id} i j h = ap (λ (n : ℕ). bodyOf n (versionOf e)) (sym i) ∙ ap (bodyOf id) (sym j) ∙ h
 
-module _ (e : List ℕ) {d : Description} (q : bodyOf (idOf e) (versionOf e) ≡ list d) (K : Lawful d) (w : Whole e) (b : Bytes e) (old : List ℕ) (room : length (bytesFor e) ≤ length old) {l : List ℕ} (i : l ≡ startsOf e) where
+-- the section e is a list of a kind, its starts are l, and there is room for it in old
+pub record ListPiece (k : Kind) (e old l : List ℕ) : Type 0 where
+  pub whole : Whole e
+  pub starts : l ≡ startsOf e
+  pub form : bodyOf (idOf e) (versionOf e) ≡ list (describe k)
+  pub bytes : Bytes e
+  pub room : length (bytesFor e) ≤ length old
+
+module _ {k : Kind} {e old l : List ℕ} (v : ListPiece k e old l) where
+  abbrev d : Description
+  d = describe k
+
+  K : Lawful d
+  K = lawful k
+
   count : length l ≡ leAt 4 e 16
-  count = ap length i ∙ starts-long e (w .is) q
+  count = ap length (v .starts) ∙ starts-long e (v .whole .is) (v .form)
 
   pub list-none : length l ≡ 0 → Wrote (bytesFor e) old old 0
-  list-none z = rw (list-written e q K (w .is) b, eq-eqb (leAt 4 e 16) 0 (sym count ∙ z)) (none old)
+  list-none z = rw (list-written e (v .form) K (v .whole .is) (v .bytes), eq-eqb (leAt 4 e 16) 0 (sym count ∙ z)) (none old)
 
   pub list-long : 20 ≤ length e
-  list-long = omega (arith, body-list e (w .is) q .count, length-drop 16 e)
+  list-long = omega (arith, body-list e (v .whole .is) (v .form) .count, length-drop 16 e)
 
   listed : Listed d (drop 16 e) l
-  listed = record { short = omega (arith, w .small, length-drop 16 e); list = starts-list e (w .is) q ∙ ap taken (sym i) }
+  listed = record { short = omega (arith, v .whole .small, length-drop 16 e); list = starts-list e (v .whole .is) (v .form) ∙ ap taken (sym (v .starts)) }
 
   module _ (z : length l ≢ 0) where
     bytes-are : bytesFor e ≡ take 20 e ++ run d (drop 16 e) l
     bytes-are =
-        list-written e q K (w .is) b
+        list-written e (v .form) K (v .whole .is) (v .bytes)
         ∙ ap (λ (t : Bool). cond t [] (take 20 e ++ join (sort (d .key) (entries d (drop 16 e))))) (ne-eqb (leAt 4 e 16) 0 (λ y. z (count ∙ y)))
         ∙ ap (λ (m : List (List ℕ)). take 20 e ++ join m) (sym (list-order K (drop 16 e) (listed .list)))
 
     all-long : length (bytesFor e) ≡ length e
-    all-long = tidy-size e (w .is) ∙ ap (λ (t : Bool). cond t 0 (length e)) (is-empty ∙ ne-eqb (leAt 4 e 16) 0 (λ y. z (count ∙ y)))
+    all-long = tidy-size e (v .whole .is) ∙ ap (λ (t : Bool). cond t 0 (length e)) (is-empty ∙ ne-eqb (leAt 4 e 16) 0 (λ y. z (count ∙ y)))
       where
         is-empty : isEmpty e ≡ eqb (leAt 4 e 16) 0
-        is-empty = ap (λ (k : Body). isEmptyBy k e) q
-
-    run-long : 20 + length (run d (drop 16 e) l) ≡ length e
-    run-long = omega (arith, all-long, ap length bytes-are, length-append (take 20 e) (run d (drop 16 e) l), length-take-le 20 e list-long)
+        is-empty = ap (λ (f : Body). isEmptyBy f e) (v .form)
 
     -- in the order of its keys, as it stands
     pub list-straight : true ≡ inOrder l → {new : List ℕ} → new ≡ put 0 e old → Wrote (bytesFor e) old new (length e)
     list-straight o p =
-        let c : sortedBytes d (drop 16 e) ≡ drop 16 e = straight-bytes K listed (sym o) (λ j. rw (getD-drop 16 e j 0) (b (16 + j))) in
+        let c : sortedBytes d (drop 16 e) ≡ drop 16 e = straight-bytes K listed (sym o) (λ j. rw (getD-drop 16 e j 0) (v .bytes (16 + j))) in
         let s : bytesFor e ≡ e = bytes-are ∙ head-and-run ∙ ap (λ (t : List ℕ). take 16 e ++ t) c ∙ take-append-drop 16 e in
         let n : length (bytesFor e) ≡ length e = all-long in
-        rw s (wrote-first (omega arith) p)
+        rw s (wrote-first (omega (arith, v .room)) p)
       where
         -- the count and the run are the list in the order of its keys
         head-and-run : take 20 e ++ run d (drop 16 e) l ≡ take 16 e ++ sortedBytes d (drop 16 e)
         head-and-run =
-            let c : bytesOf 4 (length l) ≡ take 4 (drop 16 e) = ap (bytesOf 4) count ∙ bytesOf-leAt 4 e 16 b (omega (arith, list-long)) in
+            let c : bytesOf 4 (length l) ≡ take 4 (drop 16 e) = ap (bytesOf 4) count ∙ bytesOf-leAt 4 e 16 (v .bytes) (omega (arith, list-long)) in
             ap (λ (t : List ℕ). t ++ run d (drop 16 e) l) (take-add 16 4 e)
             ∙ append-assoc (take 16 e) (take 4 (drop 16 e)) (run d (drop 16 e) l)
             ∙ ap (λ (t : List ℕ). take 16 e ++ (t ++ run d (drop 16 e) l)) (sym c)
@@ -122,22 +136,15 @@ module _ (e : List ℕ) {d : Description} (q : bodyOf (idOf e) (versionOf e) ≡
 
     -- in another order, entry by entry behind its header and its count
     module _ {o : List ℕ} (p : o ≡ put 0 (take 20 e) old) where
-      head : Wrote (take 20 e) old o 20
-      head =
+      pub list-head : Filling (bytesFor e) old (run d (drop 16 e) l) 20 o
+      list-head =
           let n : length (take 20 e) ≡ 20 = length-take-le 20 e list-long in
-          let f = wrote-first {bs = take 20 e} (omega (arith, all-long, list-long)) p in
-          record { count = sym n; bytes = f .bytes }
+          let f = wrote-first {bs = take 20 e} (omega (arith, all-long, list-long, v .room)) p in
+          record { part = take 20 e; whole = bytes-are; room = v .room; wrote = record { count = sym n; bytes = f .bytes } }
 
-      pub list-room : 20 ≤ length o
-      list-room = omega (arith, ap length p, length-put 0 (take 20 e) old, all-long, list-long)
+      module _ {last : List ℕ} {n : ℕ} (x : Wrote (join (fits (length (take (length o - 20) (drop 20 o))) (map (entryBy d (take (length e - 16) (drop 16 e))) l))) (take (length o - 20) (drop 20 o)) last n) where
+        pub list-wrote : Wrote (bytesFor e) old (take 20 o ++ (last ++ drop (length o - 20) (drop 20 o))) (20 + n)
+        list-wrote = filling-done list-head (run-wrote d (drop 16 e) l (by-all K listed) (filling-room list-head) (rw (tail-whole 16 e) at x))
 
-      pub list-wrote : {last : List ℕ} {n : ℕ} → Wrote (join (fits (length (take (length o - 20) (drop 20 o))) (map (entryBy d (take (length e - 16) (drop 16 e))) l))) (take (length o - 20) (drop 20 o)) last n
-          → Wrote (bytesFor e) old (take 20 o ++ (last ++ drop (length o - 20) (drop 20 o))) (20 + n)
-      list-wrote x =
-          let t : List ℕ = take (length o - 20) (drop 20 o) in
-          let r : length (run d (drop 16 e) l) ≤ length t = omega (arith, run-long, length-tail 20 o, ap length p, length-put 0 (take 20 e) old, all-long) in
-          rw bytes-are (wrote-tail head (run-wrote d (drop 16 e) l (by-all K listed) r (rw (tail-whole 16 e) at x)))
-
-      pub list-end : {last : List ℕ} {n : ℕ} → Wrote (join (fits (length (take (length o - 20) (drop 20 o))) (map (entryBy d (take (length e - 16) (drop 16 e))) l))) (take (length o - 20) (drop 20 o)) last n
-          → 20 + n ≡ length e
-      list-end x = omega (arith, list-wrote x .count, all-long)
+        pub list-end : 20 + n ≡ length e
+        list-end = omega (arith, list-wrote .count, all-long)

@@ -25,6 +25,7 @@ use Rattle.aerosnap.specs.File.{fileOf}
 use Rattle.aerosnap.specs.Content.{Content, contentAt, render, canonical}
 use Rattle.aerosnap.specs.Tables.{placed, table}
 use Rattle.aerosnap.specs.Adding.{Item, device, disk, ownChecks, addChecks, put, addTo, addItem}
+use Rattle.aerosnap.proofs.Refusals.{Refuses, checked-refuses, after-refuses, refuses-more}
 use Rattle.aerosnap.proofs.Named.{file-faulty, content-faulty}
 use Rattle.dskc.specs.Wrapper as wrapped
 use Rattle.kinds.specs.declared.Message.{Message}
@@ -50,8 +51,7 @@ Plain n = (SHORT ≤ n) × (n ≤ ADDRESS) × (n ≢ ROOM)
 
 -- the outcome of a call before its room is looked at
 abbrev Unroomed : {A : Type 0} → Outcome A → Type 0
-Unroomed (taken a) = Unit {0}
-Unroomed (refused n p) = Plain n
+Unroomed o = Refuses Plain o
 
 plain : (n : ℕ) → isFault n ≡ true → Plain n
 plain n h = go (leb SHORT n) (leb n VALUE) (leb TAG n) (leb n ADDRESS) refl refl refl refl h
@@ -66,24 +66,11 @@ plain n h = go (leb SHORT n) (leb n VALUE) (leb TAG n) (leb n ADDRESS) refl refl
     go false b false d p q r s h = let z : _≡_ {A = ℕ} 0 1 = cc in absurd (omega arith)
 
 faulty-unroomed : {A : Type 0} (o : Outcome A) → Faulty o → Unroomed o
-faulty-unroomed (taken a) h = tt
-faulty-unroomed (refused n p) h = plain n h
+faulty-unroomed o h = refuses-more (λ n. isFault n ≡ true) Plain plain o h
 
 -- each of the checks has such a number
 abbrev Rows : Checks → Type 0
 Rows = Every (λ c. Plain (c .1))
-
-checked-unroomed : {A : Type 0} (l : Checks) (a : Outcome A) → Rows l → Unroomed a → Unroomed (checked l a)
-checked-unroomed [] a h k = k
-checked-unroomed (c ∷ l) a h k = go (c .0) (checked-unroomed l a (h .1) k)
-  where
-    go : (b : Bool) → Unroomed (checked l a) → Unroomed (checked ((b, c .1, c .2) ∷ l) a)
-    go true r = r
-    go false r = h .0
-
-after-unroomed : {A B : Type 0} (r : Outcome A) (f : A → Outcome B) → Unroomed r → ((a : A) → Unroomed (f a)) → Unroomed (after r f)
-after-unroomed (taken a) f h k = k a
-after-unroomed (refused n p) f h k = h
 
 -- ---- calls that write nothing
 
@@ -171,7 +158,7 @@ fills o k = record {
 
 -- what is written of what was read
 read-core : {A : Type 0} (r : Outcome A) (f : A → List ℕ) → Faulty r → Core (λ have. after r (λ a. fitting have (f a)))
-read-core r f h = record { core = after r (λ a. taken (f a)); apart = after-unroomed r (λ a. taken (f a)) (faulty-unroomed r h) (λ a. tt); same = λ have. sym (after-after r (λ a. taken (f a)) (fitting have)) }
+read-core r f h = record { core = after r (λ a. taken (f a)); apart = after-refuses Plain r (λ a. taken (f a)) (faulty-unroomed r h) (λ a. tt); same = λ have. sym (after-after r (λ a. taken (f a)) (fitting have)) }
 
 table-core : (rows : ℕ × List ℕ → List ℕ) (s : List ℕ) → Core (λ have. table rows have s)
 table-core rows s = read-core (fileOf s) (λ l. flat rows (placed 16 l)) (file-faulty s)
@@ -194,7 +181,7 @@ add-core s x =
     let all : Content → Outcome (List ℕ) = λ c. checked (rows c) (taken (render (put x c))) in
     record {
       core = after (contentAt s) all;
-      apart = after-unroomed (contentAt s) all (faulty-unroomed (contentAt s) (content-faulty s)) (λ c. checked-unroomed (rows c) (taken (render (put x c))) (add-rows x c) tt);
+      apart = after-refuses Plain (contentAt s) all (faulty-unroomed (contentAt s) (content-faulty s)) (λ c. checked-refuses Plain (rows c) (taken (render (put x c))) (add-rows x c) tt);
       same = λ have. by have (contentAt s);
     }
   where
@@ -221,7 +208,7 @@ write-core : (k : Message) (d : List ℕ) → Core (writeMessage k d)
 unfolding writeMessage
 write-core k d = record {
   core = checked (writeChecks (paper k) d) (taken (written k d));
-  apart = checked-unroomed (writeChecks (paper k) d) (taken (written k d)) (write-rows (paper k) d) tt;
+  apart = checked-refuses Plain (writeChecks (paper k) d) (taken (written k d)) (write-rows (paper k) d) tt;
   same = λ have. checked-append (writeChecks (paper k) d) (room have (length (written k d))) (taken (written k d)) ∙ sym (checked-after (writeChecks (paper k) d) (taken (written k d)) (fitting have));
 }
 
@@ -236,15 +223,15 @@ kind-unroomed (k ∷ ks) t = go (eqb t (blank k .tag)) (kind-unroomed ks t)
 message-unroomed : (n : Numbers) → Unroomed (messageOf n)
 unfolding messageOf
 message-unroomed n =
-    after-unroomed (kindIn kinds (n .tag)) (λ k. checked ((allWithin (blank k) n, VALUE, 0) ∷ []) (taken (k (n .a) (n .b) (n .c) (n .d)))) (kind-unroomed kinds (n .tag))
-    (λ k. checked-unroomed ((allWithin (blank k) n, VALUE, 0) ∷ []) (taken (k (n .a) (n .b) (n .c) (n .d))) (plain 15 refl, tt) tt)
+    after-refuses Plain (kindIn kinds (n .tag)) (λ k. checked ((allWithin (blank k) n, VALUE, 0) ∷ []) (taken (k (n .a) (n .b) (n .c) (n .d)))) (kind-unroomed kinds (n .tag))
+    (λ k. checked-refuses Plain ((allWithin (blank k) n, VALUE, 0) ∷ []) (taken (k (n .a) (n .b) (n .c) (n .d))) (plain 15 refl, tt) tt)
 
 numbers-core : (n : Numbers) (d : List ℕ) → Core (writeNumbers n d)
 unfolding writeNumbers
 numbers-core n d =
     record {
       core = after (messageOf n) (λ k. write-core k d .core);
-      apart = after-unroomed (messageOf n) (λ k. write-core k d .core) (message-unroomed n) (λ k. write-core k d .apart);
+      apart = after-refuses Plain (messageOf n) (λ k. write-core k d .core) (message-unroomed n) (λ k. write-core k d .apart);
       same = λ have. by have (messageOf n);
     }
   where

@@ -1,8 +1,8 @@
 -- The canonical form of a wrapper that is taken: its bytes, its length, and how they are written.
 -- Assumes nothing.
-use mathlib.Core.Path.{_≡_, sym, _∙_, ap}
+use mathlib.Core.Path.{_≡_, refl, sym, _∙_, ap}
 use mathlib.Core.List.{List, _++_}
-use Prim.Native.Nat.{ℕ, _+_, _-_, _≤_, _<_}
+use Prim.Native.Nat.{ℕ, _-_, _≤_, _<_}
 use native.Mathlib.Omega.{arith}
 use lib.ListN.{length, take, drop, length-append, length-drop}
 use borrow.Author.Tests.{leb-true, le-leb, lt-leb}
@@ -10,9 +10,9 @@ use Rattle.answer.specs.declared.Answer.{Answer}
 use Rattle.answer.specs.Numbers.{ROOM}
 use Rattle.answer.specs.Outcome.{Outcome, taken, refused, after, done, fitting}
 use Rattle.answer.specs.Calls.{memory, Writes}
-use Rattle.answer.proofs.Outcomes.{done-taken}
+use Rattle.answer.proofs.Outcomes.{done-taken, done-stop}
 use Rattle.wire.specs.Parts.{Wrote}
-use Rattle.wire.proofs.Parts.{wrote-tail, length-tail}
+use Rattle.wire.proofs.Filling.{Filling, filling-room, filling-done}
 use Rattle.order.specs.Keyed.{sort}
 use Rattle.entries.specs.Kinds.{controllers}
 use Rattle.entries.specs.declared.Kind.the-variants as kind
@@ -26,6 +26,9 @@ use Rattle.dskc.proofs.Reading.{whole, list-whole}
 -- the controllers in address order, as the list behind the header
 abbrev pub listed : List ℕ → List ℕ
 listed s = listBytes (sort (controllers .key) (controllersOf s))
+
+pub canon-stop : (s : List ℕ) (have : ℕ) {n p : ℕ} → refused n p ≡ done (wrapperOf s) → canonicalCall have s ≡ refused n p
+canon-stop s have h = ap (λ (o : Outcome (List ℕ)). after o (λ _. fitting have (header ++ listed s))) (done-stop (wrapperOf s) h)
 
 module _ (s : List ℕ) (h : taken tt ≡ done (wrapperOf s)) where
   long : 16 ≤ length s
@@ -62,11 +65,10 @@ module _ (s : List ℕ) (h : taken tt ≡ done (wrapperOf s)) where
       record { count = ap length e ∙ sym listed-length; bytes = w .leaves ∙ ap (λ (o : Outcome (List ℕ)). memory o old) g }
 
   -- the header, and the list in the tail behind it
-  pub canon-written : {b old mid new : List ℕ} {r : Answer} → b ≡ drop 16 s → length s ≤ length old → length mid ≡ length old → Wrote header old mid 16
+  pub canon-written : {b old mid new : List ℕ} {r : Answer} → b ≡ drop 16 s → length s ≤ length old → Wrote header old mid 16
       → Writes (sortedOf controllers (length (take (length mid - 16) (drop 16 mid))) b) (take (length mid - 16) (drop 16 mid)) r new
       → Wrote (header ++ listed s) old (take 16 mid ++ (new ++ drop (length mid - 16) (drop 16 mid))) (length s)
-  canon-written {b} {old} {mid} e k l so w =
-      let n : length b ≡ length s - 16 = ap length e ∙ length-drop 16 s in
-      let m : length b ≤ length (take (length mid - 16) (drop 16 mid)) = rw length-tail (omega (arith, long)) in
-      let all = wrote-tail so (list-written e m w) in
-      record { count = omega (arith, all .count, long); bytes = all .bytes }
+  canon-written {b} {old} {mid} e k so w =
+      let first : Filling (header ++ listed s) old (listed s) 16 mid = record { part = header; whole = refl; room = omega (arith, canon-length .1); wrote = so } in
+      let all = filling-done first (list-written e (omega (arith, filling-room first, listed-length, ap length e)) w) in
+      record { count = sym (canon-length .1); bytes = all .bytes }

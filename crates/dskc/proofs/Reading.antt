@@ -56,12 +56,18 @@ whole s {l} h =
     let p = checked-pass (headerChecks s) (moved 16 (listAt controllers (drop 16 s))) l h in
     (p .0, moved-taken 16 (listAt controllers (drop 16 s)) (p .1))
 
+-- ---- its table
+
+-- the records of the starts of its list
+abbrev rows : ℕ → List ℕ → List ℕ → Outcome (List ℕ)
+rows have s l = fitting have (rowsAt Controllers 16 (drop 16 s) l)
+
+pub table-stop : (have : ℕ) (s : List ℕ) {n p : ℕ} → refused n p ≡ done (wrapperOf s) → controllersCall have s ≡ refused n p
+table-stop have s h = ap (λ (o : Outcome (List ℕ)). after o (rows have s)) (done-stop (wrapperOf s) h)
+
 -- the table of its list is its table
 pub table-same : (have : ℕ) (s : List ℕ) → taken tt ≡ done (wrapperOf s) → tableOf Controllers have 16 (drop 16 s) ≡ controllersCall have s
 table-same have s h =
     let t = done-taken (wrapperOf s) (sym h) in
     let w = whole s (t .1) in
-    list-whole s (w .0) (after (listAt controllers (drop 16 s)) rows) ∙ ap (λ (o : Outcome (List ℕ)). after o rows) (w .1 ∙ sym (t .1))
-  where
-    rows : List ℕ → Outcome (List ℕ)
-    rows l = fitting have (rowsAt Controllers 16 (drop 16 s) l)
+    list-whole s (w .0) (after (listAt controllers (drop 16 s)) (rows have s)) ∙ ap (λ (o : Outcome (List ℕ)). after o (rows have s)) (w .1 ∙ sym (t .1))

@@ -1,4 +1,5 @@
 // The disk-controller wrapper: checked, listed, and written in address order.
+// Slices that are handed on as `&s[..]` go in registers (decision 38).
 use answer::Answer;
 use answer::MAGIC;
 use answer::ROOM;
@@ -67,10 +68,13 @@ fn header(s: &[u8]) -> Test
 fn faults(s: &[u8]) -> Test
     ensures { λ r. ⌜ testOf r ≡ done (wrapperOf (now (s .entry))) ⌝ }
 {
-    match header(s) {
+    match header(&s[..]) {
         Test::Fault(number, place) => Test::Fault(number, place),
-        Test::Fine => match lists::check(Kind::Controllers, wire::tail(s, 16)) {
-            Test::Fault(number, place) => Test::Fault(number, 16 + place),
+        Test::Fine => match lists::check(Kind::Controllers, wire::tail(&s[..], 16)) {
+            Test::Fault(number, place) => {
+                let at = 16 + place;
+                Test::Fault(number, at)
+            }
             Test::Fine => Test::Fine,
         },
     }

@@ -2,9 +2,9 @@
 -- Assumes nothing.
 use mathlib.Core.Path.{_≡_, refl, sym, _∙_, ap, subst}
 use mathlib.Core.Logic.{_≢_}
-use mathlib.Core.List.{List, [], _∷_}
+use mathlib.Core.List.{List}
 use mathlib.Core.Bool.{true, false}
-use Prim.Native.Nat.{ℕ, zero, suc, _≤_, _<_}
+use Prim.Native.Nat.{ℕ, _≤_}
 use native.Mathlib.Omega.{arith}
 use lib.ListN.{length, take, drop}
 use lib.Dec.{eqb}
@@ -23,26 +23,12 @@ use Rattle.lists.specs.Promises.{zeros}
 use Rattle.sections.specs.Walks.{walkedFrom}
 use Rattle.sections.specs.Index.{Scanned}
 
-abbrev Below : List ℕ → Type 0
-Below [] = Unit {0}
-Below (x ∷ l) = (x < 256) × Below l
-
-bytes-of : (l : List ℕ) → Below l → Bytes l
-bytes-of [] h i = omega arith
-bytes-of (x ∷ l) h zero = h .0
-bytes-of (x ∷ l) h (suc i) = bytes-of l (h .1) i
-
 -- a number that was read, against the one that must stand there
 pub read-is : {a n k : ℕ} → a ≡ n → a ≡ k → eqb n k ≡ true
 read-is {a} {n} {k} p h = eq-eqb n k (sym p ∙ h)
 
 pub read-not : {a n k : ℕ} → a ≡ n → a ≢ k → eqb n k ≡ false
 read-not {a} {n} {k} p h = ne-eqb n k (λ e. h (p ∙ e))
-
--- the letters, as the number that they say
-letters-number : (s : List ℕ) → Bytes s → 16 ≤ length s → same (take 8 s) letters ≡ eqb (leAt 8 s 0) 0x50414E534F524541
-unfolding le
-letters-number s b h = same-number 8 s 0 letters b (bytes-of letters (omega arith)) (omega arith) refl
 
 -- the rows of the header from the nth on
 abbrev pub Headed : List ℕ → ℕ → Type 0
@@ -52,12 +38,9 @@ pub head-all : (s : List ℕ) → Headed s 0
 head-all s = left-all (headerChecks s) (taken tt)
 
 -- the letters, by the number that was read
-module _ (s : List ℕ) (h : 16 ≤ length s) (b : Bytes s) {a : ℕ} (p : a ≡ leAt 8 s 0) where
-  pub letters-there : a ≡ 0x50414E534F524541 → same (take 8 s) letters ≡ true
-  letters-there k = letters-number s b h ∙ read-is p k
-
-  pub letters-not : a ≢ 0x50414E534F524541 → same (take 8 s) letters ≡ false
-  letters-not k = letters-number s b h ∙ read-not p k
+pub letters-number : (s : List ℕ) → 16 ≤ length s → Bytes s → {a : ℕ} → a ≡ leAt 8 s 0 → same (take 8 s) letters ≡ eqb a 0x50414E534F524541
+unfolding le
+letters-number s h b e = same-number 8 s 0 letters b (omega arith) (omega arith) refl e
 
 -- ---- the file
 

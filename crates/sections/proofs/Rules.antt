@@ -9,13 +9,13 @@ use native.Mathlib.Omega.{arith}
 use lib.ListN.{length, take, drop, getD, length-drop, length-take}
 use lib.Seq.{drop-drop}
 use lib.Dec.{leb, ltb, eqb}
-use borrow.Author.Tests.{le-leb, lt-leb, le-ltb, lt-ltb, eq-eqb, ne-eqb}
+use borrow.Author.Tests.{le-leb, eq-eqb, ne-eqb}
 use Rattle.answer.specs.declared.Piece.{Piece}
 use Rattle.answer.specs.declared.Piece.the-variants.{Stop, Ends}
 use Rattle.answer.specs.Numbers.{CUT, MANY}
-use Rattle.answer.specs.Outcome.{Outcome, taken, refused, checked, after, moved}
+use Rattle.answer.specs.Outcome.{Outcome, taken, refused, Checks, checked, after, moved}
 use Rattle.answer.specs.Calls.{pieceOf}
-use Rattle.answer.proofs.Checks.{fails, pass-checked, checked-pass, checked-after, Left}
+use Rattle.answer.proofs.Checks.{pass-checked, checked-pass, checked-after, Left}
 use Rattle.answer.proofs.Outcomes.{after-taken, after-after, taken-is, taken-refused, made-stop, made-taken}
 use Rattle.wire.specs.Numbers.{leAt}
 use Rattle.wire.proofs.Numbers.{leAt-drop, leAt-here}
@@ -135,14 +135,8 @@ none-kept id v have p old k =
     rw e (refl, refl)
 
 module _ (l : List (List ℕ)) (s : List ℕ) (at : ℕ) where
-  abbrev cut : Bool × ℕ × ℕ
-  cut = (leb 16 (length s - at), CUT, at)
-
-  abbrev many : Bool × ℕ × ℕ
-  many = (ltb (length l) sectionsMost, MANY, at)
-
-  abbrev long : Bool × ℕ × ℕ
-  long = (leb (leAt 8 s (at + 8)) (length s - at - 16), CUT, at)
+  abbrev rows : Checks
+  rows = (leb 16 (length s - at), CUT, at) ∷ (ltb (length l) sectionsMost, MANY, at) ∷ (leb (leAt 8 s (at + 8)) (length s - at - 16), CUT, at) ∷ []
 
   abbrev rules : Outcome (Unit {0})
   rules = ruled l at (leAt 4 s at) (leAt 2 s (at + 4)) (leAt 2 s (at + 6)) (take (leAt 8 s (at + 8)) (drop (at + 16) s))
@@ -150,38 +144,28 @@ module _ (l : List (List ℕ)) (s : List ℕ) (at : ℕ) where
   abbrev rest : Outcome ℕ
   rest = after rules (λ _. taken (16 + leAt 8 s (at + 8)))
 
-  here : sectionOf l at (drop at s) ≡ checked (cut ∷ many ∷ long ∷ []) rest
+  -- its rows from the nth on
+  abbrev pub Framing : ℕ → Type 0
+  Framing n = Left (drop n rows) rest (sectionOf l at (drop at s))
+
+  pub framing-all : Framing 0
   unfolding sectionOf
-  here = simp (length-drop, leAt-here 4 s at, leAt-drop 2 s at 4, leAt-drop 2 s at 6, leAt-drop 8 s at 8, drop-drop)
+  framing-all = record { same = sym (simp (length-drop, leAt-here 4 s at, leAt-drop 2 s at 4, leAt-drop 2 s at 6, leAt-drop 8 s at 8, drop-drop)) }
 
   starts-here : starts (bodyOf (leAt 4 s at) (leAt 2 s (at + 4))) (take (leAt 8 s (at + 8)) (drop (at + 16) s)) ≡ startsOf (drop at s)
   starts-here = sym (simp (leAt-here 4 s at, leAt-drop 2 s at 4, leAt-drop 8 s at 8, drop-drop))
 
-  pub section-cut : length s - at < 16 → refused CUT at ≡ sectionOf l at (drop at s)
-  section-cut h = sym (here ∙ fails [] cut (many ∷ long ∷ []) rest tt (lt-leb 16 (length s - at) h))
+  -- what its rules say of it and keep of its starts, where m bytes are its payload
+  abbrev pub Judges : ℕ → List ℕ → Piece → List ℕ → ℕ → Type 0
+  Judges have old r new m = let p = take m (drop (at + 16) s) in Keeps (ruled l at (leAt 4 s at) (leAt 2 s (at + 4)) (leAt 2 s (at + 6)) p) (whole have (starts (bodyOf (leAt 4 s at) (leAt 2 s (at + 4))) p)) old r new
 
-  module _ (a : 16 ≤ length s - at) where
-    pub section-many : sectionsMost ≤ length l → refused MANY at ≡ sectionOf l at (drop at s)
-    section-many h = sym (here ∙ fails (cut ∷ []) many (long ∷ []) rest (le-leb 16 (length s - at) a, tt) (le-ltb (length l) sectionsMost h))
+  -- no row is left: the rules of a section that is there whole
+  module _ (w : Framing 3) (have : ℕ) {m : ℕ} (e : m ≡ leAt 8 s (at + 8)) {old new : List ℕ} {r : Piece} where
+    over-rest : {k : List ℕ} → Keeps rules k old r new → Keeps (sectionOf l at (drop at s)) k old r new
+    over-rest {k} h = record {
+      answers = h .answers ∙ sym (ap (λ (o : Outcome ℕ). after o (λ _. taken (length k))) (sym (w .same)) ∙ after-after rules (λ _. taken (16 + leAt 8 s (at + 8))) (λ _. taken (length k)));
+      leaves = λ a q. h .leaves _ (after-taken rules (λ _. taken (16 + leAt 8 s (at + 8))) (w .same ∙ q) .1);
+    }
 
-    module _ (b : length l < sectionsMost) where
-      pub section-long : length s - (at + 16) < leAt 8 s (at + 8) → refused CUT at ≡ sectionOf l at (drop at s)
-      section-long h = sym (here ∙ fails (cut ∷ many ∷ []) long [] rest (le-leb 16 (length s - at) a, (lt-ltb (length l) sectionsMost b, tt)) (lt-leb (leAt 8 s (at + 8)) (length s - at - 16) (omega arith)))
-
-      -- the rules of a section that is there whole
-      pub section-rules : leAt 8 s (at + 8) ≤ length s - (at + 16) → (have : ℕ) {m : ℕ} → m ≡ leAt 8 s (at + 8) → {old new : List ℕ} {r : Piece}
-          → Keeps (ruled l at (leAt 4 s at) (leAt 2 s (at + 4)) (leAt 2 s (at + 6)) (take m (drop (at + 16) s))) (whole have (starts (bodyOf (leAt 4 s at) (leAt 2 s (at + 4))) (take m (drop (at + 16) s)))) old r new
-          → Keeps (sectionOf l at (drop at s)) (whole have (startsOf (drop at s))) old r new
-      section-rules c have {m} e {old} {new} {r} h = go (subst (λ (i : ℕ). Keeps (ruled l at (leAt 4 s at) (leAt 2 s (at + 4)) (leAt 2 s (at + 6)) (take i (drop (at + 16) s))) (whole have (starts (bodyOf (leAt 4 s at) (leAt 2 s (at + 4))) (take i (drop (at + 16) s)))) old r new) e h)
-        where
-          is : sectionOf l at (drop at s) ≡ rest
-          is = here ∙ pass-checked (cut ∷ many ∷ long ∷ []) rest (le-leb 16 (length s - at) a, (lt-ltb (length l) sectionsMost b, (le-leb (leAt 8 s (at + 8)) (length s - at - 16) (omega arith), tt)))
-
-          go : Keeps rules (whole have (starts (bodyOf (leAt 4 s at) (leAt 2 s (at + 4))) (take (leAt 8 s (at + 8)) (drop (at + 16) s)))) old r new → Keeps (sectionOf l at (drop at s)) (whole have (startsOf (drop at s))) old r new
-          go h = subst (λ (k : List ℕ). Keeps (sectionOf l at (drop at s)) (whole have k) old r new) starts-here (over-rest h)
-            where
-              over-rest : {k : List ℕ} → Keeps rules k old r new → Keeps (sectionOf l at (drop at s)) k old r new
-              over-rest {k} h = record {
-                answers = h .answers ∙ sym (ap (λ (o : Outcome ℕ). after o (λ _. taken (length k))) is ∙ after-after rules (λ _. taken (16 + leAt 8 s (at + 8))) (λ _. taken (length k)));
-                leaves = λ a q. h .leaves _ (after-taken rules (λ _. taken (16 + leAt 8 s (at + 8))) (sym is ∙ q) .1);
-              }
+    pub section-rules : Judges have old r new m → Keeps (sectionOf l at (drop at s)) (whole have (startsOf (drop at s))) old r new
+    section-rules h = subst (λ (k : List ℕ). Keeps (sectionOf l at (drop at s)) (whole have k) old r new) starts-here (over-rest (subst (Judges have old r new) e h))

@@ -1,10 +1,10 @@
 -- The exits of the calls that read a file: by the outcome of the whole file, and by the section with an id.
 -- Assumes nothing.
 use mathlib.Core.Path.{_≡_, refl, sym, _∙_, ap, subst}
-use mathlib.Core.List.{List, [], _∷_}
+use mathlib.Core.List.{List, []}
 use Prim.Native.Nat.{ℕ, _+_, _-_, _*_, _/_, _≤_, _<_}
 use native.Mathlib.Omega.{arith}
-use lib.ListN.{length, take, drop, length-append, length-drop}
+use lib.ListN.{length, take, drop, length-drop}
 use lib.Seq.{length-take-le}
 use borrow.Author.Tests.{le-leb, lt-leb}
 use Rattle.answer.specs.Numbers.{ROOM}
@@ -19,19 +19,19 @@ use Rattle.wire.proofs.Calls.{writes-refused, writes-taken}
 use Rattle.order.specs.Keyed.{flat}
 use Rattle.lists.specs.Lists.{listAt, startsIn}
 use Rattle.tables.specs.declared.Table.{Table}
-use Rattle.tables.specs.declared.Table.the-variants.{Devices}
 use Rattle.tables.specs.Tables.{described, framedRow, rowsAt}
-use Rattle.tables.proofs.Rows.{length-row, length-rows, rows-all}
+use Rattle.tables.proofs.Rows.{length-rows, rows-all}
 use Rattle.aerosnap.specs.Payloads.{list, bodyOf}
 use Rattle.aerosnap.specs.File.{idOf, versionOf, fileOf}
 use Rattle.aerosnap.specs.Tables.{placed, listRows, table, sectionTable}
 use Rattle.aerosnap.proofs.Taken.{file-sound}
-use Rattle.aerosnap.proofs.Standing.{stand-start, endAt, finished}
+use Rattle.aerosnap.proofs.Standing.{stand-start, endAt, no-section}
 use Rattle.sections.specs.Walks.{counted, sectionsIn}
 use Rattle.sections.specs.Index.{spotIn}
 use Rattle.sections.proofs.Found.{spot-stop, Sited, Here, none-there, there, made-none, made-one}
 use Rattle.sections.proofs.Reading.{starts-list, found-inside, found-starts}
 use Rattle.snapshot.specs.Walks.{sectionRows, Lists}
+use Rattle.snapshot.proofs.Walks.{length-sections}
 
 -- ---- by the outcome of the file
 
@@ -64,18 +64,13 @@ module _ (s : List ℕ) where
   table-of rows have h = ap (λ (o : Outcome (List (List ℕ))). after o (λ l. fitting have (flat rows (placed 16 l)))) h
 
   -- a file that has no section: no record, so that its verdict is the answer
-  pub no-section : (rows : ℕ × List ℕ → List ℕ) (old : List ℕ) → length s ≤ 16 → {r : Answer} → r ≡ verdict (fileOf s) → Writes (table rows (length old) s) old r old
-  no-section rows old h k = subst (λ (r : Answer). Writes (table rows (length old) s) old r old) (sym k) (go (fileOf s) refl) where
+  pub bare-table : (rows : ℕ × List ℕ → List ℕ) (old : List ℕ) → length s ≤ 16 → {r : Answer} → r ≡ verdict (fileOf s) → Writes (table rows (length old) s) old r old
+  bare-table rows old h k = subst (λ (r : Answer). Writes (table rows (length old) s) old r old) (sym k) (go (fileOf s) refl) where
     go : (o : Outcome (List (List ℕ))) → fileOf s ≡ o → Writes (table rows (length old) s) old (verdict o) old
     go (refused n p) e = stopped rows old e
-    go (taken l) e = writes-taken (table-of rows (length old) e ∙ ap (λ (m : List (List ℕ)). fitting (length old) (flat rows (placed 16 m))) (finished l (stand-start s e) h) ∙ rw (none-placed, le-leb 0 (length old) (omega arith))) (none old)
+    go (taken l) e = writes-taken (table-of rows (length old) e ∙ ap (λ (m : List (List ℕ)). fitting (length old) (flat rows (placed 16 m))) (no-section s e h) ∙ rw (none-placed, le-leb 0 (length old) (omega arith))) (none old)
 
 -- ---- the table of sections
-
-length-sections : (at : ℕ) (l : List (List ℕ)) → length (sectionRows at l) ≡ 24 * length l
-unfolding placed
-length-sections at [] = refl
-length-sections at (e ∷ l) = omega (arith, length-append (framedRow at e) (sectionRows (at + length e) l), length-row Devices at e, length-sections (at + length e) l)
 
 module _ (s old : List ℕ) {n : ℕ} (h : taken n ≡ counted (fileOf s)) where
   pub sections-few : n ≤ 64
@@ -106,7 +101,7 @@ list-none t i s x g old =
     let n = made-none i (λ q. rowsAt t (q .0 + 16) (drop 16 (q .1)) (startsIn (listAt (described t) (drop 16 (q .1))))) 16 (sectionsIn s) (none-there i s (x .read) (x .place) g) in
     writes-taken (table-of s (listRows t i) (length old) (x .read) ∙ rw (n, le-leb 0 (length old) (omega arith))) (none old)
 
-module _ (t : Table) (i : ℕ) (s index : List ℕ) {p first : ℕ} (x : Lists t i s p index first) where
+module _ {t : Table} {i : ℕ} {s index : List ℕ} {p first : ℕ} (x : Lists t i s p index first) where
   found : Here i s (sectionsIn s) p
   found = there i s (x .read) (x .place) (x .is-known) (x .there)
 

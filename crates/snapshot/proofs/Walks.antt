@@ -1,7 +1,7 @@
 -- The loop that writes the records of the sections.
 -- Assumes nothing.
 use mathlib.Core.Path.{_≡_, refl, sym, _∙_, ap}
-use mathlib.Core.List.{List, [], _++_, append-nil, append-assoc}
+use mathlib.Core.List.{List, [], _∷_, _++_}
 use Prim.Native.Nat.{ℕ, _+_, _-_, _*_, _≤_, _<_}
 use native.Mathlib.Omega.{arith}
 use lib.ListN.{length, take, drop, length-append}
@@ -9,7 +9,8 @@ use Rattle.answer.specs.Outcome.{taken}
 use Rattle.answer.proofs.Outcomes.{taken-is}
 use Rattle.wire.specs.Parts.{put, Wrote}
 use Rattle.wire.proofs.Numbers.{leAt-append}
-use Rattle.wire.proofs.Parts.{none, wrote-put, wrote-tail, wrote-length, length-tail}
+use Rattle.wire.proofs.Filling.{Filling, filling-none, filling-end, filling-next-room, filling-next-fits, filling-next}
+use Rattle.writer.proofs.Fits.{wrote-first}
 use Rattle.order.specs.Entries.{join}
 use Rattle.tables.specs.Tables.{framedRow}
 use Rattle.tables.specs.declared.Table.the-variants.{Devices}
@@ -25,63 +26,57 @@ use Rattle.snapshot.specs.Walks.{sectionRows}
 row-front : (p : ℕ) (e more : List ℕ) → 16 ≤ length e → framedRow p (e ++ more) ≡ framedRow p e
 row-front p e more h = cc (leAt-append 4 e more 0 (omega arith), leAt-append 2 e more 4 (omega arith), leAt-append 2 e more 6 (omega arith), leAt-append 8 e more 8 (omega arith))
 
--- what the loop keeps: the records of the sections before the place, and those that are still to come
+pub length-sections : (at : ℕ) (l : List (List ℕ)) → length (sectionRows at l) ≡ 24 * length l
+unfolding placed
+length-sections at [] = refl
+length-sections at (e ∷ l) = omega (arith, length-append (framedRow at e) (sectionRows (at + length e) l), length-row Devices at e, length-sections (at + length e) l)
+
+-- what the loop keeps: the records of the sections to come are the rest of what is to be written
 pub record Rowing (s : List ℕ) (l : List (List ℕ)) (at t : ℕ) (old new : List ℕ) : Type 0 where
   pub left : List (List ℕ)
   pub stand : Stand s at left
-  pub bytes : List ℕ
-  pub whole : sectionRows 16 l ≡ bytes ++ sectionRows at left
-  pub count : t + 24 * length left ≡ 24 * length l
-  pub room : 24 * length l ≤ length old
-  pub wrote : Wrote bytes old new t
-  pub long : length new ≡ length old
+  pub fill : Filling (sectionRows 16 l) old (sectionRows at left) t new
 
 pub rowing-start : (s old : List ℕ) → ((l : List (List ℕ)) × (fileOf s ≡ taken l) × (24 * length l ≤ length old)) → (l : List (List ℕ)) → fileOf s ≡ taken l → Rowing s l 16 0 old old
 rowing-start s old (m, g, r) l h =
     let e : m ≡ l = taken-is (sym g ∙ h) in
-    record { left = l; stand = stand-start s h; bytes = []; whole = refl; count = omega arith; room = omega (arith, ap length e); wrote = none old; long = refl }
+    record { left = l; stand = stand-start s h; fill = filling-none (sectionRows 16 l) old (omega (arith, length-sections 16 l, ap length e)) }
 
 module _ {s : List ℕ} {l : List (List ℕ)} {at t : ℕ} {old new : List ℕ} (v : Rowing s l at t old new) where
   pub rowing-done : length s ≤ at → Wrote (sectionRows 16 l) old new (24 * length l)
   unfolding placed
-  rowing-done h =
-      let z : v .left ≡ [] = finished (v .left) (v .stand) h in
-      let w : sectionRows 16 l ≡ v .bytes = v .whole ∙ ap (λ (m : List (List ℕ)). v .bytes ++ sectionRows at m) z ∙ append-nil (v .bytes) in
-      let n : t ≡ 24 * length l = omega (arith, v .count, ap length z) in
-      rw (w, ← n) (v .wrote)
+  rowing-done h = let w = filling-end (rw (finished (v .left) (v .stand) h) at (v .fill)) in record { count = sym (length-sections 16 l); bytes = w .bytes }
 
   module _ (h : at < length s) where
     rowing-turn : Turn s at (v .left)
     rowing-turn = turn (v .left) (v .stand) h
 
-    -- there is room for its record
-    pub rowing-room : t + 24 ≤ length new
-    rowing-room = omega (arith, v .count, v .room, v .long, ap length (rowing-turn .split))
+    -- the record that comes next, and those behind it
+    abbrev row : List ℕ
+    row = framedRow at (drop at s)
 
-    pub rowing-next : {row : List ℕ} → row ≡ put 0 (framedRow at (drop at s)) (take (length new - t) (drop t new))
-        → Rowing s l (endAt s at) (t + 24) old (take t new ++ (row ++ drop (length new - t) (drop t new)))
+    abbrev rest : List ℕ
+    rest = sectionRows (endAt s at) (rowing-turn .more)
+
+    row-long : length row ≡ 24
+    row-long = length-row Devices at (drop at s)
+
+    split : sectionRows at (v .left) ≡ row ++ rest
     unfolding placed
-    rowing-next {row} p =
+    split =
         let x = rowing-turn in
         let e : List ℕ = x .e in
         let c : drop at s ≡ e ++ join (x .more) = v .stand .cut ∙ ap join (x .split) in
-        let f : framedRow at (drop at s) ≡ framedRow at e = ap (framedRow at) c ∙ row-front at e (join (x .more)) (x .far) in
-        let n : length (framedRow at e) ≡ 24 = length-row Devices at e in
-        let tail : List ℕ = take (length new - t) (drop t new) in
-        let w = wrote-put (none tail) (framedRow at e) (omega (arith, n, length-tail t new, rowing-room)) (p ∙ ap (λ (b : List ℕ). put 0 b tail) f) in
-        let q = rw n at (wrote-tail (v .wrote) w) in
-        let k = ap length (x .split) in
-        record {
-          left = x .more;
-          stand = x .next;
-          bytes = v .bytes ++ framedRow at e;
-          whole =
-              v .whole
-              ∙ ap (λ (m : List (List ℕ)). v .bytes ++ sectionRows at m) (x .split)
-              ∙ ap (λ (j : ℕ). v .bytes ++ (framedRow at e ++ sectionRows j (x .more))) (sym (x .ends))
-              ∙ sym (append-assoc (v .bytes) (framedRow at e) (sectionRows (endAt s at) (x .more)));
-          count = omega (arith, v .count, k);
-          room = v .room;
-          wrote = q;
-          long = wrote-length q (omega (arith, length-append (v .bytes) (framedRow at e), n, v .wrote .count, v .count, v .room, k));
-        }
+        ap (sectionRows at) (x .split)
+        ∙ ap (λ (j : ℕ). framedRow at e ++ sectionRows j (x .more)) (sym (x .ends))
+        ∙ ap (λ (b : List ℕ). b ++ rest) (sym (ap (framedRow at) c ∙ row-front at e (join (x .more)) (x .far)))
+
+    parts : Filling (sectionRows 16 l) old (row ++ rest) t new
+    parts = rw split at (v .fill)
+
+    -- there is room for it
+    pub rowing-room : t + 24 ≤ length new
+    rowing-room = omega (arith, filling-next-fits row rest parts, row-long)
+
+    pub rowing-next : {last : List ℕ} → last ≡ put 0 row (take (length new - t) (drop t new)) → Rowing s l (endAt s at) (t + 24) old (take t new ++ (last ++ drop (length new - t) (drop t new)))
+    rowing-next p = record { left = rowing-turn .more; stand = rowing-turn .next; fill = filling-next row rest parts (rw row-long at (wrote-first {bs = row} (filling-next-room row rest parts) p)) }

@@ -3,7 +3,7 @@
 use mathlib.Core.Path.{_≡_, refl, sym, _∙_, ap}
 use mathlib.Core.Bool.{Bool, true, false, _&&_}
 use mathlib.Core.List.{List, [], _∷_, _++_}
-use Prim.Native.Nat.{ℕ, _+_, _≤_}
+use Prim.Native.Nat.{ℕ, zero, suc, _+_, _≤_, _<_}
 use native.Mathlib.Omega.{arith}
 use lib.Dec.{eqb}
 use borrow.Author.Tests.{eq-eqb, eqb-true, eqb-false}
@@ -27,16 +27,26 @@ pub same-refl : (l : List ℕ) → same l l ≡ true
 same-refl [] = refl
 same-refl (x ∷ l) = rw (eq-eqb x x refl) (same-refl l)
 
--- bytes at a place are fixed ones exactly if the numbers that they say are equal
-pub same-number : (n : ℕ) (s : List ℕ) (at : ℕ) (x : List ℕ) → Bytes s → Bytes x → at + n ≤ length s → length x ≡ n
-    → same (take n (drop at s)) x ≡ eqb (leAt n s at) (le x)
+-- fixed bytes, one by one
+abbrev pub Below : List ℕ → Type 0
+Below [] = Unit {0}
+Below (x ∷ l) = (x < 256) × Below l
+
+below-bytes : (l : List ℕ) → Below l → Bytes l
+below-bytes [] h i = omega arith
+below-bytes (x ∷ l) h zero = h .0
+below-bytes (x ∷ l) h (suc i) = below-bytes l (h .1) i
+
+-- bytes at a place are fixed ones exactly if the number that is read there is the one that those say
+pub same-number : (n : ℕ) (s : List ℕ) (at : ℕ) (x : List ℕ) → Bytes s → Below x → at + n ≤ length s → length x ≡ n → {a : ℕ} → a ≡ leAt n s at
+    → same (take n (drop at s)) x ≡ eqb a (le x)
 unfolding leAt
-same-number n s at x b c h l = go (eqb (le (take n (drop at s))) (le x)) refl (same (take n (drop at s)) x) refl
+same-number n s at x b c h l a = go (eqb (le (take n (drop at s))) (le x)) refl (same (take n (drop at s)) x) refl ∙ ap (λ (y : ℕ). eqb y (le x)) (sym a)
   where
     go : (t : Bool) → eqb (le (take n (drop at s))) (le x) ≡ t → (u : Bool) → same (take n (drop at s)) x ≡ u → u ≡ t
     go true p u q =
         let e : take n (drop at s) ≡ x =
-        sym (bytesOf-leAt n s at b h) ∙ ap (bytesOf n) (eqb-true _ _ p) ∙ ap (λ (k : ℕ). bytesOf k (le x)) (sym l) ∙ bytesOf-le x c in
+        sym (bytesOf-leAt n s at b h) ∙ ap (bytesOf n) (eqb-true _ _ p) ∙ ap (λ (k : ℕ). bytesOf k (le x)) (sym l) ∙ bytesOf-le x (below-bytes x c) in
         sym q ∙ ap (λ (y : List ℕ). same y x) e ∙ same-refl x
     go false p true q = absurd (eqb-false _ _ p (ap le (same-true _ _ q)))
     go false p false q = refl

@@ -1,6 +1,7 @@
 pub mod Differences
 pub mod Numbers
 pub mod Parts
+pub mod Filling
 pub mod Letters
 pub mod Records
 pub mod Calls

@@ -1,17 +1,23 @@
-use Rattle.dskc.proofs.Reading.{table-same}
-use Rattle.answer.proofs.Outcomes.{done-stop}
+use Rattle.dskc.proofs.Reading.{table-stop, table-same}
 use Rattle.dskc.specs.Wrapper.{wrapperOf}
-use Rattle.tables.specs.Tables.{rowsAt}
-use Rattle.tables.specs.declared.Table.the-variants.{Controllers}
 use Rattle.wire.proofs.Calls.{writes-refused}
-use Rattle.answer.specs.Outcome.{Outcome, after, fitting}
-use lib.ListN.{length, drop}
-use Prim.Native.Nat.{ℕ}
-use mathlib.Core.List.{List}
-use mathlib.Core.Path.{ap}
+use Rattle.answer.specs.Outcome.{taken, done}
+use Rattle.answer.specs.Calls.{testOf}
+use lib.ListN.{length}
+use mathlib.Core.Path.{_≡_, sym, _∙_, ap}
 use borrow.Author.Needs.{needs}
 use Rattle.dskc.proofs.controllers.Statement.{statement}
 use Rattle.dskc.proofs.controllers.Tie as tie
+
+-- the wrapper is taken
+abbrev start : tie.After-faults → tie.Start
+start c = c .before .before .before
+
+abbrev read : tie.After-enum-told → tie.After-faults
+read c = c .before .before
+
+fine : (c : tie.After-enum-told) → taken tt ≡ done (wrapperOf (start (read c) .args .wrapper .now))
+fine c = sym (ap testOf (c .enum-told .given .1)) ∙ read c .faults .ensures
 
 faults-requires : tie.Need-faults-requires
 faults-requires c κs = search needs
@@ -29,13 +35,20 @@ write-requires : tie.Need-write-requires
 write-requires c κs = search needs
 
 returns : tie.Need-returns
-returns c = let a = c .before .before .before .before .before .before .args in let s = a .wrapper .now in writes-refused (ap (λ (o : Outcome (List ℕ)). after o (λ l. fitting (length (a .table .now)) (rowsAt Controllers 16 (drop 16 s) l))) (done-stop (wrapperOf s) (rw (c .before .number .given .1) at (c .before .before .before .faults .ensures))))
+returns c =
+    let f = c .before .before .before in
+    let a = start f .args in
+    writes-refused (table-stop (length (a .table .now)) (a .wrapper .now) (rw (c .before .number .given .1) at (f .faults .ensures)))
 
 same-length : tie.Need-same-length
 same-length c = search needs
 
 returns-2 : tie.Need-returns-2
-returns-2 c = let a = c .before .before .before .before .before .before .before .before .before .before .args in rw (c .before .before .before .before .tail .ensures, table-same (length (a .table .now)) (a .wrapper .now) (rw (c .before .before .before .before .before .enum-told .given .1) at (c .before .before .before .before .before .before .before .faults .ensures))) at (c .before .before .write .ensures)
+returns-2 c =
+    let tail = c .before .before .before .before in
+    let e = tail .before in
+    let a = start (read e) .args in
+    rw (tail .tail .ensures, table-same (length (a .table .now)) (a .wrapper .now) (fine e)) at (c .before .before .write .ensures)
 
 pub controllers-spec : {M : Type 1} → statement M
 controllers-spec =

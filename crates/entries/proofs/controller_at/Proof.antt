@@ -20,10 +20,18 @@ part-at-requires : tie.Need-part-at-requires
 part-at-requires c κs = search needs
 
 returns : tie.Need-returns
-returns c = let k = c .before .before .before in let a = k .before .before .args in pair-stop (a .s .now) (a .at) controllerHead (sized 4 unbounded any) (rw (c .before .number .given .1) at (k .controller-head-at .ensures))
+returns c =
+    let k = c .before .before .before in
+    let a = k .before .before .args in
+    pair-stop (a .s .now) (a .at) controllerHead (sized 4 unbounded any) (rw (c .before .number .given .1) at (k .controller-head-at .ensures))
 
 returns-2 : tie.Need-returns-2
-returns-2 c = let k = c .before .before .before .before in let a = k .before .before .args in let e = c .before .before .e .given .0 .0 in pair-next (a .s .now) (a .at) controllerHead (sized 4 unbounded any) (rw (c .before .before .e .given .1) at (k .controller-head-at .ensures)) (c .part-at .ensures ∙ unbounded-at (a .s .now) e (λ i. k .before .shared-slice-known .given i .fits))
+returns-2 c =
+    let e = c .before .before in
+    let k = e .before .before in
+    let a = k .before .before .args in
+    let payload = c .part-at .ensures ∙ unbounded-at (a .s .now) (e .e .given .0 .0) (λ i. k .before .shared-slice-known .given i .fits) in
+    pair-next (a .s .now) (a .at) controllerHead (sized 4 unbounded any) (rw (e .e .given .1) at (k .controller-head-at .ensures)) payload
 
 pub controller-at-spec : {M : Type 1} → statement M
 controller-at-spec =

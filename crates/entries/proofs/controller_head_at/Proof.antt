@@ -2,11 +2,42 @@ use Rattle.entries.proofs.Lawful.{head-place}
 use Rattle.entries.specs.Kinds.{controllerChecks}
 use Rattle.format.proofs.Exits.{block-inside, asked-stop, asked-done, asked-fault}
 use Rattle.format.proofs.Placed.{block-at as block-law}
-use Rattle.answer.specs.Calls.{asked}
+use Rattle.format.specs.Format.{Asks, bytes}
+use Rattle.format.specs.Places.{readAt}
+use Rattle.answer.specs.Outcome.{taken, refused}
+use Rattle.answer.specs.Calls.{asked, pieceOf, testOf}
+use mathlib.Core.Path.{_≡_, sym, _∙_, ap}
+use lib.ListN.{length, take, drop}
+use Prim.Native.Nat.{ℕ, _+_, _-_, _≤_}
 use native.Mathlib.Omega.{arith}
 use borrow.Author.Needs.{needs}
 use Rattle.entries.proofs.controller_head_at.Statement.{statement}
 use Rattle.entries.proofs.controller_head_at.Tie as tie
+
+-- what is asked of the head
+abbrev head-asks : Asks
+head-asks e = asked (controllerChecks e)
+
+-- its bytes, which end at e and lie within
+abbrev end : tie.After-e → ℕ
+end c = c .e .given .0 .0
+
+abbrev start : tie.After-block-at → tie.Start
+start c = c .before .before
+
+abbrev part : tie.After-e → tie.After-block-at
+part c = c .before .before
+
+read : (c : tie.After-e) → let a = start (part c) .args in taken (end c) ≡ readAt (bytes 8) (a .s .now) (a .at)
+read c = sym (ap pieceOf (c .e .given .1)) ∙ part c .block-at .ensures
+
+inside : (c : tie.After-e) → let a = start (part c) .args in (end c ≡ a .at + 8) × (end c ≤ length (a .s .now))
+inside c = let a = start (part c) .args in block-inside (a .s .now) (a .at) 8 (read c) (omega arith)
+
+-- a fault in it
+fault : (c : tie.After-number2) → let e = c .before .before .before .before .before in let a = start (part e) .args in
+    refused (c .number2 .given .0 .0) (c .number2 .given .0 .1 .0) ≡ head-asks (take (end e - a .at) (drop (a .at) (a .s .now)))
+fault c = sym (ap testOf (c .number2 .given .1)) ∙ c .before .before .controller-lead .ensures
 
 block-at-requires : tie.Need-block-at-requires
 block-at-requires c κs = search needs
@@ -18,13 +49,13 @@ enum-known-e : tie.Need-enum-known-e
 enum-known-e c = search needs
 
 sub-controller-lead : tie.Need-sub-controller-lead
-sub-controller-lead c = let k = c .before .before .before in let a = k .before .before .args in let i = block-inside (a .s .now) (a .at) 8 (rw (c .before .e .given .1) at (k .block-at .ensures)) (omega arith) in omega arith
+sub-controller-lead c = omega (arith, inside (c .before))
 
 part-controller-lead-start : tie.Need-part-controller-lead-start
-part-controller-lead-start c = let k = c .before .before .before in let a = k .before .before .args in let i = block-inside (a .s .now) (a .at) 8 (rw (c .before .e .given .1) at (k .block-at .ensures)) (omega arith) in omega arith
+part-controller-lead-start c = omega (arith, inside (c .before))
 
 part-controller-lead-end : tie.Need-part-controller-lead-end
-part-controller-lead-end c = let k = c .before .before .before in let a = k .before .before .args in let i = block-inside (a .s .now) (a .at) 8 (rw (c .before .e .given .1) at (k .block-at .ensures)) (omega arith) in omega arith
+part-controller-lead-end c = omega (arith, inside (c .before))
 
 controller-lead-requires : tie.Need-controller-lead-requires
 controller-lead-requires c κs = search needs
@@ -33,19 +64,31 @@ enum-known-number-2 : tie.Need-enum-known-number-2
 enum-known-number-2 c = search needs
 
 add-t16 : tie.Need-add-t16
-add-t16 c = let k = c .before .before .before .before .before .before .before .before in let a = k .before .before .args in omega (arith, head-place (a .s .now) (a .at) (rw (c .before .before .before .before .before .before .e .given .1) at (k .block-at .ensures)) (rw (c .before .number2 .given .1) at (c .before .before .before .controller-lead .ensures)))
+add-t16 c =
+    let e = c .before .before .before .before .before .before in
+    let a = start (part e) .args in
+    omega (arith, head-place (a .s .now) (a .at) (read e) (fault (c .before)))
 
 enum-told : tie.Need-enum-told
 enum-told c = search needs
 
 returns : tie.Need-returns
-returns c = let k = c .before .before .before in let a = k .before .before .args in asked-stop (λ e. asked (controllerChecks e)) (a .s .now) (a .at) (block-law 8 (λ e. asked (controllerChecks e)) (a .s .now) (a .at)) (rw (c .before .number .given .1) at (k .block-at .ensures))
+returns c =
+    let k = c .before .before .before in
+    let a = start k .args in
+    asked-stop head-asks (a .s .now) (a .at) (block-law 8 head-asks (a .s .now) (a .at)) (rw (c .before .number .given .1) at (k .block-at .ensures))
 
 returns-2 : tie.Need-returns-2
-returns-2 c = let k = c .before .before .before .before .before .before .before .before in let a = k .before .before .args in asked-fault (λ e. asked (controllerChecks e)) (a .s .now) (a .at) (block-law 8 (λ e. asked (controllerChecks e)) (a .s .now) (a .at)) (rw (c .before .before .before .before .before .before .e .given .1) at (k .block-at .ensures)) (rw (c .before .number2 .given .1) at (c .before .before .before .controller-lead .ensures))
+returns-2 c =
+    let e = c .before .before .before .before .before .before in
+    let a = start (part e) .args in
+    asked-fault head-asks (a .s .now) (a .at) (block-law 8 head-asks (a .s .now) (a .at)) (read e) (fault (c .before))
 
 returns-3 : tie.Need-returns-3
-returns-3 c = let k = c .before .before .before .before .before .before .before in let a = k .before .before .args in asked-done (λ e. asked (controllerChecks e)) (a .s .now) (a .at) (block-law 8 (λ e. asked (controllerChecks e)) (a .s .now) (a .at)) (rw (c .before .before .before .before .before .e .given .1) at (k .block-at .ensures)) (rw (c .enum-told .given .1) at (c .before .before .controller-lead .ensures))
+returns-3 c =
+    let e = c .before .before .before .before .before in
+    let a = start (part e) .args in
+    asked-done head-asks (a .s .now) (a .at) (block-law 8 head-asks (a .s .now) (a .at)) (read e) (rw (c .enum-told .given .1) at (c .before .before .controller-lead .ensures))
 
 pub controller-head-at-spec : {M : Type 1} → statement M
 controller-head-at-spec =

@@ -1,9 +1,14 @@
 use Rattle.entries.specs.States.{cpuLengthChecks, cpuState}
-use Rattle.format.specs.Format.{sized, pair, bytes, blob}
+use Rattle.format.specs.Format.{Format, sized, pair, bytes, blob}
 use Rattle.format.proofs.Exits.{pair-stop, pair-next}
+use Prim.Native.Nat.{ℕ}
 use borrow.Author.Needs.{needs}
 use Rattle.entries.proofs.cpu_at.Statement.{statement}
 use Rattle.entries.proofs.cpu_at.Tie as tie
+
+-- what stands behind the id
+abbrev rest : ℕ → Format
+rest version = pair (sized 4 (cpuLengthChecks version) (cpuState version)) (blob 8 67108864)
 
 block-at-requires : tie.Need-block-at-requires
 block-at-requires c κs = search needs
@@ -18,10 +23,10 @@ cpu-rest-at-requires : tie.Need-cpu-rest-at-requires
 cpu-rest-at-requires c κs = search needs
 
 returns : tie.Need-returns
-returns c = let k = c .before .before .before in let a = k .before .before .args in pair-stop (a .s .now) (a .at) (bytes 4) (pair (sized 4 (cpuLengthChecks (a .version)) (cpuState (a .version))) (blob 8 67108864)) (rw (c .before .number .given .1) at (k .block-at .ensures))
+returns c = let k = c .before .before .before in let a = k .before .before .args in pair-stop (a .s .now) (a .at) (bytes 4) (rest (a .version)) (rw (c .before .number .given .1) at (k .block-at .ensures))
 
 returns-2 : tie.Need-returns-2
-returns-2 c = let k = c .before .before .before .before in let a = k .before .before .args in pair-next (a .s .now) (a .at) (bytes 4) (pair (sized 4 (cpuLengthChecks (a .version)) (cpuState (a .version))) (blob 8 67108864)) (rw (c .before .before .e .given .1) at (k .block-at .ensures)) (c .cpu-rest-at .ensures)
+returns-2 c = let k = c .before .before .before .before in let a = k .before .before .args in pair-next (a .s .now) (a .at) (bytes 4) (rest (a .version)) (rw (c .before .before .e .given .1) at (k .block-at .ensures)) (c .cpu-rest-at .ensures)
 
 pub cpu-at-spec : {M : Type 1} → statement M
 cpu-at-spec =

@@ -26,7 +26,9 @@ cpu-length-requires : tie.Need-cpu-length-requires
 cpu-length-requires c κs = search needs
 
 returns-2 : tie.Need-returns-2
-returns-2 c = let a = c .before .before .before .before .before .before .args in sized-bad (a .s .now) (a .at) 4 _ (cpuLengthChecks (a .version)) (c .before .before .u32-at .ensures) (omega arith) SHAPE _ [] refl (sym (c .before .cpu-length .ensures) ∙ not-true _ (c .if2 .taken))
+returns-2 c =
+    let a = c .before .before .before .before .before .before .args in
+    sized-bad (a .s .now) (a .at) 4 _ (cpuLengthChecks (a .version)) (c .before .before .u32-at .ensures) (omega arith) SHAPE _ [] refl (sym (c .before .cpu-length .ensures) ∙ not-true _ (c .if2 .taken))
 
 add-b : tie.Need-add-b
 add-b c = search needs
@@ -35,13 +37,21 @@ sub-if3 : tie.Need-sub-if3
 sub-if3 c = search needs
 
 returns-3 : tie.Need-returns-3
-returns-3 c = let a = c .before .before .before .before .before .before .before .args in sized-cut (a .s .now) (a .at) 4 _ (cpuLengthChecks (a .version)) (c .before .before .before .u32-at .ensures) (omega arith) (sym (c .before .before .cpu-length .ensures) ∙ not-false _ (c .before .if2 .left), tt) (omega arith)
+returns-3 c =
+    let e = c .before in
+    let n = e .before .before in
+    let a = n .before .before .before .before .args in
+    sized-cut (a .s .now) (a .at) 4 _ (cpuLengthChecks (a .version)) (n .u32-at .ensures) (omega arith) (sym (e .before .cpu-length .ensures) ∙ not-false _ (e .if2 .left), tt) (omega arith)
 
 add-t6 : tie.Need-add-t6
 add-t6 c = search needs
 
 returns-4 : tie.Need-returns-4
-returns-4 c = let a = c .before .before .before .before .before .before .before .args in sized-whole (a .s .now) (a .at) 4 _ (cpuLengthChecks (a .version)) (c .before .before .before .u32-at .ensures) (omega arith) (sym (c .before .before .cpu-length .ensures) ∙ not-false _ (c .before .if2 .left), tt) (omega arith)
+returns-4 c =
+    let e = c .before in
+    let n = e .before .before in
+    let a = n .before .before .before .before .args in
+    sized-whole (a .s .now) (a .at) 4 _ (cpuLengthChecks (a .version)) (n .u32-at .ensures) (omega arith) (sym (e .before .cpu-length .ensures) ∙ not-false _ (e .if2 .left), tt) (omega arith)
 
 pub held-state-spec : {M : Type 1} → statement M
 held-state-spec =

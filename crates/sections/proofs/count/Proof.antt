@@ -1,7 +1,11 @@
-use mathlib.Core.Path.{sym, _∙_}
+use mathlib.Core.Path.{_≡_, sym, _∙_}
+use mathlib.Core.Bool.{true}
+use lib.ListN.{length, drop}
+use Rattle.wire.specs.Numbers.{leAt}
+use Rattle.sections.specs.Index.{fitsIn}
 use borrow.Author.Tests.{not-true, not-false}
 use Rattle.sections.proofs.Counts.{Counting, counting-start, counting-none, counting-stop, counting-goes, counting-next, counting-done}
-use Prim.Native.Nat.{_-_}
+use Prim.Native.Nat.{_+_, _-_, _≤_}
 use native.Mathlib.Omega.{arith}
 use borrow.Author.Needs.{needs}
 use Rattle.sections.proofs.count.Statement.{statement}
@@ -12,6 +16,22 @@ Inv-loop file at₀ i₀ n₀ at i n = Counting file at i n
 
 abbrev μ-loop : tie.MeasureT-loop
 μ-loop file at₀ i₀ n₀ at i n = 64 - i
+
+-- a turn of the loop: the section at the place fits
+abbrev Turn : Type 0
+Turn = tie.Else2 Inv-loop μ-loop
+
+abbrev start : Turn → tie.Start Inv-loop μ-loop
+start c = c .before .before .before .before .before .before
+
+kept : (c : Turn) → let l = c .before .before .before .loop in Counting (start c .args .file .now) (l .at) (l .i) (l .n)
+kept c = c .before .before .before .loop .inv
+
+fit : (c : Turn) → fitsIn (drop (c .before .before .before .loop .at) (start c .args .file .now)) ≡ true
+fit c = sym (c .before .fits2 .ensures) ∙ not-false _ (c .if2 .left)
+
+within : (c : Turn) → let s = start c .args .file .now in let at = c .before .before .before .loop .at in at + (16 + leAt 8 s (at + 8)) ≤ length s
+within c = counting-goes (kept c) (c .before .before .loop-test .taken) (fit c)
 
 returns : tie.Need-returns Inv-loop μ-loop
 returns c = counting-none (c .before .before .args .file .now) (c .if1 .taken)
@@ -32,16 +52,16 @@ add-n : tie.Need-add-n Inv-loop μ-loop
 add-n c = omega (arith, (c .before .before .before .before .loop .inv) .few, (c .before .before .before .before .loop .inv) .turns, c .entries-at .ensures .1)
 
 add-u64-at : tie.Need-add-u64-at Inv-loop μ-loop
-add-u64-at c = omega (arith, counting-goes (c .before .before .before .before .loop .inv) (c .before .before .before .loop-test .taken) (sym (c .before .before .fits2 .ensures) ∙ not-false _ (c .before .if2 .left)))
+add-u64-at c = omega (arith, within (c .before))
 
 u64-at-requires : tie.Need-u64-at-requires Inv-loop μ-loop
 u64-at-requires c κs = search needs
 
 add-at : tie.Need-add-at Inv-loop μ-loop
-add-at c = omega (arith, counting-goes (c .before .before .before .before .before .loop .inv) (c .before .before .before .before .loop-test .taken) (sym (c .before .before .before .fits2 .ensures) ∙ not-false _ (c .before .before .if2 .left)), c .u64-at .ensures)
+add-at c = omega (arith, within (c .before .before), c .u64-at .ensures)
 
 add-at-2 : tie.Need-add-at-2 Inv-loop μ-loop
-add-at-2 c = omega (arith, counting-goes (c .before .before .before .before .before .loop .inv) (c .before .before .before .before .loop-test .taken) (sym (c .before .before .before .fits2 .ensures) ∙ not-false _ (c .before .before .if2 .left)), c .u64-at .ensures)
+add-at-2 c = omega (arith, within (c .before .before), c .u64-at .ensures)
 
 add-i : tie.Need-add-i Inv-loop μ-loop
 add-i c = omega arith
@@ -50,7 +70,9 @@ loop-less : tie.Need-loop-less Inv-loop μ-loop
 loop-less c = omega arith
 
 loop-again : tie.Need-loop-again Inv-loop μ-loop
-loop-again c = counting-next (c .before .before .before .before .before .loop .inv) (c .before .before .before .before .loop-test .taken) (sym (c .before .before .before .fits2 .ensures) ∙ not-false _ (c .before .before .if2 .left)) (c .before .entries-at .ensures .0) (c .before .entries-at .ensures .1) (c .u64-at .ensures)
+loop-again c =
+    let k = c .before .before in
+    counting-next (kept k) (k .before .before .loop-test .taken) (fit k) (c .before .entries-at .ensures .0) (c .before .entries-at .ensures .1) (c .u64-at .ensures)
 
 returns-3 : tie.Need-returns-3 Inv-loop μ-loop
 returns-3 c = counting-done (c .before .loop .inv) (c .loop-test .left)

@@ -1,11 +1,12 @@
 use Rattle.answer.proofs.Checks.{left-pass, left-fail}
-use Rattle.sections.proofs.Headers.{Headed, head-all, read-is, read-not, letters-there, letters-not}
+use Rattle.sections.proofs.Headers.{Headed, head-all, read-is, read-not, letters-number}
 use Rattle.aerosnap.specs.File.{fileMost}
 use Rattle.wire.specs.Numbers.{Bytes}
+use mathlib.Core.Path.{_∙_}
 use mathlib.Core.List.{List}
 use Prim.Native.Nat.{ℕ}
 use lib.ListN.{length}
-use borrow.Author.Tests.{le-leb, lt-leb}
+use borrow.Author.Tests.{le-leb, lt-leb, eq-eqb, ne-eqb}
 use borrow.Author.Needs.{needs}
 use Rattle.sections.proofs.header.Statement.{statement}
 use Rattle.sections.proofs.header.Tie as tie
@@ -31,7 +32,7 @@ lettered : (c : tie.Else3) → Headed (text (spelt c)) 3
 lettered c =
     let e = c .before .before in
     let k = spelt c in
-    left-pass (long e) (letters-there (text k) (e .if2 .left) (bytes k) (c .before .u64-at .ensures) (c .if3 .left))
+    left-pass (long e) (letters-number (text k) (e .if2 .left) (bytes k) (c .before .u64-at .ensures) ∙ eq-eqb _ _ (c .if3 .left))
 
 versioned : (c : tie.Else4) → Headed (text (spelt (c .before .before))) 4
 versioned c = left-pass (lettered (c .before .before)) (read-is (c .before .u16-at .ensures) (c .if4 .left))
@@ -58,7 +59,7 @@ returns-3 : tie.Need-returns-3
 returns-3 c =
     let e = c .before .before in
     let k = e .before .before in
-    left-fail (long e) (letters-not (text k) (e .if2 .left) (bytes k) (c .before .u64-at .ensures) (c .if3 .taken))
+    left-fail (long e) (letters-number (text k) (e .if2 .left) (bytes k) (c .before .u64-at .ensures) ∙ ne-eqb _ _ (c .if3 .taken))
 
 u16-at-requires : tie.Need-u16-at-requires
 u16-at-requires c κs = search needs

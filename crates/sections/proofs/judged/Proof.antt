@@ -18,7 +18,13 @@ known-requires : tie.Need-known-requires
 known-requires c κs = search needs
 
 returns : tie.Need-returns
-returns c = λ l n m. let a = c .before .before .before .before .before .args in let s = a .s .now in let k = ap spec.known (sym (c .before .before .u32-at .ensures)) ∙ sym (c .before .known .ensures) ∙ not-true _ (c .if1 .taken) in let z = none-kept (leAt 4 s (a .at)) (leAt 2 s (a .at + 4)) (length (a .index .now)) (take (a .m) (drop (a .at + 16) s)) (a .index .now) k in keeps-done (ruled-not l (a .at) _ _ _ _ k) (z .0) (z .1)
+returns c =
+    let id = c .before .before in
+    let a = id .before .before .before .args in
+    let s = a .s .now in
+    let unknown = ap spec.known (sym (id .u32-at .ensures)) ∙ sym (c .before .known .ensures) ∙ not-true _ (c .if1 .taken) in
+    let none = none-kept (leAt 4 s (a .at)) (leAt 2 s (a .at + 4)) (length (a .index .now)) (take (a .m) (drop (a .at + 16) s)) (a .index .now) unknown in
+    λ l n m. keeps-done (ruled-not l (a .at) _ _ _ _ unknown) (none .0) (none .1)
 
 add-u16-at : tie.Need-add-u16-at
 add-u16-at c = search needs
@@ -48,13 +54,20 @@ part-ruled-end : tie.Need-part-ruled-end
 part-ruled-end c = search needs
 
 ruled-requires : tie.Need-ruled-requires
-ruled-requires c κs = let a = c .before .before .before .before .before .before .before .before .before .args in (sym (c .before .before .before .before .before .known .ensures) ∙ not-false _ (c .before .before .before .before .if1 .left), omega (arith, part-length (a .s .now) (a .at + 16) (a .m) (omega arith)))
+ruled-requires c κs =
+    let e = c .before .before .before .before in
+    let a = e .before .before .before .before .before .args in
+    (sym (e .before .known .ensures) ∙ not-false _ (e .if1 .left), omega (arith, part-length (a .s .now) (a .at + 16) (a .m) (omega arith)))
 
 same-length : tie.Need-same-length
 same-length c = search needs
 
 returns-2 : tie.Need-returns-2
-returns-2 c = λ l n m. rw (← c .before .before .before .before .before .before .before .before .before .u32-at .ensures, ← c .before .before .before .before .before .before .u16-at .ensures, ← c .before .before .before .before .before .u16-at2 .ensures) (rw add-sub-cancel-left at (c .before .before .ruled .ensures l n m))
+returns-2 c =
+    let flags = c .before .before .before .before .before in
+    let version = flags .before in
+    let id = version .before .before .before in
+    λ l n m. rw (← id .u32-at .ensures, ← version .u16-at .ensures, ← flags .u16-at2 .ensures) (rw add-sub-cancel-left at (c .before .before .ruled .ensures l n m))
 
 pub judged-spec : {M : Type 1} → statement M
 judged-spec =

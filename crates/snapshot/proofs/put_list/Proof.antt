@@ -1,14 +1,27 @@
 use Rattle.snapshot.proofs.Reading.{list-fits, list-inside, list-short, list-done}
+use Rattle.aerosnap.proofs.Standing.{endAt}
+use lib.ListN.{length}
+use Prim.Native.Nat.{_+_, _≤_}
 use native.Mathlib.Omega.{arith}
 use borrow.Author.Needs.{needs}
 use Rattle.snapshot.proofs.put_list.Statement.{statement}
 use Rattle.snapshot.proofs.put_list.Tie as tie
 
+-- the list lies within the file, and its starts within the index
+within : (t : tie.Start) → let a = t .args in (endAt (a .file .now) (a .at) ≤ length (a .file .now)) × (length (a .file .now) ≤ 1073741824)
+within t = list-fits (t .pre)
+
+abbrev start : tie.After-u32-at → tie.Start
+start c = c .before .before .before .before .before
+
+inside : (c : tie.After-u32-at) → let a = start c .args in a .first + c .u32-at .result ≤ length (a .index .now)
+inside c = list-inside (start c .pre) (c .u32-at .ensures)
+
 add-b : tie.Need-add-b
 add-b c = search needs
 
 end-at-requires : tie.Need-end-at-requires
-end-at-requires c κs = let t = c .before .before .before in let a = t .args in let g = list-fits (a .t) (a .id) (a .file .now) (a .index .now) (t .pre) in omega (arith, g .0, g .1)
+end-at-requires c κs = omega (arith, within (c .before .before .before))
 
 u32-at-requires : tie.Need-u32-at-requires
 u32-at-requires c κs = search needs
@@ -20,10 +33,13 @@ mul-need : tie.Need-mul-need
 mul-need c = search needs
 
 returns : tie.Need-returns
-returns c = let t = c .before .before .before .before .before .before in let a = t .args in list-short (a .t) (a .id) (a .file .now) (a .index .now) (t .pre) (c .before .u32-at .ensures) (c .before .before .end-at .ensures) (a .table .now) (c .if1 .taken)
+returns c =
+    let k = c .before in
+    let t = start k in
+    list-short (t .pre) (k .u32-at .ensures) (k .before .end-at .ensures) (t .args .table .now) (c .if1 .taken)
 
 add-last : tie.Need-add-last
-add-last c = let t = c .before .before .before .before .before .before in let a = t .args in omega (arith, list-inside (a .t) (a .id) (a .file .now) (a .index .now) (t .pre) (c .before .u32-at .ensures), t .fits)
+add-last c = omega (arith, inside (c .before), start (c .before) .fits)
 
 sub-put-rows : tie.Need-sub-put-rows
 sub-put-rows c = search needs
@@ -32,13 +48,13 @@ part-put-rows-start : tie.Need-part-put-rows-start
 part-put-rows-start c = search needs
 
 part-put-rows-end : tie.Need-part-put-rows-end
-part-put-rows-end c = let t = c .before .before .before .before .before .before in let a = t .args in let g = list-fits (a .t) (a .id) (a .file .now) (a .index .now) (t .pre) in omega (arith, g .0, g .1, c .before .before .end-at .ensures)
+part-put-rows-end c = omega (arith, within (start (c .before)), c .before .before .end-at .ensures)
 
 cast-put-rows : tie.Need-cast-put-rows
-cast-put-rows c = let t = c .before .before .before .before .before .before .before in let a = t .args in let g = list-fits (a .t) (a .id) (a .file .now) (a .index .now) (t .pre) in omega (arith, g .0, g .1)
+cast-put-rows c = omega (arith, within (start (c .before .before)))
 
 mul-put-rows : tie.Need-mul-put-rows
-mul-put-rows c = let t = c .before .before .before .before .before .before .before in let a = t .args in omega (arith, list-inside (a .t) (a .id) (a .file .now) (a .index .now) (t .pre) (c .before .before .u32-at .ensures))
+mul-put-rows c = omega (arith, inside (c .before .before))
 
 sub-put-rows-2 : tie.Need-sub-put-rows-2
 sub-put-rows-2 c = search needs
@@ -47,7 +63,7 @@ part-put-rows-start-2 : tie.Need-part-put-rows-start-2
 part-put-rows-start-2 c = search needs
 
 part-put-rows-end-2 : tie.Need-part-put-rows-end-2
-part-put-rows-end-2 c = let t = c .before .before .before .before .before .before .before in let a = t .args in list-inside (a .t) (a .id) (a .file .now) (a .index .now) (t .pre) (c .before .before .u32-at .ensures)
+part-put-rows-end-2 c = inside (c .before .before)
 
 put-rows-requires : tie.Need-put-rows-requires
 put-rows-requires c κs = search needs
@@ -56,7 +72,10 @@ same-length : tie.Need-same-length
 same-length c = search needs
 
 returns-2 : tie.Need-returns-2
-returns-2 c = let t = c .before .before .before .before .before .before .before .before .before .before .before .before in let a = t .args in list-done (a .t) (a .id) (a .file .now) (a .index .now) (t .pre) (c .before .before .before .before .before .before .before .u32-at .ensures) (c .before .before .before .before .before .before .before .before .end-at .ensures) (c .before .before .before .before .before .before .if1 .left) (c .before .before .put-rows .ensures)
+returns-2 c =
+    let room = c .before .before .before .before .before .before in
+    let k = room .before in
+    list-done (start k .pre) (k .u32-at .ensures) (k .before .end-at .ensures) (room .if1 .left) (c .before .before .put-rows .ensures)
 
 pub put-list-spec : {M : Type 1} → statement M
 put-list-spec =

@@ -1,9 +1,10 @@
 use Rattle.snapshot.proofs.Walks.{Rowing, rowing-start, rowing-done, rowing-room, rowing-next}
-use Rattle.aerosnap.proofs.Standing.{goes}
+use Rattle.aerosnap.proofs.Standing.{endAt, goes}
+use Rattle.wire.proofs.Filling.{filling-long}
 use Rattle.aerosnap.specs.File.{fileOf}
 use Rattle.answer.specs.Outcome.{taken}
 use lib.ListN.{length}
-use Prim.Native.Nat.{ℕ, _-_}
+use Prim.Native.Nat.{ℕ, _+_, _-_, _≤_, _<_}
 use mathlib.Core.List.{List}
 use mathlib.Core.Path.{_≡_}
 use native.Mathlib.Omega.{arith}
@@ -17,20 +18,36 @@ Inv-loop file out₀ at₀ t₀ out at t = (l : List (List ℕ)) → fileOf file
 abbrev μ-loop : tie.MeasureT-loop
 μ-loop file out₀ at₀ t₀ out at t = length file - at
 
+-- a turn of the loop: what it keeps, room for one record, and a place before the end
+abbrev Turn : Type 0
+Turn = tie.In-loop Inv-loop μ-loop
+
+abbrev start : Turn → tie.Start Inv-loop μ-loop
+start c = c .before .before .before .before
+
+rows : (c : Turn) → let t = start c in let l = c .before .loop in Rowing (t .args .file .now) (t .pre .0) (l .at) (l .t) (t .args .out .now) (l .out)
+rows c = c .before .loop .inv (start c .pre .0) (start c .pre .1)
+
+room : (c : Turn) → let l = c .before .loop in l .t + 24 ≤ length (l .out)
+room c = rowing-room (rows c) (c .loop-test .taken)
+
+on : (c : Turn) → let s = start c .args .file .now in let at = c .before .loop .at in (at < endAt s at) × (endAt s at ≤ length s) × (length s ≤ 1073741824)
+on c = goes (rows c .left) (rows c .stand) (c .loop-test .taken)
+
 loop-holds : tie.Need-loop-holds Inv-loop μ-loop
 loop-holds c = rowing-start _ _ (c .before .before .pre)
 
 sub-put-section : tie.Need-sub-put-section Inv-loop μ-loop
-sub-put-section c = let w = c .before .before .before .before .pre in let v = c .before .loop .inv (w .0) (w .1) in let r = rowing-room v (c .loop-test .taken) in omega arith
+sub-put-section c = omega (arith, room c)
 
 part-put-section-start : tie.Need-part-put-section-start Inv-loop μ-loop
-part-put-section-start c = let w = c .before .before .before .before .pre in let v = c .before .loop .inv (w .0) (w .1) in let r = rowing-room v (c .loop-test .taken) in omega arith
+part-put-section-start c = omega (arith, room c)
 
 part-put-section-end : tie.Need-part-put-section-end Inv-loop μ-loop
-part-put-section-end c = let w = c .before .before .before .before .pre in let v = c .before .loop .inv (w .0) (w .1) in let r = rowing-room v (c .loop-test .taken) in omega arith
+part-put-section-end c = omega (arith, room c)
 
 cast-put-section : tie.Need-cast-put-section Inv-loop μ-loop
-cast-put-section c = let w = c .before .before .before .before .before .pre in let v = c .before .before .loop .inv (w .0) (w .1) in let g = goes (v .left) (v .stand) (c .before .loop-test .taken) in omega (arith, g .0, g .1, g .2)
+cast-put-section c = let g = on (c .before) in omega (arith, g .0, g .1, g .2)
 
 tail-requires : tie.Need-tail-requires Inv-loop μ-loop
 tail-requires c κs = search needs
@@ -39,19 +56,22 @@ put-section-requires : tie.Need-put-section-requires Inv-loop μ-loop
 put-section-requires c κs = search needs
 
 end-at-requires : tie.Need-end-at-requires Inv-loop μ-loop
-end-at-requires c κs = let w = c .before .before .before .before .before .before .before .before .before .pre in let v = c .before .before .before .before .before .before .loop .inv (w .0) (w .1) in let g = goes (v .left) (v .stand) (c .before .before .before .before .before .loop-test .taken) in omega (arith, g .1, g .2)
+end-at-requires c κs = let g = on (c .before .before .before .before .before) in omega (arith, g .1, g .2)
 
 add-t : tie.Need-add-t Inv-loop μ-loop
-add-t c = let w = c .before .before .before .before .before .before .before .before .before .before .pre in let v = c .before .before .before .before .before .before .before .loop .inv (w .0) (w .1) in let r = rowing-room v (c .before .before .before .before .before .before .loop-test .taken) in omega arith
+add-t c = let k = c .before .before .before .before .before .before in omega (arith, room k, filling-long (rows k .fill))
 
 loop-less : tie.Need-loop-less Inv-loop μ-loop
-loop-less c = let w = c .before .before .before .before .before .before .before .before .before .before .pre in let v = c .before .before .before .before .before .before .before .loop .inv (w .0) (w .1) in let g = goes (v .left) (v .stand) (c .before .before .before .before .before .before .loop-test .taken) in omega (arith, g .0, g .1)
+loop-less c = let g = on (c .before .before .before .before .before .before) in omega (arith, g .0, g .1)
 
 loop-again : tie.Need-loop-again Inv-loop μ-loop
-loop-again c = λ l h. rw (c .end-at .ensures) (rowing-next (c .before .before .before .before .before .before .before .loop .inv l h) (c .before .before .before .before .before .before .loop-test .taken) (rw (c .before .before .before .before .tail .ensures) at (c .before .before .before .put-section .ensures)))
+loop-again c =
+    let p = c .before .before .before in
+    let k = p .before .before .before in
+    λ l h. rw (c .end-at .ensures) (rowing-next (k .before .loop .inv l h) (k .loop-test .taken) (rw (p .before .tail .ensures) at (p .put-section .ensures)))
 
 same-length : tie.Need-same-length Inv-loop μ-loop
-same-length c = let w = c .before .before .before .before .pre in c .before .loop .inv (w .0) (w .1) .long
+same-length c = let w = c .before .before .before .before .pre in filling-long (c .before .loop .inv (w .0) (w .1) .fill)
 
 returns : tie.Need-returns Inv-loop μ-loop
 returns c = λ l h. rowing-done (c .before .loop .inv l h) (c .loop-test .left)

@@ -54,6 +54,9 @@ module _ {all old : List ℕ} (x rest : List ℕ) {t : ℕ} {new : List ℕ} (v 
   -- there is room for the next part
   pub filling-next-room : length x ≤ length (take (length new - t) (drop t new))
   filling-next-room = omega (arith, filling-room v, length-append x rest)
+
+  pub filling-next-fits : t + length x ≤ length new
+  filling-next-fits = omega (arith, filling-sum v, filling-long v, v .room, length-append x rest)
 
   -- the next part is written
   pub filling-next : {last : List ℕ} {n : ℕ} → Wrote x (take (length new - t) (drop t new)) last n → Filling all old rest (t + n) (take t new ++ (last ++ drop (length new - t) (drop t new)))
