@@ -3,13 +3,25 @@ use Rattle.writer.proofs.Whole.{room-short, listed-few, sorted-size, st
 use Rattle.entries.specs.Code.{describe}
 use Rattle.entries.proofs.Lawful.{lawful}
 use mathlib.Core.Path.{sym, _∙_}
+use Prim.Native.Nat.{_≤_}
+use lib.ListN.{length}
 use native.Mathlib.Omega.{arith}
 use borrow.Author.Needs.{needs}
 use Rattle.writer.proofs.put_list.Statement.{statement}
 use Rattle.writer.proofs.put_list.Tie as tie
 
+-- the count is stored
+abbrev begun : tie.After-put-u32 → tie.Start
+begun c = c .before .before .before .before .before .before .before .before
+
+fits : (c : tie.After-put-u32) → length (begun c .args .s .now) ≤ length (begun c .args .out .now)
+fits c = c .before .before .before .before .if1 .left
+
 returns : tie.Need-returns
-returns c = let t = c .before .before .before .before in let a = t .args in room-short (sortedBytes (describe (a .kind)) (a .s .now)) (a .out .now) (sorted-size (lawful (a .kind)) (t .pre)) (c .if1 .taken)
+returns c =
+    let t = c .before .before .before .before in
+    let a = t .args in
+    room-short (sortedBytes (describe (a .kind)) (a .s .now)) (a .out .now) (sorted-size (lawful (a .kind)) (t .pre)) (c .if1 .taken)
 
 in-order-requires : tie.Need-in-order-requires
 in-order-requires c κs = search needs
@@ -21,7 +33,11 @@ same-length : tie.Need-same-length
 same-length c = search needs
 
 returns-2 : tie.Need-returns-2
-returns-2 c = let t = c .before .before .before .before .before .before .before .before .before .before in straight-done (lawful (t .args .kind)) (t .pre) (sym (c .before .before .before .before .before .in-order .ensures) ∙ c .before .before .before .before .if2 .taken) (λ i. c .before .before .before .before .before .before .before .before .before .shared-slice-known .given i .fits) (c .before .before .before .before .before .before .if1 .left) (c .before .before .copy .ensures)
+returns-2 c =
+    let roomy = c .before .before .before .before .before .before in
+    let t = roomy .before .before .before .before in
+    let ordered = sym (c .before .before .before .before .before .in-order .ensures) ∙ c .before .before .before .before .if2 .taken in
+    straight-done (lawful (t .args .kind)) (t .pre) ordered (λ i. roomy .before .before .before .shared-slice-known .given i .fits) (roomy .if1 .left) (c .before .before .copy .ensures)
 
 cast-put-u32 : tie.Need-cast-put-u32
 cast-put-u32 c = let t = c .before .before .before .before .before .before .before in omega (arith, listed-few (lawful (t .args .kind)) (t .pre))
@@ -30,10 +46,16 @@ put-u32-requires : tie.Need-put-u32-requires
 put-u32-requires c κs = search needs
 
 sub-put-run : tie.Need-sub-put-run
-sub-put-run c = let t = c .before .before .before .before .before .before .before .before .before .before in omega (arith, sorted-room (lawful (t .args .kind)) (t .pre) (t .args .out .now) (c .before .before .before .before .before .before .if1 .left) (c .before .before .put-u32 .ensures) .0)
+sub-put-run c =
+    let p = c .before .before in
+    let t = begun p in
+    omega (arith, sorted-room (lawful (t .args .kind)) (t .pre) (t .args .out .now) (fits p) (p .put-u32 .ensures) .0)
 
 part-put-run-start : tie.Need-part-put-run-start
-part-put-run-start c = let t = c .before .before .before .before .before .before .before .before .before .before in omega (arith, sorted-room (lawful (t .args .kind)) (t .pre) (t .args .out .now) (c .before .before .before .before .before .before .if1 .left) (c .before .before .put-u32 .ensures) .0)
+part-put-run-start c =
+    let p = c .before .before in
+    let t = begun p in
+    omega (arith, sorted-room (lawful (t .args .kind)) (t .pre) (t .args .out .now) (fits p) (p .put-u32 .ensures) .0)
 
 part-put-run-end : tie.Need-part-put-run-end
 part-put-run-end c = search needs
@@ -42,13 +64,19 @@ put-run-requires : tie.Need-put-run-requires
 put-run-requires c κs = search needs
 
 add-t6 : tie.Need-add-t6
-add-t6 c = let t = c .before .before .before .before .before .before .before .before .before .before .before .before .before .before in omega (arith, t .pre .short, sorted-end (lawful (t .args .kind)) (t .pre) (t .args .out .now) (c .before .before .before .before .before .before .before .before .before .before .if1 .left) (c .before .before .before .before .before .before .put-u32 .ensures) (c .before .before .put-run .ensures))
+add-t6 c =
+    let p = c .before .before .before .before .before .before in
+    let t = begun p in
+    omega (arith, t .pre .short, sorted-end (lawful (t .args .kind)) (t .pre) (t .args .out .now) (fits p) (p .put-u32 .ensures) (c .before .before .put-run .ensures))
 
 same-length-2 : tie.Need-same-length-2
 same-length-2 c = search needs
 
 returns-3 : tie.Need-returns-3
-returns-3 c = let t = c .before .before .before .before .before .before .before .before .before .before .before .before .before .before in sorted-done (lawful (t .args .kind)) (t .pre) (t .args .out .now) (c .before .before .before .before .before .before .before .before .before .before .if1 .left) (c .before .before .before .before .before .before .put-u32 .ensures) (c .before .before .put-run .ensures)
+returns-3 c =
+    let p = c .before .before .before .before .before .before in
+    let t = begun p in
+    sorted-done (lawful (t .args .kind)) (t .pre) (t .args .out .now) (fits p) (p .put-u32 .ensures) (c .before .before .put-run .ensures)
 
 pub put-list-spec : {M : Type 1} → statement M
 put-list-spec =

@@ -48,7 +48,12 @@ same-length : tie.Need-same-length Inv-loop μ-loop
 same-length c = let l = c .before .before .before .before .before .before .before in omega (arith, fitting-long (l .loop .inv))
 
 returns : tie.Need-returns Inv-loop μ-loop
-returns c = let l = c .before .before .before .before .before .before .before in let p = c .before .before .before in let a = l .before .before .before .before .args in fitting-stop (run-turn (describe (a .kind)) (a .s .now) (a .starts .now) (l .loop .inv) (c .before .before .before .before .before .before .loop-test .taken)) (p .put-entry .ensures .0) (p .put-entry .ensures .1) (omega arith)
+returns c =
+    let l = c .before .before .before .before .before .before .before in
+    let a = l .before .before .before .before .args in
+    let turn = run-turn (describe (a .kind)) (a .s .now) (a .starts .now) (l .loop .inv) (c .before .before .before .before .before .before .loop-test .taken) in
+    let p = c .before .before .before .put-entry in
+    fitting-stop turn (p .ensures .0) (p .ensures .1) (omega arith)
 
 add-at : tie.Need-add-at Inv-loop μ-loop
 add-at c = let l = c .before .before .before .before .before .before .before in omega (arith, l .loop .inv .within, fitting-long (l .loop .inv))
@@ -60,7 +65,12 @@ loop-less : tie.Need-loop-less Inv-loop μ-loop
 loop-less c = omega arith
 
 loop-again : tie.Need-loop-again Inv-loop μ-loop
-loop-again c = let l = c .before .before .before .before .before .before .before in let p = c .before .before .before in let a = l .before .before .before .before .args in fitting-next (run-turn (describe (a .kind)) (a .s .now) (a .starts .now) (l .loop .inv) (c .before .before .before .before .before .before .loop-test .taken)) (p .put-entry .ensures .0) (p .put-entry .ensures .1) (omega arith)
+loop-again c =
+    let l = c .before .before .before .before .before .before .before in
+    let a = l .before .before .before .before .args in
+    let turn = run-turn (describe (a .kind)) (a .s .now) (a .starts .now) (l .loop .inv) (c .before .before .before .before .before .before .loop-test .taken) in
+    let p = c .before .before .before .put-entry in
+    fitting-next turn (p .ensures .0) (p .ensures .1) (omega arith)
 
 same-length-2 : tie.Need-same-length-2 Inv-loop μ-loop
 same-length-2 c = fitting-long (c .before .loop .inv)
