@@ -50,7 +50,13 @@ enum {
     CIMBROLAU_ROOM = 16,     /* output shorter than needed; the place is the length needed */
     CIMBROLAU_HAVE = 17,     /* added key is there; at 0 */
     CIMBROLAU_TAG = 18,      /* unknown tag; at 0 */
-    CIMBROLAU_ADDRESS = 19   /* controller's device above 31 or function above 7; at the entry's start */
+    CIMBROLAU_ADDRESS = 19,  /* controller's device above 31 or function above 7; at the entry's start */
+    CIMBROLAU_REGION = 20,   /* broken region; at its first wrong field */
+    CIMBROLAU_BIG = 21,      /* record above half the capacity; at 0 */
+    CIMBROLAU_FULL = 22,     /* bytes in use and those needed exceed the capacity; at 0 */
+    CIMBROLAU_EMPTY = 23,    /* nothing is committed; at 0 */
+    CIMBROLAU_RECORD = 24,   /* committed record runs past commit or the ring's end, or a skip reaches commit; at 0 */
+    CIMBROLAU_TURN = 29      /* cursors given out of turn; at 0 */
 };
 
 /* ---- what a call answers */
@@ -151,6 +157,50 @@ struct cimbrolau_message cimbrolau_message_read(const uint8_t *message, size_t m
  * that is not there, is CIMBROLAU_VALUE, both at 0. Data for a kind that has none is CIMBROLAU_VALUE too.
  */
 struct cimbrolau_answer cimbrolau_message_write(uint32_t tag, uint64_t a, uint64_t b, uint64_t c, uint64_t d, const uint8_t *data, size_t data_length, uint8_t *out, size_t out_length);
+
+/*
+ * ---- rings: one lent region of shared memory, and the number of a queue in it
+ *
+ * Every call checks the whole region first. A call that is taken and stores something answers how many bytes it stored; a refused one changes no byte of the
+ * region, and the numbers beside number and place are 0. Each call is single: two threads that use a region take turns. What is promised of a producer that
+ * stops is said over values, a cursor being one store; the library uses no atomic operation.
+ */
+
+/* Whether a region follows the rules. */
+struct cimbrolau_answer cimbrolau_region_check(const uint8_t *region, size_t region_length);
+
+/* A queue's cursors, signed, as hosts show them. */
+struct cimbrolau_cursors {
+    uint32_t number;
+    uint64_t place;
+    int32_t head, reserve, commit;
+};
+
+struct cimbrolau_cursors cimbrolau_ring_report(const uint8_t *region, size_t region_length, uint32_t queue);
+
+/* Room for a payload of so many bytes: a start and an end, which fill and commit are given as they are answered here. */
+struct cimbrolau_pair {
+    uint32_t number;
+    uint64_t place;
+    uint32_t start, end;
+};
+
+struct cimbrolau_pair cimbrolau_ring_reserve(uint8_t *region, size_t region_length, uint32_t queue, uint64_t payload_length);
+
+/* The payload into its pair; a pair may be filled again until it is committed. */
+struct cimbrolau_answer cimbrolau_ring_fill(uint8_t *region, size_t region_length, uint32_t queue, uint32_t start, uint32_t end, const uint8_t *payload, size_t payload_length);
+
+/* The records of a pair become the taker's. Pairs are committed in the order in which they were reserved. */
+struct cimbrolau_answer cimbrolau_ring_commit(uint8_t *region, size_t region_length, uint32_t queue, uint32_t start, uint32_t end);
+
+/* The next payload, by its place in the region and its length. A producer may write over it from then on: read it, or copy it, before the next reserve. */
+struct cimbrolau_record {
+    uint32_t number;
+    uint64_t place;
+    uint64_t payload_place, payload_length;
+};
+
+struct cimbrolau_record cimbrolau_ring_take(uint8_t *region, size_t region_length, uint32_t queue);
 
 #ifdef __cplusplus
 }

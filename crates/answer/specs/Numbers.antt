@@ -80,6 +80,32 @@ TAG = 18
 abbrev pub ADDRESS : ℕ
 ADDRESS = 19
 
+-- The rings' own, of document 02's request 1.
+
+-- broken region
+abbrev pub REGION : ℕ
+REGION = 20
+
+-- record above half the capacity
+abbrev pub BIG : ℕ
+BIG = 21
+
+-- bytes in use and those needed exceed the capacity
+abbrev pub FULL : ℕ
+FULL = 22
+
+-- nothing is committed
+abbrev pub EMPTY : ℕ
+EMPTY = 23
+
+-- committed record runs past commit or the ring's end, or a skip reaches commit
+abbrev pub RECORD : ℕ
+RECORD = 24
+
+-- cursors given out of turn
+abbrev pub TURN : ℕ
+TURN = 29
+
 -- the number of a fault of the input: any of these but ROOM and HAVE
 abbrev pub isFault : ℕ → Bool
 isFault n = (leb SHORT n && leb n VALUE) || (leb TAG n && leb n ADDRESS)

@@ -1,9 +1,9 @@
 -- The outcome of a definition: what was asked for, or the number and the place of the first check that fails.
 -- Assumes nothing.
 use mathlib.Core.Path.{_≡_}
-use mathlib.Core.List.{List, [], _∷_}
+use mathlib.Core.List.{List, [], _∷_, _++_}
 use mathlib.Core.Bool.{Bool, true, false}
-use Prim.Native.Nat.{ℕ, _+_}
+use Prim.Native.Nat.{ℕ, zero, suc, _+_}
 use lib.Dec.{leb}
 use lib.ListN.{length}
 use Rattle.answer.specs.Numbers.{ROOM, isFault}
@@ -57,3 +57,15 @@ room have need = (leb need have, ROOM, need) ∷ []
 -- bytes for an output that holds so many
 abbrev pub fitting : ℕ → List ℕ → Outcome (List ℕ)
 fitting have b = checked (room have (length b)) (taken b)
+
+-- the checks of 0, of 1, .. up to the n-th
+unfoldable pub each : (ℕ → Checks) → ℕ → Checks
+each f zero = []
+each f (suc n) = each f n ++ f n
+
+-- checks are asked in their order, and this is the first that fails
+pub record First (rows : Checks) (n p : ℕ) : Type 0 where
+  pub before : Checks
+  pub behind : Checks
+  pub split : rows ≡ before ++ ((false, n, p) ∷ behind)
+  pub passed : Pass before

@@ -45,6 +45,19 @@ pub const TAG: u32 = 18;
 
 pub const ADDRESS: u32 = 19;
 
+// The rings' own (request 1 of document 02).
+pub const REGION: u32 = 20;
+
+pub const BIG: u32 = 21;
+
+pub const FULL: u32 = 22;
+
+pub const EMPTY: u32 = 23;
+
+pub const RECORD: u32 = 24;
+
+pub const TURN: u32 = 29;
+
 #[repr(C)]
 pub struct Answer {
     pub number: u32,

@@ -7,7 +7,7 @@ use Prim.Native.Nat.{ℕ}
 use lib.ListN.{length}
 use Rattle.answer.specs.declared.Answer.{Answer}
 use Rattle.answer.specs.Outcome.{Outcome}
-use Rattle.answer.specs.Calls.{verdict, Writes}
+use Rattle.answer.specs.Calls.{asked, verdict, Writes}
 use Rattle.answer.proofs.Once.{equal-once, writes-once}
 use Rattle.aerosnap.specs.Calls.{checkCall, sectionsCall, devicesCall, disksCall, canonicalCall, addDeviceCall, addDiskCall}
 use Rattle.dskc.specs.Wrapper as wrapped
@@ -15,6 +15,11 @@ use Rattle.messages.specs.Reading.{readMessage, reading}
 use Rattle.numbers.specs.declared.Numbers.{Numbers}
 use Rattle.numbers.specs.declared.Told.{Told}
 use Rattle.numbers.specs.Numbers.{told, writeNumbers}
+use Rattle.region.specs.declared.Cursors.{Cursors}
+use Rattle.region.specs.Region.{regionChecks}
+use Rattle.region.specs.Report.{asCursors, reportCall}
+use Rattle.rings.specs.Calls.{Stores, asAnswer, asPair, asRecord, Leaves, reserveCall, fillCall, commitCall, takeCall}
+use Rattle.rings.proofs.Once.{leaves-once}
 
 -- a call that answers by a verdict on its input
 abbrev Judges : {A : Type 0} → (List ℕ → Outcome A) → Type 0
@@ -60,3 +65,25 @@ message-read-once message e f = equal-once e f
 
 pub message-write-once : (n : Numbers) → Fills (λ have bytes. writeNumbers n bytes have)
 message-write-once n bytes old r s new now a b = writes-once a b
+
+-- a call that stores into one lent region
+abbrev Stores-in : {A R : Type 0} → (Outcome (Stores × A) → R) → (List ℕ → Outcome (Stores × A)) → Type 0
+Stores-in {A} {R} f call = (b : List ℕ) (r s : R) (new now : List ℕ) → Leaves f (call b) b r new → Leaves f (call b) b s now → (r ≡ s) × (new ≡ now)
+
+pub region-check-once : Judges (λ b. asked (regionChecks b))
+region-check-once b r s e f = equal-once e f
+
+pub ring-report-once : (b : List ℕ) (q : ℕ) {r s : Cursors} → r ≡ asCursors (reportCall b q) → s ≡ asCursors (reportCall b q) → r ≡ s
+ring-report-once b q e f = equal-once e f
+
+pub ring-reserve-once : (q n : ℕ) → Stores-in asPair (λ b. reserveCall b q n)
+ring-reserve-once q n b r s new now x y = leaves-once x y
+
+pub ring-fill-once : (q start end : ℕ) (m : List ℕ) → Stores-in asAnswer (λ b. fillCall b q start end m)
+ring-fill-once q start end m b r s new now x y = leaves-once x y
+
+pub ring-commit-once : (q start end : ℕ) → Stores-in asAnswer (λ b. commitCall b q start end)
+ring-commit-once q start end b r s new now x y = leaves-once x y
+
+pub ring-take-once : (q : ℕ) → Stores-in asRecord (λ b. takeCall b q)
+ring-take-once q b r s new now x y = leaves-once x y

@@ -3,13 +3,19 @@
 use answer::Answer;
 use numbers::Numbers;
 use numbers::Told;
+use region::Cursors;
+use rings::Pair;
+use rings::Record;
 ghost use mathlib.Core.Path.{_≡_};
 ghost use lib.ListN.{length};
-ghost use Rattle.answer.specs.Calls.{verdict, Writes};
+ghost use Rattle.answer.specs.Calls.{asked, verdict, Writes};
 ghost use Rattle.aerosnap.specs.Calls.{checkCall, sectionsCall, devicesCall, disksCall, canonicalCall, addDeviceCall, addDiskCall};
 ghost use Rattle.dskc.specs.Wrapper as wrapped;
 ghost use Rattle.messages.specs.Reading.{readMessage, reading};
 ghost use Rattle.numbers.specs.Numbers.{told, writeNumbers};
+ghost use Rattle.region.specs.Region.{regionChecks};
+ghost use Rattle.region.specs.Report.{asCursors, reportCall};
+ghost use Rattle.rings.specs.Calls.{asAnswer, asPair, asRecord, Leaves, reserveCall, fillCall, commitCall, takeCall};
 
 // ---- snapshot files
 
@@ -120,4 +126,59 @@ pub extern "C" fn cimbrolau_message_write(
     ensures { λ r. ⌜ Writes (writeNumbers (record { tag = tag; a = a; b = b; c = c; d = d }) (now (bytes .entry)) (length (now (out .entry)))) (now (out .entry)) r (now (out .exit)) ⌝ }
 {
     numbers::write(Numbers { tag, a, b, c, d }, bytes, out)
+}
+
+// ---- rings
+
+#[no_mangle]
+pub extern "C" fn cimbrolau_region_check(region: &[u8]) -> Answer
+    ensures { λ r. ⌜ r ≡ verdict (asked (regionChecks (now (region .entry)))) ⌝ }
+{
+    region::check(region)
+}
+
+#[no_mangle]
+pub extern "C" fn cimbrolau_ring_report(region: &[u8], queue: u32) -> Cursors
+    ensures { λ r. ⌜ r ≡ asCursors (reportCall (now (region .entry)) queue) ⌝ }
+{
+    region::report(region, queue)
+}
+
+#[no_mangle]
+pub extern "C" fn cimbrolau_ring_reserve(region: &mut [u8], queue: u32, length: u64) -> Pair
+    ensures { λ r. ⌜ Leaves asPair (reserveCall (now (region .entry)) queue length) (now (region .entry)) r (now (region .exit)) ⌝ }
+{
+    rings::reserve(region, queue, length)
+}
+
+#[no_mangle]
+pub extern "C" fn cimbrolau_ring_fill(
+    region: &mut [u8],
+    queue: u32,
+    start: u32,
+    end: u32,
+    payload: &[u8],
+) -> Answer
+    ensures { λ r. ⌜ Leaves asAnswer (fillCall (now (region .entry)) queue start end (now (payload .entry))) (now (region .entry)) r (now (region .exit)) ⌝ }
+{
+    rings::fill(region, queue, start, end, payload)
+}
+
+#[no_mangle]
+pub extern "C" fn cimbrolau_ring_commit(
+    region: &mut [u8],
+    queue: u32,
+    start: u32,
+    end: u32,
+) -> Answer
+    ensures { λ r. ⌜ Leaves asAnswer (commitCall (now (region .entry)) queue start end) (now (region .entry)) r (now (region .exit)) ⌝ }
+{
+    rings::commit(region, queue, start, end)
+}
+
+#[no_mangle]
+pub extern "C" fn cimbrolau_ring_take(region: &mut [u8], queue: u32) -> Record
+    ensures { λ r. ⌜ Leaves asRecord (takeCall (now (region .entry)) queue) (now (region .entry)) r (now (region .exit)) ⌝ }
+{
+    rings::take(region, queue)
 }

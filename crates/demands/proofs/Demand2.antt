@@ -10,7 +10,7 @@ use borrow.Author.Tests.{leb-false, lt-leb}
 use lib.Dec.{leb}
 use lib.ListN.{length, drop}
 use Rattle.answer.specs.Numbers.{ROOM}
-use Rattle.answer.specs.Outcome.{Outcome, taken, refused, Checks, checked, after, room, fitting}
+use Rattle.answer.specs.Outcome.{Outcome, taken, refused, Checks, checked, after, room, fitting, First}
 use Rattle.answer.proofs.Checks.{checked-append}
 use Rattle.answer.proofs.Outcomes.{after-taken}
 use Rattle.wire.specs.Numbers.{Bytes}
@@ -35,8 +35,9 @@ use Rattle.messages.specs.Writing.{writeChecks, written, writeMessage}
 use Rattle.messages.proofs.Back.{told, read-written}
 use Rattle.messages.proofs.Exactly.{taken-writing, writing-unique, read-write}
 use Rattle.numbers.proofs.Back.{numbers-write}
-use Rattle.demands.specs.Demands.{Taken, Writing, Canonical, Files, First, Passed, Adds, ordered, Wrappers, Says, dataOf, Messages, Demand2}
-use Rattle.demands.proofs.Firsts.{checked-first, after-refused}
+use Rattle.demands.specs.Demands.{Taken, Writing, Canonical, Files, Passed, Adds, ordered, Wrappers, Says, dataOf, Messages, Demand2}
+use Rattle.answer.proofs.Firsts.{checked-first}
+use Rattle.demands.proofs.Firsts.{after-refused}
 
 -- ---- what is written of what was read
 

@@ -1,4 +1,4 @@
--- Faults: the numbers of faults. Firsts: the first check that fails. Demand1 to Demand3: the demands. Examples: P1 to P13. RuledOut: wrong answers.
+-- Faults: the numbers of faults. Firsts: refusals after a reading. Demand1 to Demand3: the demands. Examples: P1 to P13. RuledOut: wrong answers. Rings: request 1.
 -- Once: the proofs that promises fix their answers, of every public function.
 pub mod Faults
 pub mod Firsts
@@ -7,4 +7,5 @@ pub mod Demand2
 pub mod Demand3
 pub mod Examples
 pub mod RuledOut
+pub mod Rings
 pub mod Once

@@ -28,6 +28,10 @@ pub use Rattle.messages.proofs.Once.{said-once}
 pub use Rattle.aipc.proofs.Once.{read-once as aipc-read-once, write-once as aipc-write-once}
 -- numbers: numbers_of; message_of; read; write
 pub use Rattle.numbers.proofs.Once.{numbers-of-once, message-of-once, read-once as numbers-read-once, write-once as numbers-write-once}
+-- region: ahead; offset_of; ring_at; check_region; check_queue; report
+pub use Rattle.region.proofs.Once.{ahead-once, offset-of-once, ring-at-once, check-region-once, check-queue-once, report-once}
+-- rings: reserve; fill; commit; take
+pub use Rattle.rings.proofs.Once.{reserve-once, fill-once, commit-once, take-once}
 -- payloads: index
 pub use Rattle.payloads.proofs.Once.{index-once as payloads-index-once}
 -- sections: small; scan; is_list; find; count
@@ -37,4 +41,4 @@ pub use Rattle.canon.proofs.Once.{canonical-once, add-device-once, add-disk-onc
 -- snapshot: check; sections; devices; disks
 pub use Rattle.snapshot.proofs.Once.{check-once, sections-once, devices-once, disks-once}
 -- cimbrolau: the same calls for C, each law named after its function
-pub use Rattle.cimbrolau.proofs.Once.{check-once as cimbrolau-check-once, sections-once as cimbrolau-sections-once, devices-once as cimbrolau-devices-once, disks-once as cimbrolau-disks-once, canonical-once as cimbrolau-canonical-once, add-device-once as cimbrolau-add-device-once, add-disk-once as cimbrolau-add-disk-once, wrapper-check-once as cimbrolau-wrapper-check-once, controllers-once as cimbrolau-controllers-once, wrapper-canonical-once as cimbrolau-wrapper-canonical-once, message-read-once as cimbrolau-message-read-once, message-write-once as cimbrolau-message-write-once}
+pub use Rattle.cimbrolau.proofs.Once.{check-once as cimbrolau-check-once, sections-once as cimbrolau-sections-once, devices-once as cimbrolau-devices-once, disks-once as cimbrolau-disks-once, canonical-once as cimbrolau-canonical-once, add-device-once as cimbrolau-add-device-once, add-disk-once as cimbrolau-add-disk-once, wrapper-check-once as cimbrolau-wrapper-check-once, controllers-once as cimbrolau-controllers-once, wrapper-canonical-once as cimbrolau-wrapper-canonical-once, message-read-once as cimbrolau-message-read-once, message-write-once as cimbrolau-message-write-once, region-check-once, ring-report-once, ring-reserve-once, ring-fill-once, ring-commit-once, ring-take-once}

@@ -4,13 +4,12 @@
 -- Assumes nothing.
 use mathlib.Core.Path.{_≡_}
 use mathlib.Core.Logic.{_≢_, _↔_, _⊎_}
-use mathlib.Core.Bool.{false}
 use mathlib.Core.List.{List, [], _∷_, _++_, List·Permᴰ, Perm}
 use Prim.Native.Nat.{ℕ, _≤_, _<_, _^_}
 use lib.ListN.{length, take, drop}
 use Rattle.answer.specs.declared.Answer.{Answer}
 use Rattle.answer.specs.Numbers.{SHORT, ROOM, ADDRESS}
-use Rattle.answer.specs.Outcome.{Outcome, taken, refused, Faulty, Checks, Pass, room}
+use Rattle.answer.specs.Outcome.{Outcome, taken, refused, Faulty, Pass, room, First}
 use Rattle.answer.specs.Calls.{verdict, Writes}
 use Rattle.wire.specs.Numbers.{Bytes}
 use Rattle.order.specs.Keyed.{flat, sort}
@@ -122,13 +121,6 @@ pub record Files : Type 0 where
   -- a file has a content exactly if it is taken, and else the same fault
   pub content : (s : List ℕ) (l : List (List ℕ)) → checkCall s ≡ taken l → contentAt s ≡ taken (contentOf l)
   pub no-content : (s : List ℕ) (n p : ℕ) → checkCall s ≡ refused n p → contentAt s ≡ refused n p
-
--- checks are asked in their order, and this is the first that fails
-pub record First (rows : Checks) (n p : ℕ) : Type 0 where
-  pub before : Checks
-  pub behind : Checks
-  pub split : rows ≡ before ++ ((false, n, p) ∷ behind)
-  pub passed : Pass before
 
 -- none of the checks of adding x to c fails, and the output holds the result
 pub record Passed (have : ℕ) (x : Item) (c : Content) : Type 0 where

@@ -1,4 +1,5 @@
--- Demands: the three demands. Examples: P1 to P13. RuledOut: wrong answers that no call can give.
+-- Demands: the three demands. Examples: P1 to P13. RuledOut: wrong answers that no call can give. Rings: request 1.
 pub mod Demands
 pub mod Examples
 pub mod RuledOut
+pub mod Rings

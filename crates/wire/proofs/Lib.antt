@@ -7,3 +7,4 @@ pub mod Records
 pub mod Calls
 pub mod Once
 pub mod Examples
+pub mod Splices

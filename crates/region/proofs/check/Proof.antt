@@ -1,0 +1,44 @@
+use Rattle.region.proofs.Cases.{header-stop, header-on}
+use Rattle.answer.specs.Calls.{testOf, verdict}
+use Rattle.region.specs.Region.{tableChecks}
+use mathlib.Core.Path.{_∙_, sym, ap}
+use borrow.Author.Needs.{needs}
+use Rattle.region.proofs.check.Statement.{statement}
+use Rattle.region.proofs.check.Tie as tie
+
+header-requires : tie.Need-header-requires
+header-requires c κs = search needs
+
+enum-known-number : tie.Need-enum-known-number
+enum-known-number c = search needs
+
+enum-told : tie.Need-enum-told
+enum-told c = search needs
+
+tables-requires : tie.Need-tables-requires
+tables-requires c κs = search needs
+
+answered-requires : tie.Need-answered-requires
+answered-requires c κs = search needs
+
+returns : tie.Need-returns
+returns c =
+    let a = c .before .before .before .before .before .args in
+    rw (sym (header-stop (a .s .now) (tableChecks (a .s .now)) (sym (ap testOf (c .before .number .given .1)) ∙ c .before .before .before .header .ensures)))
+
+returns-2 : tie.Need-returns-2
+returns-2 c =
+    let a = c .before .before .before .before .before .before .args in
+    c .answered .ensures ∙ ap verdict (c .before .tables .ensures ∙ sym (header-on (a .s .now) (tableChecks (a .s .now)) (sym (ap testOf (c .before .before .enum-told .given .1)) ∙ c .before .before .before .before .header .ensures)))
+
+pub check-spec : {M : Type 1} → statement M
+check-spec =
+    tie.close
+    (tie.spec
+    header-requires
+    enum-known-number
+    enum-told
+    tables-requires
+    answered-requires
+    returns
+    returns-2)

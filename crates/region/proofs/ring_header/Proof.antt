@@ -1,0 +1,27 @@
+use Rattle.region.proofs.Cases.{ring-so}
+use mathlib.Core.Path.{_∙_}
+use borrow.Author.Needs.{needs}
+use Rattle.region.proofs.ring_header.Statement.{statement}
+use Rattle.region.proofs.ring_header.Tie as tie
+
+offset-of-requires : tie.Need-offset-of-requires
+offset-of-requires c κs = search needs
+
+ring-at-requires : tie.Need-ring-at-requires
+ring-at-requires c κs = search needs
+
+capacity-of-requires : tie.Need-capacity-of-requires
+capacity-of-requires c κs = search needs
+
+ring-fields-requires : tie.Need-ring-fields-requires
+ring-fields-requires c κs = search needs
+
+returns : tie.Need-returns
+returns c =
+    let a = c .before .before .before .before .before .args in
+    c .ring-fields .ensures ∙ ring-so (a .s .now) (a .i) (c .before .before .before .offset-of .ensures) (c .before .before .ring-at .ensures) (c .before .capacity-of .ensures)
+
+pub ring-header-spec : {M : Type 1} → statement M
+ring-header-spec =
+    tie.close
+    (tie.spec offset-of-requires ring-at-requires capacity-of-requires ring-fields-requires returns)

@@ -1,0 +1,319 @@
+// An AIPC region: checked up to its first wrong field, and a queue's cursors shown.
+// Numbers are read where they stand; a byte past the end reads as 0, so nothing is asked of an index.
+use answer::Answer;
+use answer::REGION;
+use answer::TAKEN;
+use answer::Test;
+use wire::u32_at;
+ghost use mathlib.Core.Path.{_≡_};
+ghost use mathlib.Core.Bool.{_||_};
+ghost use Prim.Native.Nat.{_+_, _*_, _≤_, _<_};
+ghost use lib.Dec.{leb};
+ghost use lib.ListN.{length};
+ghost use Rattle.answer.specs.Calls.{testOf, asked, verdict};
+ghost use Rattle.answer.specs.Outcome.{each};
+ghost use Rattle.region.specs.Region.{countOf, offsetOf, capacityOf, endOf, ringAt, isCapacity, headerChecks, apartCheck, descriptorChecks, cursorChecks, ringChecks, tableChecks, regionChecks, queueChecks};
+ghost use Rattle.region.specs.Region as region;
+ghost use Rattle.region.specs.Report.{signedOf, asCursors, reportCall};
+
+// The header of a ring: its cursors and its capacity.
+pub struct Ring {
+    pub head: u32,
+    pub reserve: u32,
+    pub commit: u32,
+    pub capacity: u32,
+}
+
+#[repr(C)]
+pub struct Cursors {
+    pub number: u32,
+    pub place: u64,
+    pub head: i32,
+    pub reserve: i32,
+    pub commit: i32,
+}
+
+// The letters `AIPC`, as the number that they are in the region.
+const AIPC: u32 = 0x43504941;
+
+// How far cursor b is ahead of a. It wraps on purpose.
+pub fn ahead(a: u32, b: u32) -> u32
+    ensures { λ r. ⌜ r ≡ region.ahead a b ⌝ }
+{
+    std::num::wrapping_sub_u32(b, a)
+}
+
+// Where the ring of descriptor i stands.
+pub fn offset_of(s: &[u8], i: u32) -> u32
+    ensures { λ r. ⌜ r ≡ offsetOf (now (s .entry)) i ⌝ }
+{
+    u32_at(s, 20 + 16 * (i as usize))
+}
+
+fn capacity_of(s: &[u8], i: u32) -> u32
+    ensures { λ r. ⌜ r ≡ capacityOf (now (s .entry)) i ⌝ }
+{
+    u32_at(s, 24 + 16 * (i as usize))
+}
+
+fn end_of(s: &[u8], i: u32) -> usize
+    ensures { λ r. ⌜ r ≡ endOf (now (s .entry)) i ⌝ }
+{
+    (offset_of(s, i) as usize) + 16 + (capacity_of(s, i) as usize)
+}
+
+pub fn ring_at(s: &[u8], at: u32) -> Ring
+    ensures { λ r. ⌜ r ≡ ringAt (now (s .entry)) at ⌝ }
+{
+    let o = at as usize;
+    let head = u32_at(s, o);
+    let reserve = u32_at(s, o + 4);
+    let commit = u32_at(s, o + 8);
+    let capacity = u32_at(s, o + 12);
+    Ring {
+        head,
+        reserve,
+        commit,
+        capacity,
+    }
+}
+
+fn is_capacity(x: u32) -> bool
+    ensures { λ r. ⌜ r ≡ isCapacity x ⌝ }
+{
+    match x {
+        64 => true,
+        128 => true,
+        256 => true,
+        512 => true,
+        1024 => true,
+        2048 => true,
+        4096 => true,
+        8192 => true,
+        16384 => true,
+        32768 => true,
+        65536 => true,
+        _ => false,
+    }
+}
+
+fn header(s: &[u8]) -> Test
+    ensures { λ r. ⌜ testOf r ≡ asked (headerChecks (now (s .entry))) ⌝ }
+{
+    if s.len() < 16 {
+        return Test::Fault(REGION, 0);
+    }
+    if u32_at(s, 0) != AIPC {
+        return Test::Fault(REGION, 0);
+    }
+    if u32_at(s, 4) != 1 {
+        return Test::Fault(REGION, 4);
+    }
+    if u32_at(s, 8) as usize != s.len() {
+        return Test::Fault(REGION, 8);
+    }
+    let count = u32_at(s, 12);
+    if 64 < count {
+        return Test::Fault(REGION, 12);
+    }
+    if s.len() < 16 + 16 * (count as usize) {
+        return Test::Fault(REGION, 12);
+    }
+    Test::Fine
+}
+
+fn are_apart(s: &[u8], i: u32, j: u32) -> bool
+    ensures { λ r. ⌜ r ≡ (leb (endOf (now (s .entry)) j) (offsetOf (now (s .entry)) i) || leb (endOf (now (s .entry)) i) (offsetOf (now (s .entry)) j)) ⌝ }
+{
+    if end_of(s, j) <= offset_of(s, i) as usize {
+        return true;
+    }
+    end_of(s, i) <= offset_of(s, j) as usize
+}
+
+// Whether ring i meets an earlier one.
+fn clear(s: &[u8], i: u32) -> Test
+    ensures { λ r. ⌜ testOf r ≡ asked (each (apartCheck (now (s .entry)) i) i) ⌝ }
+{
+    let mut j = 0;
+    while j < i {
+        if are_apart(s, i, j) {
+            j += 1;
+        } else {
+            return Test::Fault(REGION, 20 + 16 * (i as usize));
+        }
+    }
+    Test::Fine
+}
+
+// Descriptor i: where its ring stands, the capacity, the reserved 0.
+fn descriptor(s: &[u8], i: u32) -> Test
+    ensures { λ r. ⌜ testOf r ≡ asked (descriptorChecks (now (s .entry)) i) ⌝ }
+{
+    let place = 16 * (i as usize);
+    let at = offset_of(s, i) as usize;
+    if at % 4 != 0 {
+        return Test::Fault(REGION, 20 + place);
+    }
+    if at < 16 + 16 * (u32_at(s, 12) as usize) {
+        return Test::Fault(REGION, 20 + place);
+    }
+    if s.len() < end_of(s, i) {
+        return Test::Fault(REGION, 20 + place);
+    }
+    match clear(s, i) {
+        Test::Fault(number, fault) => Test::Fault(number, fault),
+        Test::Fine => {
+            if !is_capacity(capacity_of(s, i)) {
+                return Test::Fault(REGION, 24 + place);
+            }
+            if u32_at(s, 28 + place) != 0 {
+                return Test::Fault(REGION, 28 + place);
+            }
+            Test::Fine
+        }
+    }
+}
+
+fn descriptors(s: &[u8], n: u32) -> Test
+    ensures { λ r. ⌜ testOf r ≡ asked (each (descriptorChecks (now (s .entry))) n) ⌝ }
+{
+    let mut i = 0;
+    while i < n {
+        match descriptor(s, i) {
+            Test::Fault(number, place) => {
+                return Test::Fault(number, place);
+            }
+            Test::Fine => {
+                i += 1;
+            }
+        }
+    }
+    Test::Fine
+}
+
+// The header of a ring that stands at `at`, `cap` being its descriptor's capacity.
+fn ring_fields(ring: Ring, at: u32, cap: u32) -> Test
+    ensures { λ r. ⌜ testOf r ≡ asked (cursorChecks ring at cap) ⌝ }
+{
+    let o = at as usize;
+    if ring.head % 4 != 0 {
+        return Test::Fault(REGION, o);
+    }
+    if (cap as u64)
+        < (ahead(ring.head, ring.commit) as u64) + (ahead(ring.commit, ring.reserve) as u64)
+    {
+        return Test::Fault(REGION, o);
+    }
+    if ring.reserve % 4 != 0 {
+        return Test::Fault(REGION, o + 4);
+    }
+    if ring.commit % 4 != 0 {
+        return Test::Fault(REGION, o + 8);
+    }
+    if ring.capacity != cap {
+        return Test::Fault(REGION, o + 12);
+    }
+    Test::Fine
+}
+
+fn ring_header(s: &[u8], i: u32) -> Test
+    ensures { λ r. ⌜ testOf r ≡ asked (ringChecks (now (s .entry)) i) ⌝ }
+{
+    let at = offset_of(s, i);
+    ring_fields(ring_at(s, at), at, capacity_of(s, i))
+}
+
+fn ring_headers(s: &[u8], n: u32) -> Test
+    ensures { λ r. ⌜ testOf r ≡ asked (each (ringChecks (now (s .entry))) n) ⌝ }
+{
+    let mut i = 0;
+    while i < n {
+        match ring_header(s, i) {
+            Test::Fault(number, place) => {
+                return Test::Fault(number, place);
+            }
+            Test::Fine => {
+                i += 1;
+            }
+        }
+    }
+    Test::Fine
+}
+
+// The descriptors, then the headers of their rings.
+fn tables(s: &[u8]) -> Test
+    ensures { λ r. ⌜ testOf r ≡ asked (tableChecks (now (s .entry))) ⌝ }
+{
+    let n = u32_at(s, 12);
+    match descriptors(s, n) {
+        Test::Fault(number, place) => Test::Fault(number, place),
+        Test::Fine => ring_headers(s, n),
+    }
+}
+
+pub fn check(s: &[u8]) -> Answer
+    ensures { λ r. ⌜ r ≡ verdict (asked (regionChecks (now (s .entry)))) ⌝ }
+{
+    match header(s) {
+        Test::Fault(number, place) => Answer {
+            number,
+            place: place as u64,
+        },
+        Test::Fine => answer::answered(tables(s)),
+    }
+}
+
+// The region's first wrong field, where it is asked for a queue: the first check of each call.
+pub fn check_queue(s: &[u8], queue: u32) -> Test
+    ensures { λ r. ⌜ testOf r ≡ asked (queueChecks (now (s .entry)) queue) ⌝ }
+{
+    match header(s) {
+        Test::Fault(number, place) => Test::Fault(number, place),
+        Test::Fine => {
+            if u32_at(s, 12) <= queue {
+                return Test::Fault(REGION, 12);
+            }
+            tables(s)
+        }
+    }
+}
+
+// A cursor as the i32 of the same bits.
+fn signed(x: u32) -> i32
+    ensures { λ r. ⌜ r ≡ signedOf x ⌝ }
+{
+    if x < 2147483648 {
+        return x as i32;
+    }
+    let back = (4294967295 - x) as i32;
+    -back - 1
+}
+
+// A queue's cursors, as hosts show them.
+pub fn report(s: &[u8], queue: u32) -> Cursors
+    ensures { λ r. ⌜ r ≡ asCursors (reportCall (now (s .entry)) queue) ⌝ }
+{
+    match check_queue(s, queue) {
+        Test::Fault(number, place) => Cursors {
+            number,
+            place: place as u64,
+            head: 0,
+            reserve: 0,
+            commit: 0,
+        },
+        Test::Fine => {
+            let ring = ring_at(s, offset_of(s, queue));
+            let head = signed(ring.head);
+            let reserve = signed(ring.reserve);
+            let commit = signed(ring.commit);
+            Cursors {
+                number: TAKEN,
+                place: 0,
+                head,
+                reserve,
+                commit,
+            }
+        }
+    }
+}
