@@ -57,11 +57,7 @@ const FILE_CALLS: [(&str, Call, Call); 6] = [
 /// The same for wrappers.
 const WRAPPER_CALLS: [(&str, Call, Call); 2] = [
     ("controllers", library::controllers, reference::controllers),
-    (
-        "wrapper_canonical",
-        library::wrapper_canonical,
-        reference::wrapper_canonical,
-    ),
+    ("wrapper_canonical", library::wrapper_canonical, reference::wrapper_canonical),
 ];
 
 impl Comparison {
@@ -94,10 +90,7 @@ impl Comparison {
     pub fn wrapper(&mut self, wrapper: &[u8]) -> Answer {
         self.inputs += 1;
         let before = fingerprint(wrapper);
-        let (ours, theirs) = (
-            library::wrapper_check(wrapper),
-            reference::wrapper_check(wrapper),
-        );
+        let (ours, theirs) = (library::wrapper_check(wrapper), reference::wrapper_check(wrapper));
         let answer = self.answer("wrapper_check", &[wrapper], ours, theirs);
         self.outputs(&WRAPPER_CALLS, wrapper);
         self.unchanged(before, wrapper);
@@ -149,12 +142,7 @@ impl Comparison {
         self.inputs += 1;
         let before = fingerprint(message);
         let ours = library::message_read(message);
-        let reading = self.same(
-            "message_read",
-            &[message],
-            ours,
-            reference::message_read(message),
-        );
+        let reading = self.same("message_read", &[message], ours, reference::message_read(message));
         self.answers[reading.number as usize] += 1;
         if reading.number == 0 {
             self.write_again(message, reading);
@@ -171,16 +159,8 @@ impl Comparison {
         let out = &mut self.ours[MARGIN..MARGIN + message.len()];
         let ours = library::message_write(read.tag, [read.a, read.b, read.c, read.d], data, out);
         let again = &*out == message && pattern_stands(&self.ours, message.len(), 0);
-        let theirs = Answer {
-            number: 0,
-            place: message.len() as u64,
-        };
-        self.same(
-            "message_write of what was read",
-            &[message],
-            (ours, again),
-            (theirs, true),
-        );
+        let theirs = Answer { number: 0, place: message.len() as u64 };
+        self.same("message_write of what was read", &[message], (ours, again), (theirs, true));
     }
 
     /// Writes a message; the answer, and what the output then holds.
@@ -190,11 +170,7 @@ impl Comparison {
         let before = fingerprint(data);
         let answer = self.output(
             "message_write",
-            &[
-                &tag.to_le_bytes(),
-                &numbers.map(u64::to_le_bytes).concat(),
-                data,
-            ],
+            &[&tag.to_le_bytes(), &numbers.map(u64::to_le_bytes).concat(), data],
             |out| library::message_write(tag, numbers, data, out),
             |out| reference::message_write(tag, a, b, c, d, data, out),
         );
@@ -219,11 +195,7 @@ impl Comparison {
     ) -> T {
         self.calls += 1;
         if ours != theirs {
-            self.fail(
-                call,
-                inputs,
-                &format!("library {ours:?}\nreference {theirs:?}"),
-            );
+            self.fail(call, inputs, &format!("library {ours:?}\nreference {theirs:?}"));
         }
         theirs
     }
@@ -231,12 +203,7 @@ impl Comparison {
     /// Each of the calls on one input.
     fn outputs(&mut self, calls: &[(&str, Call, Call)], input: &[u8]) {
         for (name, library, reference) in calls {
-            self.output(
-                name,
-                &[input],
-                |out| library(input, out),
-                |out| reference(input, out),
-            );
+            self.output(name, &[input], |out| library(input, out), |out| reference(input, out));
         }
     }
 
@@ -263,11 +230,7 @@ impl Comparison {
             );
             self.fail(call, inputs, &what);
         }
-        let written = if theirs.number == 0 {
-            theirs.place as usize
-        } else {
-            0
-        };
+        let written = if theirs.number == 0 { theirs.place as usize } else { 0 };
         if !pattern_stands(&self.theirs, written, salt) {
             self.fail(
                 call,
@@ -371,11 +334,7 @@ fn fingerprint(input: &[u8]) -> u64 {
 }
 
 fn hex(bytes: &[u8]) -> String {
-    let shown: String = bytes
-        .iter()
-        .take(SHOWN)
-        .map(|byte| format!("{byte:02X}"))
-        .collect();
+    let shown: String = bytes.iter().take(SHOWN).map(|byte| format!("{byte:02X}")).collect();
     let more = if bytes.len() > SHOWN { " ..." } else { "" };
     format!("{} bytes: {shown}{more}", bytes.len())
 }
@@ -385,14 +344,8 @@ fn hex(bytes: &[u8]) -> String {
 mod tests {
     use super::*;
 
-    const TAKEN: Answer = Answer {
-        number: 0,
-        place: 4,
-    };
-    const SHORT_OF_ROOM: Answer = Answer {
-        number: ROOM,
-        place: 4,
-    };
+    const TAKEN: Answer = Answer { number: 0, place: 4 };
+    const SHORT_OF_ROOM: Answer = Answer { number: ROOM, place: 4 };
 
     /// Writes four bytes if there is room for them.
     fn four(out: &mut [u8]) -> Answer {
@@ -454,10 +407,7 @@ mod tests {
     #[should_panic(expected = "library Answer { number: 16, place: 3 }")]
     fn another_place() {
         against_four(|out| match four(out) {
-            SHORT_OF_ROOM => Answer {
-                number: ROOM,
-                place: 3,
-            },
+            SHORT_OF_ROOM => Answer { number: ROOM, place: 3 },
             answer => answer,
         });
     }

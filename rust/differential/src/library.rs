@@ -7,10 +7,7 @@ use reference::{Answer, Reading};
 macro_rules! answer {
     ($given:expr) => {{
         let given = $given;
-        Answer {
-            number: given.number,
-            place: given.place,
-        }
+        Answer { number: given.number, place: given.place }
     }};
 }
 

@@ -36,20 +36,14 @@ pub fn ask(holds: bool, number: u32, place: usize) -> Taken<()> {
     if holds {
         Ok(())
     } else {
-        Err(Answer {
-            number,
-            place: place as u64,
-        })
+        Err(Answer { number, place: place as u64 })
     }
 }
 
 /// The answer of a call that ended with `written` bytes or with a refusal.
 pub fn answered(result: Taken<usize>) -> Answer {
     match result {
-        Ok(written) => Answer {
-            number: 0,
-            place: written as u64,
-        },
+        Ok(written) => Answer { number: 0, place: written as u64 },
         Err(refusal) => refusal,
     }
 }

@@ -26,10 +26,7 @@ const GROUPS: [Group; 27] = [
     ("snapshots: valid files", snapshots::valid),
     ("snapshots: every byte changed", snapshots::every_byte),
     ("snapshots: every length cut", snapshots::every_cut),
-    (
-        "snapshots: every number at its extremes",
-        snapshots::extremes,
-    ),
+    ("snapshots: every number at its extremes", snapshots::extremes),
     ("snapshots: two faults at once", snapshots::pairs),
     ("snapshots: random damage", snapshots::damaged),
     ("snapshots: joined", snapshots::joined),
@@ -56,17 +53,12 @@ const GROUPS: [Group; 27] = [
 ];
 
 fn main() {
-    let wanted = std::env::args()
-        .skip(1)
-        .find(|argument| !argument.starts_with('-'));
+    let wanted = std::env::args().skip(1).find(|argument| !argument.starts_with('-'));
     let seed = seed();
     let start = Instant::now();
     let mut total = Total::default();
     for (at, (name, run)) in GROUPS.into_iter().enumerate() {
-        if wanted
-            .as_ref()
-            .is_none_or(|word| name.contains(word.as_str()))
-        {
+        if wanted.as_ref().is_none_or(|word| name.contains(word.as_str())) {
             let mut comparison = Comparison::new(name, seed.wrapping_add(at as u64));
             let begun = Instant::now();
             run(&mut comparison);
@@ -103,10 +95,7 @@ struct Total {
 
 impl Total {
     fn add(&mut self, group: &Comparison, seconds: f64) {
-        println!(
-            "{}: {} inputs, {} calls, {seconds:.1} s",
-            group.name, group.inputs, group.calls
-        );
+        println!("{}: {} inputs, {} calls, {seconds:.1} s", group.name, group.inputs, group.calls);
         self.inputs += group.inputs;
         self.calls += group.calls;
         for (sum, count) in self.answers.iter_mut().zip(group.answers) {
@@ -117,10 +106,7 @@ impl Total {
     fn suffices(&self) {
         assert!(self.inputs >= AT_LEAST, "fewer than {AT_LEAST} inputs");
         let (address, others) = self.answers.split_last().expect("twenty numbers");
-        assert!(
-            others.iter().all(|count| *count > 0),
-            "some refusal never came"
-        );
+        assert!(others.iter().all(|count| *count > 0), "some refusal never came");
         assert_eq!(*address, 0, "ADDRESS came");
     }
 }
