@@ -8,12 +8,14 @@ use std::fmt::Debug;
 
 use reference::{Answer, Reading};
 
+use crate::counts::Counts;
 use crate::library;
 use crate::make::DeviceKey;
 use crate::random::Random;
+use crate::rings::RingCalls;
 
 const ROOM: u32 = 16;
-const MARGIN: usize = 16;
+pub(crate) const MARGIN: usize = 16;
 /// An input longer than this is shown by its first bytes; the seed and its number make it again.
 const SHOWN: usize = 8192;
 
@@ -24,13 +26,14 @@ pub struct Comparison {
     pub random: Random,
     pub inputs: u64,
     pub calls: u64,
-    /// How often each number was answered.
-    pub answers: [u64; 20],
+    pub answers: Counts,
+    /// The calls that the reference's are compared with on regions; the library's but where a control plants errors.
+    pub rings: RingCalls,
     /// Whether exactly the memory needed is lent, as for outputs too long to write often.
     pub exact: bool,
     /// The library's and the reference's lent memory, with margins.
-    ours: Vec<u8>,
-    theirs: Vec<u8>,
+    pub(crate) ours: Vec<u8>,
+    pub(crate) theirs: Vec<u8>,
 }
 
 /// A call that takes a file or a wrapper and lent memory.
@@ -68,7 +71,8 @@ impl Comparison {
             random: Random::new(seed),
             inputs: 0,
             calls: 0,
-            answers: [0; 20],
+            answers: Counts::default(),
+            rings: library::RINGS,
             exact: false,
             ours: vec![],
             theirs: vec![],
@@ -143,7 +147,7 @@ impl Comparison {
         let before = fingerprint(message);
         let ours = library::message_read(message);
         let reading = self.same("message_read", &[message], ours, reference::message_read(message));
-        self.answers[reading.number as usize] += 1;
+        self.answers.add(reading.number);
         if reading.number == 0 {
             self.write_again(message, reading);
         }
@@ -181,7 +185,7 @@ impl Comparison {
     /// A call that answers a number and a place.
     fn answer(&mut self, call: &str, inputs: &[&[u8]], ours: Answer, theirs: Answer) -> Answer {
         self.same(call, inputs, ours, theirs);
-        self.answers[theirs.number as usize] += 1;
+        self.answers.add(theirs.number);
         theirs
     }
 
@@ -266,14 +270,14 @@ impl Comparison {
         &self.ours[MARGIN..self.ours.len() - MARGIN]
     }
 
-    fn unchanged(&self, before: u64, input: &[u8]) {
+    pub(crate) fn unchanged(&self, before: u64, input: &[u8]) {
         if before != fingerprint(input) {
             self.fail("some call", &[input], "the input was changed");
         }
     }
 
     /// Ends the run, and shows all that is needed to see the difference again.
-    fn fail(&self, call: &str, inputs: &[&[u8]], what: &str) -> ! {
+    pub(crate) fn fail(&self, call: &str, inputs: &[&[u8]], what: &str) -> ! {
         let shown: Vec<String> = inputs.iter().map(|input| hex(input)).collect();
         panic!(
             "{} (seed {:#x}), input {}: {call}\n{what}\n{}",
@@ -291,7 +295,7 @@ fn pattern(salt: u8) -> [u8; 251] {
 }
 
 /// Lays the pattern over `length` bytes and a margin on both sides.
-fn lay_pattern(memory: &mut Vec<u8>, length: usize, salt: u8) {
+pub(crate) fn lay_pattern(memory: &mut Vec<u8>, length: usize, salt: u8) {
     let whole = length + 2 * MARGIN;
     memory.clear();
     memory.reserve(whole);
@@ -322,7 +326,7 @@ fn pattern_stands(memory: &[u8], written: usize, salt: u8) -> bool {
 }
 
 /// A number that changes with every byte of the input.
-fn fingerprint(input: &[u8]) -> u64 {
+pub(crate) fn fingerprint(input: &[u8]) -> u64 {
     let mut words = input.chunks_exact(8);
     let mixed = words.by_ref().fold(input.len() as u64, |mixed, word| {
         let word = u64::from_le_bytes(word.try_into().expect("eight bytes"));
