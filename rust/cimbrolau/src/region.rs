@@ -23,9 +23,10 @@
 //! ```
 
 use crate::raw;
-use crate::records::{self, u32_at};
+use crate::records::u32_at;
 use crate::refusal::{outcome, Kind, Refusal, Result};
 use std::fmt;
+use std::ops::Range;
 
 /// The most queues that a region has.
 pub const MOST_QUEUES: usize = 64;
@@ -511,10 +512,28 @@ impl Ring<'_> {
     /// # Ok::<(), cimbrolau::Refusal>(())
     /// ```
     pub fn take(&mut self) -> Result<&[u8]> {
-        let taken = raw::ring_take(self.region.bytes, self.queue);
-        outcome(taken.number, taken.place)?;
-        let payload = records::part(self.region.bytes, taken.payload_place, taken.payload_length);
-        Ok(payload.expect("the payload of a record that was taken stands in the region"))
+        let place = self.take_place()?;
+        Ok(&self.region.bytes[place])
+    }
+
+    /// The same, and where the payload stands in the region's bytes. Nothing keeps it there: a producer may write over it from
+    /// the next reservation on.
+    ///
+    /// ```
+    /// use cimbrolau::region::{layout, Plan, Region};
+    /// let mut bytes = layout(&[Plan { kind: 0, capacity: 64 }])?;
+    /// let mut region = Region::open(&mut bytes)?;
+    /// region.ring(0)?.send(b"tank 15")?;
+    /// let place = region.ring(0)?.take_place()?;
+    /// assert_eq!(place, 52..59); // behind the ring's header at 32 and the record's length at 48
+    /// assert_eq!(&region.bytes()[place], b"tank 15");
+    /// # Ok::<(), cimbrolau::Refusal>(())
+    /// ```
+    pub fn take_place(&mut self) -> Result<Range<usize>> {
+        let raw::Record { number, place, payload_place, payload_length } =
+            raw::ring_take(self.region.bytes, self.queue);
+        outcome(number, place)?;
+        Ok(payload_place as usize..(payload_place + payload_length) as usize)
     }
 
     /// Whether a pair is of this queue.
