@@ -13,6 +13,12 @@ use rows::Row;
 use std::process::ExitCode;
 
 fn main() -> ExitCode {
+    let wanted = std::env::args().nth(1);
+    let chosen = |name: &str| wanted.as_ref().is_none_or(|word| word == name);
+    if !rows::GROUPS.iter().any(|(name, _)| chosen(name)) {
+        eprintln!("there are no such rows; see the first lines of rust/bench/src/main.rs");
+        return ExitCode::FAILURE;
+    }
     match disassembly::look() {
         Ok(found) => {
             println!("The library's copy is a `memmove`: {}.\n", found.copies);
@@ -28,7 +34,6 @@ fn main() -> ExitCode {
     println!("Control, the reference beside itself: check {check:.2}, canonical {canonical:.2}\n");
     println!("| call | input | library | peer | ratio | target | | of memcpy |");
     println!("|---|---|---:|---:|---:|---:|---|---:|");
-    let wanted = std::env::args().nth(1);
     let (mut met, mut missed) = (0, Vec::new());
     let mut tell = |row: Row| {
         println!("{}", line(&row));
@@ -45,7 +50,7 @@ fn main() -> ExitCode {
         }
     };
     for (name, measure) in rows::GROUPS {
-        if wanted.as_ref().is_none_or(|word| word == name) {
+        if chosen(name) {
             measure(&mut tell);
         }
     }

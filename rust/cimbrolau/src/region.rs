@@ -168,9 +168,15 @@ impl Cursors {
 /// assert_eq!(region.ring(0)?.take()?, b"tank 15");
 /// # Ok::<(), cimbrolau::Refusal>(())
 /// ```
-#[derive(Debug)]
 pub struct Region<'a> {
     bytes: &'a mut [u8],
+}
+
+/// Its length; the bytes themselves would be many.
+impl fmt::Debug for Region<'_> {
+    fn fmt(&self, f: &mut fmt::Formatter<'_>) -> fmt::Result {
+        f.debug_struct("Region").field("length", &self.bytes.len()).finish()
+    }
 }
 
 impl<'a> Region<'a> {

@@ -57,6 +57,7 @@ impl Comparison {
     /// Every call that takes a region, on queues that it has and on some that it lacks, none of which
     /// changes the region given; the answer to `region_check`.
     pub fn region(&mut self, region: &[u8]) -> Answer {
+        let input = self.inputs + 1;
         let answer = self.region_check(region);
         let count = region.get(12).copied().unwrap_or(0);
         let some = u32::from(self.random.u8() % count.clamp(1, 64));
@@ -64,6 +65,7 @@ impl Comparison {
         for queue in [0, some, edge] {
             self.every_call(region, queue);
         }
+        self.inputs = input; // one, though several calls had it
         answer
     }
 
