@@ -20,7 +20,7 @@ use Rattle.region.specs.Report.{signedOf, asCursors, reportCall}
 use Rattle.region.proofs.Taken.{region-taken}
 use Rattle.rings.specs.Records.{skip}
 use Rattle.rings.specs.Calls.{stored, reserveCall, fillStores, fillCall, commitCall, skipAt, takeIn, takeCall}
-use Rattle.rings.specs.Use.{Used, begins, reserves, fills, commits, Drains}
+use Rattle.rings.specs.Use.{Used, begins, steps, reserves, fills, commits, Drains}
 use Rattle.rings.proofs.Using.{comes}
 
 -- head, reserve and commit at p
@@ -111,7 +111,7 @@ unfolding one below leAt le bytesOf
 begun = begins (bytes-of b₀ refl) (region-taken b₀ .0 (examples .whole)) (omega arith) (refl, refl)
 
 pub sent : Used 0 b₃ (m ∷ []) []
-sent = commits (fills [] _ [] (reserves begun 5 (examples .reserve)) m (examples .fill)) refl (examples .commit)
+sent = steps (steps (steps begun (reserves 5 (examples .reserve))) (fills [] _ [] m (examples .fill))) (commits refl (examples .commit))
 
 pub found : Drains 0 b₃ (m ∷ [])
 found = comes (m ∷ []) sent
