@@ -242,7 +242,7 @@ unfolding writeMessage
 wrote k d old new r typed w z =
     let v = demand1 .message-write k d .writes old new r w z in
     let y = checked-pass (writeChecks (paper k) d ++ room (length old) (length (written k d))) (taken (written k d)) (v .0) (v .1) in
-    let e : take (r .place) new ≡ v .0 = rw (v .3, v .4) (take-append-seam (v .0) (drop (length (v .0)) old)) in
+    let e : take (r .place) new ≡ v .0 = ap (λ (n : ℕ). take n new) (v .3) ∙ ap (take (length (v .0))) (v .4) ∙ take-append-seam (v .0) (drop (length (v .0)) old) in
     record { typed = typed; passes = append-pass (writeChecks (paper k) d) _ (y .0) .0; bytes = taken-is (y .1) ∙ sym e }
 
 sent : (k : Message) (d old new : List ℕ) (r : Answer) → Within (cells (paper k)) → Writes (writeMessage k d (length old)) old r new → r .number ≡ 0
@@ -259,7 +259,7 @@ pub rings : Rings
 rings = record {
   calls = calls;
   rules = rules;
-  use = record {
+  none-or-all = record {
     comes = λ {ms = ms} u. comes ms u;
     none-or-all = λ {ms = ms} u s. none-or-all ms u s;
     goes-on = λ u s. goes-on u s;

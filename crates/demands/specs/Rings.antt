@@ -125,7 +125,7 @@ pub record Through : Type 0 where
 pub record Rings : Type 0 where
   pub calls : RegionCalls
   pub rules : RegionRules
-  pub use : NoneOrAll
+  pub none-or-all : NoneOrAll
   pub handing : Handing
   pub others : OtherQueues
   pub through : Through
