@@ -8,11 +8,11 @@ use native.Mathlib.Omega.{arith}
 use lib.ListN.{length, take, drop}
 use lib.Seq.{take-append-seam}
 use lib.Dec.{leb, eqb}
-use borrow.Author.Tests.{leb-true}
-use Rattle.answer.specs.Numbers.{SHORT, SHAPE, LIMIT, KEY, TEXT, VALUE, TAG, ADDRESS, isFault}
+use Rattle.answer.specs.Numbers.{SHAPE, LIMIT, KEY, TEXT, VALUE, isFault}
 use Rattle.answer.specs.Outcome.{Outcome, taken, refused, Faulty, Checks, checked, after, moved, shift, room, fitting}
 use Rattle.answer.specs.Calls.{asked, verdict, answer, memory, Writes}
 use Rattle.answer.specs.declared.Answer.{Answer}
+use Rattle.answer.proofs.Table.{fault-some}
 use Rattle.wire.specs.Numbers.{leAt}
 use Rattle.utf8.specs.Scan.{isText}
 use Rattle.format.specs.Format.{Format, block, sized, option, pair, read, sizedChecks, optionChecks, values, text}
@@ -179,19 +179,11 @@ Nonzero n = 1 ≤ n
 abbrev pub Named : {A : Type 0} → Outcome A → Type 0
 Named o = Refuses Nonzero o
 
-fault-number : (n : ℕ) → isFault n ≡ true → 1 ≤ n
-fault-number n h = go (leb SHORT n) refl (leb TAG n) refl h
-  where
-    go : (a : Bool) → leb SHORT n ≡ a → (c : Bool) → leb TAG n ≡ c → ((a && leb n VALUE) || (c && leb n ADDRESS)) ≡ true → 1 ≤ n
-    go true p c q e = leb-true SHORT n p
-    go false p true q e = omega (arith, leb-true TAG n q)
-    go false p false q e = let z : _≡_ {A = ℕ} 0 1 = cc in absurd (omega arith)
-
 pub content-faulty : (s : List ℕ) → Faulty (contentAt s)
 content-faulty s = after-faulty (fileOf s) (λ l. taken (contentOf l)) (file-faulty s) (λ _. tt)
 
 content-named : (s : List ℕ) → Named (contentAt s)
-content-named s = refuses-more (λ n. isFault n ≡ true) Nonzero fault-number (contentAt s) (content-faulty s)
+content-named s = refuses-more (λ n. isFault n ≡ true) Nonzero fault-some (contentAt s) (content-faulty s)
 
 fitting-named : (have : ℕ) (b : List ℕ) → Named (fitting have b)
 fitting-named have b = checked-refuses Nonzero (room have (length b)) (taken b) (omega arith, tt) tt

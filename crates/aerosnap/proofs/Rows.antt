@@ -9,7 +9,7 @@ use lib.ListN.{length, drop, length-append}
 use Rattle.answer.specs.Outcome.{Outcome, taken}
 use Rattle.order.specs.Keyed.{Every, flat}
 use Rattle.lists.specs.Lists.{listAt, startsIn}
-use Rattle.tables.specs.Tables.{described, framedRow, rowsAt}
+use Rattle.tables.specs.Tables.{ROW, described, framedRow, rowsAt}
 use Rattle.tables.specs.declared.Table.{Table}
 use Rattle.tables.specs.declared.Table.the-variants.{Devices}
 use Rattle.tables.proofs.Rows.{length-row}
@@ -25,8 +25,8 @@ pub rows-end : (rows : ℕ × List ℕ → List ℕ) (at : ℕ) → flat rows (p
 unfolding placed
 rows-end rows at = refl
 
--- the table of sections has 24 bytes for each
-pub sections-length : (at : ℕ) (l : List (List ℕ)) → length (flat (λ q. framedRow (q .0) (q .1)) (placed at l)) ≡ 24 * length l
+-- the table of sections has ROW bytes for each
+pub sections-length : (at : ℕ) (l : List (List ℕ)) → length (flat (λ q. framedRow (q .0) (q .1)) (placed at l)) ≡ ROW * length l
 unfolding placed
 sections-length at [] = refl
 sections-length at (e ∷ l) = omega (arith, length-append (framedRow at e) (flat (λ q. framedRow (q .0) (q .1)) (placed (at + length e) l)), length-row Devices at e, sections-length (at + length e) l)

@@ -1,8 +1,9 @@
--- The refusals of document 01's table, by name.
+-- The refusals by name, and the one list of those that are taken.
 -- Assumes nothing.
-use mathlib.Core.Bool.{Bool, _&&_, _||_}
+use mathlib.Core.List.{List, [], _∷_, _++_}
+use mathlib.Core.Bool.{Bool, false, _||_}
 use Prim.Native.Nat.{ℕ}
-use lib.Dec.{leb}
+use lib.Dec.{eqb}
 
 -- file or wrapper under 16 bytes
 abbrev pub SHORT : ℕ
@@ -106,6 +107,30 @@ RECORD = 24
 abbrev pub TURN : ℕ
 TURN = 29
 
--- the number of a fault of the input: any of these but ROOM and HAVE
+-- ---- which of them a call gives: a number is added or removed in one line
+
+-- a fault of an input: of a file, a wrapper or a message
+abbrev pub faults : List ℕ
+faults = SHORT ∷ MAGIC ∷ VERSION ∷ ENDIAN ∷ RESERVED ∷ SIZE ∷ CUT ∷ MANY ∷ TWICE ∷ SECVER ∷ SHAPE ∷ LIMIT ∷ KEY ∷ TEXT ∷ VALUE ∷ TAG ∷ ADDRESS ∷ []
+
+-- what only a call that writes gives
+abbrev pub ofWriting : List ℕ
+ofWriting = ROOM ∷ HAVE ∷ []
+
+-- what only a ring gives
+abbrev pub ofRings : List ℕ
+ofRings = REGION ∷ BIG ∷ FULL ∷ EMPTY ∷ RECORD ∷ TURN ∷ []
+
+-- all numbers that are taken; no call refuses with another
+abbrev pub numbers : List ℕ
+numbers = faults ++ (ofWriting ++ ofRings)
+
+abbrev pub isAmong : List ℕ → ℕ → Bool
+isAmong [] n = false
+isAmong (m ∷ l) n = eqb n m || isAmong l n
+
+abbrev pub isNumber : ℕ → Bool
+isNumber = isAmong numbers
+
 abbrev pub isFault : ℕ → Bool
-isFault n = (leb SHORT n && leb n VALUE) || (leb TAG n && leb n ADDRESS)
+isFault = isAmong faults

@@ -2,7 +2,7 @@
 -- Assumes nothing.
 use mathlib.Core.Path.{_≡_, refl, sym, ap, _∙_}
 use mathlib.Core.Logic.{_≢_, _↔_}
-use mathlib.Core.Bool.{Bool, true, false, cond, _&&_, _||_}
+use mathlib.Core.Bool.{Bool, true, false, cond}
 use mathlib.Core.List.{List, [], _∷_, _++_}
 use Prim.Native.Nat.{ℕ, _≤_, _<_}
 use native.Mathlib.Omega.{arith}
@@ -10,11 +10,12 @@ use borrow.Author.Tests.{leb-true, leb-false, le-leb}
 use lib.Dec.{leb, eqb}
 use lib.ListN.{length, drop}
 use Rattle.answer.specs.declared.Answer.{Answer}
-use Rattle.answer.specs.Numbers.{SHORT, VALUE, ROOM, TAG, ADDRESS, isFault}
+use Rattle.answer.specs.Numbers.{VALUE, ROOM, isNumber, isFault}
 use Rattle.answer.specs.Outcome.{Outcome, taken, refused, Faulty, Checks, checked, after, room, fitting}
 use Rattle.answer.specs.Calls.{verdict, answer, Writes}
 use Rattle.answer.proofs.Checks.{checked-after, checked-append}
 use Rattle.answer.proofs.Outcomes.{after-after}
+use Rattle.answer.proofs.Table.{number-some, fault-number, fault-no-room}
 use Rattle.answer.proofs.Once.{equal-once, writes-once}
 use Rattle.order.specs.Keyed.{Every, flat, sort}
 use Rattle.order.proofs.Folds.{every-append}
@@ -45,25 +46,16 @@ use Rattle.demands.proofs.Faults.{wrapper-faulty, message-faulty}
 
 -- ---- numbers
 
--- a number of the table other than ROOM
+-- a number of the list other than ROOM
 abbrev Plain : ℕ → Type 0
-Plain n = (SHORT ≤ n) × (n ≤ ADDRESS) × (n ≢ ROOM)
+Plain n = (isNumber n ≡ true) × (n ≢ ROOM)
 
 -- the outcome of a call before its room is looked at
 abbrev Unroomed : {A : Type 0} → Outcome A → Type 0
 Unroomed o = Refuses Plain o
 
 plain : (n : ℕ) → isFault n ≡ true → Plain n
-plain n h = go (leb SHORT n) (leb n VALUE) (leb TAG n) (leb n ADDRESS) refl refl refl refl h
-  where
-    go : (a b c d : Bool) → leb SHORT n ≡ a → leb n VALUE ≡ b → leb TAG n ≡ c → leb n ADDRESS ≡ d → ((a && b) || (c && d)) ≡ true → Plain n
-    go true true c d p q r s h = (leb-true SHORT n p, omega (arith, leb-true n VALUE q), λ e. omega (arith, leb-true n VALUE q))
-    go true false true true p q r s h = (leb-true SHORT n p, leb-true n ADDRESS s, λ e. omega (arith, leb-true TAG n r))
-    go true false true false p q r s h = let z : _≡_ {A = ℕ} 0 1 = cc in absurd (omega arith)
-    go true false false d p q r s h = let z : _≡_ {A = ℕ} 0 1 = cc in absurd (omega arith)
-    go false b true true p q r s h = absurd (omega (arith, leb-false SHORT n p, leb-true TAG n r))
-    go false b true false p q r s h = let z : _≡_ {A = ℕ} 0 1 = cc in absurd (omega arith)
-    go false b false d p q r s h = let z : _≡_ {A = ℕ} 0 1 = cc in absurd (omega arith)
+plain n h = (fault-number n h, fault-no-room n h)
 
 faulty-unroomed : {A : Type 0} (o : Outcome A) → Faulty o → Unroomed o
 faulty-unroomed o h = refuses-more (λ n. isFault n ≡ true) Plain plain o h
@@ -77,7 +69,7 @@ Rows = Every (λ c. Plain (c .1))
 unroomed-zero : {A : Type 0} (o : Outcome A) → Unroomed o → (r : Answer) → r ≡ verdict o → (r .number ≡ 0) ↔ Taken o
 unroomed-zero (taken a) h r e = ((λ z. (a, refl)), λ t. ap (λ (x : Answer). x .number) e)
 unroomed-zero {A} (refused n p) h r e = (
-  (λ z. absurd (omega (arith, ap (λ (x : Answer). x .number) e, h .0))),
+  (λ z. absurd (omega (arith, ap (λ (x : Answer). x .number) e, number-some n (h .0)))),
   λ (a, t). let z : _≡_ {A = ℕ} 0 1 = cc in absurd (omega arith),
 )
 
@@ -87,7 +79,7 @@ answers o h = record { faults = h; zero = unroomed-zero o (faulty-unroomed o h);
 reads-zero : (o : Outcome MessageContent) → Unroomed o → (r : Reading) → r ≡ reading o → (r .number ≡ 0) ↔ Taken o
 reads-zero (taken a) h r e = ((λ z. (a, refl)), λ t. ap (λ (x : Reading). x .number) e)
 reads-zero (refused n p) h r e = (
-  (λ z. absurd (omega (arith, ap (λ (x : Reading). x .number) e, h .0))),
+  (λ z. absurd (omega (arith, ap (λ (x : Reading). x .number) e, number-some n (h .0)))),
   λ (a, t). let z : _≡_ {A = ℕ} 0 1 = cc in absurd (omega arith),
 )
 
@@ -120,8 +112,8 @@ fitted-table have (taken b) h = go (leb (length b) have)
   where
     go : (t : Bool) → InTable {A = List ℕ} (checked ((t, ROOM, length b) ∷ []) (taken b))
     go true = tt
-    go false = (omega arith, omega arith)
-fitted-table have (refused n p) h = (h .0, h .1)
+    go false = refl
+fitted-table have (refused n p) h = h .0
 
 fitted-writes : (c : Outcome (List ℕ)) → Unroomed c → (old new : List ℕ) (r : Answer) → Writes (after c (fitting (length old))) old r new → r .number ≡ 0
     → (b : List ℕ) × (after c (fitting (length old)) ≡ taken b) × (length b ≤ length old) × (r .place ≡ length b) × (new ≡ b ++ drop (length b) old)
@@ -131,7 +123,7 @@ fitted-writes (taken b) h old new r w z = go (leb (length b) (length old)) refl 
         → (a : List ℕ) × (checked ((t, ROOM, length b) ∷ []) (taken b) ≡ taken a) × (length a ≤ length old) × (r .place ≡ length a) × (new ≡ a ++ drop (length a) old)
     go true e w = (b, refl, leb-true _ _ e, place-is w, w .leaves)
     go false e w = absurd (omega (arith, number-is w))
-fitted-writes (refused n p) h old new r w z = absurd (omega (arith, number-is w, h .0))
+fitted-writes (refused n p) h old new r w z = absurd (omega (arith, number-is w, number-some n (h .0)))
 
 fitted-room : (c : Outcome (List ℕ)) → Unroomed c → (old new : List ℕ) (r : Answer) → Writes (after c (fitting (length old))) old r new → r .number ≡ ROOM
     → (length old < r .place) × ((b : List ℕ) × (after c (fitting (r .place)) ≡ taken b) × (length b ≡ r .place))
@@ -143,7 +135,7 @@ fitted-room (taken b) h old new r w z = go (leb (length b) (length old)) refl w
     go false e w =
         let p : r .place ≡ length b = place-is w in
         (omega (arith, leb-false (length b) (length old) e), (b, rw (le-leb (length b) (r .place) (omega arith)), sym p))
-fitted-room (refused n p) h old new r w z = absurd (h .2 (sym (number-is w) ∙ z))
+fitted-room (refused n p) h old new r w z = absurd (h .1 (sym (number-is w) ∙ z))
 
 fills : (o : ℕ → Outcome (List ℕ)) → Core o → Fills o
 fills o k = record {
@@ -172,7 +164,7 @@ own-rows (device id v f p) = (plain 12 refl, tt)
 own-rows (disk id x y) = (plain 12 refl, (plain 14 refl, tt))
 
 add-rows : (x : Item) (c : Content) → Rows (ownChecks x ++ addChecks x c (put x c))
-add-rows x c = every-append _ (ownChecks x) (addChecks x c (put x c)) (own-rows x) ((omega arith, omega arith, λ e. omega arith), (plain 12 refl, (plain 12 refl, (plain 8 refl, (plain 6 refl, tt)))))
+add-rows x c = every-append _ (ownChecks x) (addChecks x c (put x c)) (own-rows x) ((refl, λ e. omega arith), (plain 12 refl, (plain 12 refl, (plain 8 refl, (plain 6 refl, tt)))))
 
 add-core : (s : List ℕ) (x : Item) → Core (λ have. addItem have s x)
 unfolding addItem addTo

@@ -28,8 +28,8 @@ pub use Rattle.messages.proofs.Once.{said-once}
 pub use Rattle.aipc.proofs.Once.{read-once as aipc-read-once, write-once as aipc-write-once}
 -- numbers: numbers_of; message_of; read; write
 pub use Rattle.numbers.proofs.Once.{numbers-of-once, message-of-once, read-once as numbers-read-once, write-once as numbers-write-once}
--- region: ahead; offset_of; ring_at; check_region; check_queue; report
-pub use Rattle.region.proofs.Once.{ahead-once, offset-of-once, ring-at-once, check-region-once, check-queue-once, report-once}
+-- region: ahead; offset_of; ring_at; check; check_queue; report
+pub use Rattle.region.proofs.Once.{ahead-once, offset-of-once, ring-at-once, check-once as check-region-once, check-queue-once, report-once}
 -- rings: reserve; fill; commit; take
 pub use Rattle.rings.proofs.Once.{reserve-once, fill-once, commit-once, take-once}
 -- payloads: index

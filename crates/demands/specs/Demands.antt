@@ -3,12 +3,13 @@
 -- They are statements only; proofs/ has their proofs.
 -- Assumes nothing.
 use mathlib.Core.Path.{_≡_}
+use mathlib.Core.Bool.{true}
 use mathlib.Core.Logic.{_≢_, _↔_, _⊎_}
 use mathlib.Core.List.{List, [], _∷_, _++_, List·Permᴰ, Perm}
 use Prim.Native.Nat.{ℕ, _≤_, _<_, _^_}
 use lib.ListN.{length, take, drop}
 use Rattle.answer.specs.declared.Answer.{Answer}
-use Rattle.answer.specs.Numbers.{SHORT, ROOM, ADDRESS}
+use Rattle.answer.specs.Numbers.{ROOM, isNumber}
 use Rattle.answer.specs.Outcome.{Outcome, taken, refused, Faulty, Pass, room, First}
 use Rattle.answer.specs.Calls.{verdict, Writes}
 use Rattle.wire.specs.Numbers.{Bytes}
@@ -44,10 +45,10 @@ use Rattle.numbers.specs.Numbers.{numbersOf, writeNumbers}
 abbrev pub Taken : {A : Type 0} → Outcome A → Type 0
 Taken {A} o = (a : A) × (o ≡ taken a)
 
--- a refusal has a number of document 01's table, 1 to 19
+-- a refusal has a number of the list
 abbrev pub InTable : {A : Type 0} → Outcome A → Type 0
 InTable (taken a) = Unit {0}
-InTable (refused n p) = (SHORT ≤ n) × (n ≤ ADDRESS)
+InTable (refused n p) = isNumber n ≡ true
 
 -- a call that writes nothing: it refuses for a fault of the input alone, which is never ROOM or HAVE; its number is 0 exactly if the input is taken, and any two answers that the promise allows are equal
 pub record Answers {A : Type 0} (o : Outcome A) : Type 0 where

@@ -1,6 +1,7 @@
 // Lists a snapshot file that is read from standard input: a heading, a line for each section, then its devices and its disks in key order.
 // A file of more than 32,768 bytes prints `too long`; a refusal prints only its number and its place.
 use answer::Answer;
+use tables::ROW;
 
 const IN: i32 = 0;
 
@@ -58,10 +59,10 @@ fn lines(what: u8, table: &[u8], n: u64) {
     let mut at: u64 = 0;
     while at < n {
         line(what, wire::tail(table, at as usize));
-        if n - at < 24 {
+        if n - at < (ROW as u64) {
             return;
         }
-        at += 24;
+        at += ROW as u64;
     }
 }
 

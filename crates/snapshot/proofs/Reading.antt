@@ -19,7 +19,7 @@ use Rattle.wire.proofs.Calls.{writes-refused, writes-taken}
 use Rattle.order.specs.Keyed.{flat}
 use Rattle.lists.specs.Lists.{listAt, startsIn}
 use Rattle.tables.specs.declared.Table.{Table}
-use Rattle.tables.specs.Tables.{described, framedRow, rowsAt}
+use Rattle.tables.specs.Tables.{ROW, described, framedRow, rowsAt}
 use Rattle.tables.proofs.Rows.{length-rows, rows-all}
 use Rattle.aerosnap.specs.Payloads.{list, bodyOf}
 use Rattle.aerosnap.specs.File.{idOf, versionOf, fileOf}
@@ -76,22 +76,22 @@ module _ (s old : List ℕ) {n : ℕ} (h : taken n ≡ counted (fileOf s)) where
   pub sections-few : n ≤ 64
   sections-few = let w = counted-taken (fileOf s) h in omega (arith, w .2, file-sound s (w .1) .1 .few)
 
-  need : length (sectionRows 16 (counted-taken (fileOf s) h .0)) ≡ 24 * n
-  need = let w = counted-taken (fileOf s) h in length-sections 16 (w .0) ∙ ap (λ (k : ℕ). 24 * k) (sym (w .2))
+  need : length (sectionRows 16 (counted-taken (fileOf s) h .0)) ≡ ROW * n
+  need = let w = counted-taken (fileOf s) h in length-sections 16 (w .0) ∙ ap (λ (k : ℕ). ROW * k) (sym (w .2))
 
-  pub sections-short : length old < 24 * n → Writes (sectionTable (length old) s) old (record { number = ROOM; place = 24 * n }) old
+  pub sections-short : length old < ROW * n → Writes (sectionTable (length old) s) old (record { number = ROOM; place = ROW * n }) old
   sections-short k =
       let w = counted-taken (fileOf s) h in
-      writes-refused (table-of s (λ q. framedRow (q .0) (q .1)) (length old) (w .1) ∙ rw (need, lt-leb (24 * n) (length old) k))
+      writes-refused (table-of s (λ q. framedRow (q .0) (q .1)) (length old) (w .1) ∙ rw (need, lt-leb (ROW * n) (length old) k))
 
-  pub sections-ready : 24 * n ≤ length old → (l : List (List ℕ)) × (fileOf s ≡ taken l) × (24 * length l ≤ length old)
+  pub sections-ready : ROW * n ≤ length old → (l : List (List ℕ)) × (fileOf s ≡ taken l) × (ROW * length l ≤ length old)
   sections-ready k = let w = counted-taken (fileOf s) h in (w .0, w .1, omega (arith, w .2))
 
-  pub sections-done : 24 * n ≤ length old → {new : List ℕ} → ((l : List (List ℕ)) → fileOf s ≡ taken l → Wrote (sectionRows 16 l) old new (24 * length l))
-      → Writes (sectionTable (length old) s) old (record { number = 0; place = 24 * n }) new
+  pub sections-done : ROW * n ≤ length old → {new : List ℕ} → ((l : List (List ℕ)) → fileOf s ≡ taken l → Wrote (sectionRows 16 l) old new (ROW * length l))
+      → Writes (sectionTable (length old) s) old (record { number = 0; place = ROW * n }) new
   sections-done k {new} so =
       let w = counted-taken (fileOf s) h in
-      writes-taken {b = sectionRows 16 (w .0)} (table-of s (λ q. framedRow (q .0) (q .1)) (length old) (w .1) ∙ rw (need, le-leb (24 * n) (length old) k)) (subst (λ (j : ℕ). Wrote (sectionRows 16 (w .0)) old new (24 * j)) (sym (w .2)) (so (w .0) (w .1)))
+      writes-taken {b = sectionRows 16 (w .0)} (table-of s (λ q. framedRow (q .0) (q .1)) (length old) (w .1) ∙ rw (need, le-leb (ROW * n) (length old) k)) (subst (λ (j : ℕ). Wrote (sectionRows 16 (w .0)) old new (ROW * j)) (sym (w .2)) (so (w .0) (w .1)))
 
 -- ---- the table of the list with an id
 
@@ -135,18 +135,18 @@ module _ {t : Table} {i : ℕ} {s index : List ℕ} {p first : ℕ} (x : Lists t
       count : length (take (first + n - first) (drop first index)) ≡ n
       count = length-take-le (first + n - first) (drop first index) (omega (arith, list-inside, length-drop first index)) ∙ omega arith
 
-      rows-long : length rows ≡ 24 * n
-      rows-long = length-rows t (p + 16) (take (e - (p + 16)) (drop (p + 16) s)) (take (first + n - first) (drop first index)) ∙ ap (λ (m : ℕ). 24 * m) count
+      rows-long : length rows ≡ ROW * n
+      rows-long = length-rows t (p + 16) (take (e - (p + 16)) (drop (p + 16) s)) (take (first + n - first) (drop first index)) ∙ ap (λ (m : ℕ). ROW * m) count
 
       is-table : (have : ℕ) → table (listRows t i) have s ≡ fitting have rows
       is-table have = table-of s (listRows t i) have (x .read) ∙ ap (fitting have) all
 
-      pub list-short : (old : List ℕ) → length old < 24 * n → Writes (table (listRows t i) (length old) s) old (record { number = ROOM; place = 24 * n }) old
-      list-short old h = writes-refused (is-table (length old) ∙ rw (rows-long, lt-leb (24 * n) (length old) h))
+      pub list-short : (old : List ℕ) → length old < ROW * n → Writes (table (listRows t i) (length old) s) old (record { number = ROOM; place = ROW * n }) old
+      list-short old h = writes-refused (is-table (length old) ∙ rw (rows-long, lt-leb (ROW * n) (length old) h))
 
-      pub list-done : {old new : List ℕ} {r : ℕ} → 24 * n ≤ length old
-          → Wrote (rowsAt t (p + 16) (take (e - (p + 16)) (drop (p + 16) s)) (take (length old / 24) (take (first + n - first) (drop first index)))) old new r
-          → Writes (table (listRows t i) (length old) s) old (record { number = 0; place = 24 * n }) new
+      pub list-done : {old new : List ℕ} {r : ℕ} → ROW * n ≤ length old
+          → Wrote (rowsAt t (p + 16) (take (e - (p + 16)) (drop (p + 16) s)) (take (length old / ROW) (take (first + n - first) (drop first index)))) old new r
+          → Writes (table (listRows t i) (length old) s) old (record { number = 0; place = ROW * n }) new
       list-done {old} {new} h w =
           let v : Wrote rows old new _ = rw (rows-all (take (first + n - first) (drop first index)) (length old) (omega (arith, count))) at w in
-          writes-taken {b = rows} (is-table (length old) ∙ rw (rows-long, le-leb (24 * n) (length old) h)) (record { count = sym rows-long; bytes = v .bytes })
+          writes-taken {b = rows} (is-table (length old) ∙ rw (rows-long, le-leb (ROW * n) (length old) h)) (record { count = sym rows-long; bytes = v .bytes })

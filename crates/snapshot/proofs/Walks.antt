@@ -12,7 +12,7 @@ use Rattle.wire.proofs.Numbers.{leAt-append}
 use Rattle.wire.proofs.Filling.{Filling, filling-none, filling-end, filling-next-room, filling-next-fits, filling-next}
 use Rattle.writer.proofs.Fits.{wrote-first}
 use Rattle.order.specs.Entries.{join}
-use Rattle.tables.specs.Tables.{framedRow}
+use Rattle.tables.specs.Tables.{ROW, framedRow}
 use Rattle.tables.specs.declared.Table.the-variants.{Devices}
 use Rattle.tables.proofs.Rows.{length-row}
 use Rattle.aerosnap.specs.File.{fileOf}
@@ -26,7 +26,7 @@ use Rattle.snapshot.specs.Walks.{sectionRows}
 row-front : (p : ℕ) (e more : List ℕ) → 16 ≤ length e → framedRow p (e ++ more) ≡ framedRow p e
 row-front p e more h = cc (leAt-append 4 e more 0 (omega arith), leAt-append 2 e more 4 (omega arith), leAt-append 2 e more 6 (omega arith), leAt-append 8 e more 8 (omega arith))
 
-pub length-sections : (at : ℕ) (l : List (List ℕ)) → length (sectionRows at l) ≡ 24 * length l
+pub length-sections : (at : ℕ) (l : List (List ℕ)) → length (sectionRows at l) ≡ ROW * length l
 unfolding placed
 length-sections at [] = refl
 length-sections at (e ∷ l) = omega (arith, length-append (framedRow at e) (sectionRows (at + length e) l), length-row Devices at e, length-sections (at + length e) l)
@@ -37,13 +37,13 @@ pub record Rowing (s : List ℕ) (l : List (List ℕ)) (at t : ℕ) (old new : L
   pub stand : Stand s at left
   pub fill : Filling (sectionRows 16 l) old (sectionRows at left) t new
 
-pub rowing-start : (s old : List ℕ) → ((l : List (List ℕ)) × (fileOf s ≡ taken l) × (24 * length l ≤ length old)) → (l : List (List ℕ)) → fileOf s ≡ taken l → Rowing s l 16 0 old old
+pub rowing-start : (s old : List ℕ) → ((l : List (List ℕ)) × (fileOf s ≡ taken l) × (ROW * length l ≤ length old)) → (l : List (List ℕ)) → fileOf s ≡ taken l → Rowing s l 16 0 old old
 rowing-start s old (m, g, r) l h =
     let e : m ≡ l = taken-is (sym g ∙ h) in
     record { left = l; stand = stand-start s h; fill = filling-none (sectionRows 16 l) old (omega (arith, length-sections 16 l, ap length e)) }
 
 module _ {s : List ℕ} {l : List (List ℕ)} {at t : ℕ} {old new : List ℕ} (v : Rowing s l at t old new) where
-  pub rowing-done : length s ≤ at → Wrote (sectionRows 16 l) old new (24 * length l)
+  pub rowing-done : length s ≤ at → Wrote (sectionRows 16 l) old new (ROW * length l)
   unfolding placed
   rowing-done h = let w = filling-end (rw (finished (v .left) (v .stand) h) at (v .fill)) in record { count = sym (length-sections 16 l); bytes = w .bytes }
 
@@ -58,7 +58,7 @@ module _ {s : List ℕ} {l : List (List ℕ)} {at t : ℕ} {old new : List ℕ} 
     abbrev rest : List ℕ
     rest = sectionRows (endAt s at) (rowing-turn .more)
 
-    row-long : length row ≡ 24
+    row-long : length row ≡ ROW
     row-long = length-row Devices at (drop at s)
 
     split : sectionRows at (v .left) ≡ row ++ rest
@@ -75,8 +75,8 @@ module _ {s : List ℕ} {l : List (List ℕ)} {at t : ℕ} {old new : List ℕ} 
     parts = rw split at (v .fill)
 
     -- there is room for it
-    pub rowing-room : t + 24 ≤ length new
+    pub rowing-room : t + ROW ≤ length new
     rowing-room = omega (arith, filling-next-fits row rest parts, row-long)
 
-    pub rowing-next : {last : List ℕ} → last ≡ put 0 row (take (length new - t) (drop t new)) → Rowing s l (endAt s at) (t + 24) old (take t new ++ (last ++ drop (length new - t) (drop t new)))
+    pub rowing-next : {last : List ℕ} → last ≡ put 0 row (take (length new - t) (drop t new)) → Rowing s l (endAt s at) (t + ROW) old (take t new ++ (last ++ drop (length new - t) (drop t new)))
     rowing-next p = record { left = rowing-turn .more; stand = rowing-turn .next; fill = filling-next row rest parts (rw row-long at (wrote-first {bs = row} (filling-next-room row rest parts) p)) }

@@ -6,6 +6,7 @@ use answer::ROOM;
 use answer::TAKEN;
 use answer::Test;
 use sections::Spot;
+use tables::ROW;
 use tables::Table;
 ghost use mathlib.Core.Path.{_≡_};
 ghost use mathlib.Core.Bool.{true};
@@ -16,7 +17,7 @@ ghost use Rattle.answer.specs.Outcome.{taken, done};
 ghost use Rattle.answer.specs.Calls.{testOf, verdict, Writes};
 ghost use Rattle.wire.specs.Numbers.{leAt};
 ghost use Rattle.wire.specs.Parts.{Wrote};
-ghost use Rattle.tables.specs.Tables.{described};
+ghost use Rattle.tables.specs.Tables.{ROW, described};
 ghost use Rattle.aerosnap.specs.Known.{known};
 ghost use Rattle.aerosnap.specs.Payloads.{list, bodyOf};
 ghost use Rattle.aerosnap.specs.File.{fileOf};
@@ -61,15 +62,15 @@ fn end_at(file: &[u8], at: usize) -> usize
 
 // The records of a file's sections, each into the tail of the output from where the last ended.
 fn put_rows(file: &[u8], out: &mut [u8])
-    requires { ⌜ ((l : List (List ℕ)) × (fileOf (now file) ≡ taken l) × (24 * length l ≤ length (now out))) ⌝ }
-    ensures { λ _. ⌜ ((l : List (List ℕ)) → fileOf (now (file .entry)) ≡ taken l → Wrote (sectionRows 16 l) (now (out .entry)) (now (out .exit)) (24 * length l)) ⌝ }
+    requires { ⌜ ((l : List (List ℕ)) × (fileOf (now file) ≡ taken l) × (ROW * length l ≤ length (now out))) ⌝ }
+    ensures { λ _. ⌜ ((l : List (List ℕ)) → fileOf (now (file .entry)) ≡ taken l → Wrote (sectionRows 16 l) (now (out .entry)) (now (out .exit)) (ROW * length l)) ⌝ }
 {
     let mut at = 16;
     let mut t = 0;
     while at < file.len() {
         tables::put_section(&mut out[t..], at as u32, wire::tail(file, at));
         at = end_at(file, at);
-        t += 24;
+        t += ROW;
     }
 }
 
@@ -84,7 +85,7 @@ pub fn sections(file: &[u8], table: &mut [u8]) -> Answer
             place: place as u64,
         },
         Piece::Ends(n) => {
-            let need = 24 * n;
+            let need = ROW * n;
             if table.len() < need {
                 return Answer {
                     number: ROOM,
@@ -116,7 +117,7 @@ fn put_list(
     let b = at + 16;
     let e = end_at(file, at);
     let n = wire::u32_at(file, b) as usize;
-    let need = 24 * n;
+    let need = ROW * n;
     if table.len() < need {
         return Answer {
             number: ROOM,

@@ -10,10 +10,10 @@ use Rattle.answer.proofs.Once.{writes-once}
 use Rattle.wire.specs.Parts.{put, Wrote}
 use Rattle.wire.proofs.Once.{store-once, wrote-once}
 use Rattle.tables.specs.declared.Table.{Table}
-use Rattle.tables.specs.Tables.{framedRow, rowsAt, tableOf}
+use Rattle.tables.specs.Tables.{ROW, framedRow, rowsAt, tableOf}
 
 pub rows-once : (t : Table) (base : ℕ) (s starts old : List ℕ) {r q : ℕ} {new now : List ℕ}
-    → Wrote (rowsAt t base s (take (length old / 24) starts)) old new r → Wrote (rowsAt t base s (take (length old / 24) starts)) old now q → (r ≡ q) × (new ≡ now)
+    → Wrote (rowsAt t base s (take (length old / ROW) starts)) old new r → Wrote (rowsAt t base s (take (length old / ROW) starts)) old now q → (r ≡ q) × (new ≡ now)
 rows-once t base s starts old a b = wrote-once a b
 
 pub write-once : (t : Table) (have base : ℕ) (s : List ℕ) {old new now : List ℕ} {r p : Answer}

@@ -1,4 +1,4 @@
--- The records of a table: each has 24 bytes, and they follow one another.
+-- The records of a table: each has ROW bytes, and they follow one another.
 -- Assumes nothing.
 use mathlib.Core.Path.{_≡_, refl, sym, _∙_, ap}
 use mathlib.Core.List.{List, [], _∷_, _++_, append-nil}
@@ -32,33 +32,33 @@ use Rattle.lists.proofs.Callers.{indexed-stop, indexed-done, list-then, index-r
 use Rattle.answer.specs.declared.Piece.the-variants.{Stop, Ends}
 use Rattle.tables.specs.declared.Table.{Table}
 use Rattle.tables.specs.declared.Table.the-variants.{Devices, Disks, Controllers}
-use Rattle.tables.specs.Tables.{described, rowOf, rowsAt, tableOf}
+use Rattle.tables.specs.Tables.{ROW, described, rowOf, rowsAt, tableOf}
 
-pub length-row : (t : Table) (p : ℕ) (e : List ℕ) → length (rowOf t p e) ≡ 24
+pub length-row : (t : Table) (p : ℕ) (e : List ℕ) → length (rowOf t p e) ≡ ROW
 length-row Devices p e = simp (length-append, length-bytesOf)
 length-row Disks p e = simp (length-append, length-bytesOf)
 length-row Controllers p e = simp (length-append, length-bytesOf)
 
 -- where there is room for the records of all starts, they are all of those that fit
-pub rows-all : (l : List ℕ) (have : ℕ) → 24 * length l ≤ have → take (have / 24) l ≡ l
-rows-all l have h = take-all (have / 24) l (omega arith)
+pub rows-all : (l : List ℕ) (have : ℕ) → ROW * length l ≤ have → take (have / ROW) l ≡ l
+rows-all l have h = take-all (have / ROW) l (omega arith)
 
 -- after the first i of them, where there are no more or where there is no room for one more, they are those that fit
-pub rows-end : (l : List ℕ) (have i : ℕ) → 24 * i ≤ have → length l ≤ i → take i l ≡ take (have / 24) l
+pub rows-end : (l : List ℕ) (have i : ℕ) → ROW * i ≤ have → length l ≤ i → take i l ≡ take (have / ROW) l
 rows-end l have i k h = take-all i l h ∙ sym (rows-all l have (omega arith))
 
-pub rows-full : (l : List ℕ) (have i : ℕ) → 24 * i ≤ have → have - 24 * i < 24 → take i l ≡ take (have / 24) l
-rows-full l have i k h = let e : i ≡ have / 24 = omega arith in ap (λ (n : ℕ). take n l) e
+pub rows-full : (l : List ℕ) (have i : ℕ) → ROW * i ≤ have → have - ROW * i < ROW → take i l ≡ take (have / ROW) l
+rows-full l have i k h = let e : i ≡ have / ROW = omega arith in ap (λ (n : ℕ). take n l) e
 
 module _ (t : Table) (base : ℕ) (s : List ℕ) where
-  pub length-rows : (l : List ℕ) → length (rowsAt t base s l) ≡ 24 * length l
+  pub length-rows : (l : List ℕ) → length (rowsAt t base s l) ≡ ROW * length l
   length-rows [] = refl
   length-rows (y ∷ l) = omega (arith, length-append (rowOf t (base + y) (drop y s)) (rowsAt t base s l), length-row t (base + y) (drop y s), length-rows l)
 
   -- one turn of the loop: a record written into the tail
   pub rows-turn : (l : List ℕ) (i : ℕ) → i < length l → {old mid new : List ℕ} {at : ℕ} → Wrote (rowsAt t base s (take i l)) old mid at
-      → Wrote (rowOf t (base + getD l i 0) (drop (getD l i 0) s)) (take (length mid - at) (drop at mid)) new 24
-      → Wrote (rowsAt t base s (take (i + 1) l)) old (take at mid ++ (new ++ drop (length mid - at) (drop at mid))) (at + 24)
+      → Wrote (rowOf t (base + getD l i 0) (drop (getD l i 0) s)) (take (length mid - at) (drop at mid)) new ROW
+      → Wrote (rowsAt t base s (take (i + 1) l)) old (take at mid ++ (new ++ drop (length mid - at) (drop at mid))) (at + ROW)
   rows-turn l i h so e =
       let row : ℕ → List ℕ = λ y. rowOf t (base + y) (drop y s) in
       let split : rowsAt t base s (take (i + 1) l) ≡ rowsAt t base s (take i l) ++ rowOf t (base + getD l i 0) (drop (getD l i 0) s) =
@@ -93,15 +93,15 @@ module _ (t : Table) (k : Kind) (q : describe k ≡ described t) (have base : �
         let l : listAt (describe k) s ≡ taken (take n new) = checked-pass (partChecks s) (listAt (describe k) s) (take n new) (sym (index-roomy (lawful k) m s R) ∙ done) .1 in
         (sym c, omega (arith, index-length (lawful k) s l, list-sound (lawful k) s l .few, lawful k .bounded))
 
-    need : length (rowsAt t base s (take n new)) ≡ 24 * n
-    need = length-rows t base s (take n new) ∙ ap (λ (m : ℕ). 24 * m) (table-count .0)
+    need : length (rowsAt t base s (take n new)) ≡ ROW * n
+    need = length-rows t base s (take n new) ∙ ap (λ (m : ℕ). ROW * m) (table-count .0)
 
     found : tableOf t have base s ≡ rowsOf (take n new)
     found = by-index ∙ ap (λ (o : Outcome (List ℕ)). after o rowsOf) done
 
-    pub table-short : have < 24 * n → tableOf t have base s ≡ refused ROOM (24 * n)
-    table-short k = found ∙ rw (need, lt-leb (24 * n) have k)
+    pub table-short : have < ROW * n → tableOf t have base s ≡ refused ROOM (ROW * n)
+    table-short k = found ∙ rw (need, lt-leb (ROW * n) have k)
 
-    pub table-done : 24 * n ≤ have → {out last : List ℕ} {r : ℕ} → Wrote (rowsAt t base s (take (have / 24) (take n new))) out last r
+    pub table-done : ROW * n ≤ have → {out last : List ℕ} {r : ℕ} → Wrote (rowsAt t base s (take (have / ROW) (take n new))) out last r
         → Writes (tableOf t have base s) out (record { number = 0; place = r }) last
-    table-done k w = writes-taken (found ∙ rw (need, le-leb (24 * n) have k)) (rw (rows-all (take n new) have (omega (arith, table-count .0))) at w)
+    table-done k w = writes-taken (found ∙ rw (need, le-leb (ROW * n) have k)) (rw (rows-all (take n new) have (omega (arith, table-count .0))) at w)

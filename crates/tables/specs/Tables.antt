@@ -1,4 +1,4 @@
--- Tables handed out: records of 24 bytes, no header. Offsets count from the start of the input.
+-- Tables handed out: records of ROW bytes, no header. Offsets count from the start of the input.
 -- Assumes nothing.
 use mathlib.Core.List.{List, _++_}
 use Prim.Native.Nat.{ℕ, _+_}
@@ -10,6 +10,10 @@ use Rattle.entries.specs.Kinds.{Description, devices, disks, controllers}
 use Rattle.lists.specs.Lists.{partChecks, listAt}
 use Rattle.tables.specs.declared.Table.{Table}
 use Rattle.tables.specs.declared.Table.the-variants.{Devices, Disks, Controllers}
+
+-- the length of a record
+abbrev pub ROW : ℕ
+ROW = 24
 
 abbrev pub described : Table → Description
 described Devices = devices

@@ -1,3 +1,4 @@
+use Rattle.tables.specs.Tables.{ROW}
 use Rattle.snapshot.proofs.Walks.{Rowing, rowing-start, rowing-done, rowing-room, rowing-next}
 use Rattle.aerosnap.proofs.Standing.{endAt, goes}
 use Rattle.wire.proofs.Filling.{filling-long}
@@ -28,7 +29,7 @@ start c = c .before .before .before .before
 rows : (c : Turn) → let t = start c in let l = c .before .loop in Rowing (t .args .file .now) (t .pre .0) (l .at) (l .t) (t .args .out .now) (l .out)
 rows c = c .before .loop .inv (start c .pre .0) (start c .pre .1)
 
-room : (c : Turn) → let l = c .before .loop in l .t + 24 ≤ length (l .out)
+room : (c : Turn) → let l = c .before .loop in l .t + ROW ≤ length (l .out)
 room c = rowing-room (rows c) (c .loop-test .taken)
 
 on : (c : Turn) → let s = start c .args .file .now in let at = c .before .loop .at in (at < endAt s at) × (endAt s at ≤ length s) × (length s ≤ 1073741824)
