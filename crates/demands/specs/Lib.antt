@@ -1,5 +1,6 @@
--- Demands: the three demands. Examples: P1 to P13. RuledOut: wrong answers that no call can give. Rings: request 1.
+-- Demands: the three demands. Examples: P1 to P13. RuledOut: wrong answers that no call can give. Rings: request 1. Text: request 7.
 pub mod Demands
 pub mod Examples
 pub mod RuledOut
 pub mod Rings
+pub mod Text

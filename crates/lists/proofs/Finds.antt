@@ -16,13 +16,20 @@ use Rattle.order.proofs.Keys.{fresh-has, asc-up, up-every}
 use Rattle.order.proofs.Inserts.{insert-nil, insert-le, insert-gt}
 use Rattle.lists.specs.declared.Found.{Found}
 use Rattle.lists.specs.declared.Found.the-variants.{There, Free}
-use Rattle.lists.specs.Promises.{later, findIn}
+use Rattle.lists.specs.Promises.{later, findIn, freeOf}
 
 pub free-is : {p q : ℕ} → Free p ≡ Free q → p ≡ q
 free-is h = cc
 
 pub there-free : {p : ℕ} → There ≡ Free p → ⊥
 there-free h = let z : _≡_ {A = ℕ} 0 1 = cc in omega arith
+
+-- the outcome tells the answer
+pub free-once : (r q : Found) → freeOf r ≡ freeOf q → r ≡ q
+free-once There There h = refl
+free-once There (Free j) h = let z : _≡_ {A = ℕ} 0 1 = cc in absurd (omega arith)
+free-once (Free i) There h = let z : _≡_ {A = ℕ} 0 1 = cc in absurd (omega arith)
+free-once (Free i) (Free j) h = let e : i ≡ j = cc in ap Free e
 
 later-free : (f : Found) {p : ℕ} → later 1 f ≡ Free p → (q : ℕ) × (f ≡ Free q) × (p ≡ suc q)
 later-free There h = absurd (there-free h)

@@ -15,7 +15,8 @@ use Rattle.wire.specs.Numbers.{leAt}
 use Rattle.entries.specs.Kinds.{Description}
 use Rattle.lists.specs.Lists.{listAt, partChecks}
 use Rattle.lists.specs.declared.Found.{Found}
-use Rattle.lists.specs.Promises.{zeros, Indexed, findIn}
+use Rattle.lists.specs.Promises.{zeros, Indexed, findIn, freeOf}
+use Rattle.lists.proofs.Finds.{free-once}
 
 pub index-once : {o : Outcome (List ℕ)} {old : List ℕ} (r q : Piece) {new now : List ℕ} → Indexed o old r new → Indexed o old q now → (r ≡ q) × (new ≡ now)
 index-once r q a b = (piece-once r q (equal-once (a .answers) (b .answers)), equal-once (a .leaves) (b .leaves))
@@ -30,5 +31,5 @@ check-once d s r q e f = test-once r q (equal-once e f)
 pub few-once : (s : List ℕ) {r q : Bool} → r ≡ leb (leAt 4 s 0) 256 → q ≡ leb (leAt 4 s 0) 256 → r ≡ q
 few-once s e f = equal-once e f
 
-pub find-once : (key : ℕ → ℕ) (k : ℕ) (starts : List ℕ) {r q : Found} → r ≡ findIn key k starts → q ≡ findIn key k starts → r ≡ q
-find-once key k starts e f = equal-once e f
+pub find-once : (key : ℕ → ℕ) (k : ℕ) (starts : List ℕ) (r q : Found) → freeOf r ≡ freeOf (findIn key k starts) → freeOf q ≡ freeOf (findIn key k starts) → r ≡ q
+find-once key k starts r q e f = free-once r q (equal-once e f)

@@ -7,6 +7,7 @@ use Prim.Native.Nat.{ℕ, _+_}
 use lib.Dec.{leb, eqb}
 use lib.ListN.{length, drop, replicate}
 use Rattle.answer.specs.declared.Piece.{Piece}
+use Rattle.answer.specs.Numbers.{HAVE}
 use Rattle.answer.specs.Outcome.{Outcome, taken, refused, after}
 use Rattle.answer.specs.Calls.{pieceOf}
 use Rattle.lists.specs.declared.Found.{Found}
@@ -35,3 +36,8 @@ later i (Free p) = Free (i + p)
 unfoldable pub findIn : {E : Type 0} → (E → ℕ) → ℕ → List E → Found
 findIn key k [] = Free 0
 findIn key k (y ∷ l) = elim (eqb k (key y)) [ true ↦ There | false ↦ elim (leb k (key y)) [ true ↦ Free 0 | false ↦ later 1 (findIn key k l) ] ]
+
+-- document 01's number and place for each answer: where the entry goes is taken, a key that is there is HAVE
+abbrev pub freeOf : Found → Outcome ℕ
+freeOf There = refused HAVE 0
+freeOf (Free i) = taken i

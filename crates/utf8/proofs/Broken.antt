@@ -6,47 +6,61 @@ use native.Mathlib.Numerals.{add-one}
 use native.Mathlib.Omega.{arith}
 use lib.ListN.{length, take, drop, take-append-drop}
 use lib.Seq.{take-take}
-use Rattle.utf8.specs.declared.Step.{Step}
-use Rattle.utf8.specs.declared.Step.the-variants.{Next, Stop}
 use Rattle.utf8.specs.declared.Found.{Found}
 use Rattle.utf8.specs.declared.Found.the-variants.{Whole, Broken}
-use Rattle.utf8.specs.Grammar.{In, Text, none, Begins, Breaks}
-use Rattle.utf8.specs.Scan.{afterOf, onward, scanFrom, scan}
-use Rattle.utf8.proofs.Table.{picked, by-rows}
-use Rattle.utf8.proofs.Whole.{Rest, done, byte, never, rest-whole, text-passed, whole-text, text-whole}
+use Rattle.utf8.specs.Grammar.{Range, Alternative, UTF8-char, In, Fits, done, byte, Text, none, Begins, Breaks}
+use Rattle.utf8.specs.Scan.{Step, Next, Stop, lookup, leadOf, afterOf, onward, scanFrom, scan}
+use Rattle.utf8.proofs.Table.{picked}
+use Rattle.utf8.proofs.Whole.{never, rest-whole, text-passed, whole-text, text-whole}
 
 -- ---- broken, so no text continues there
--- the bounds of the next byte leave room for one
+-- each range has a byte
+abbrev Filled : List Range → Type 0
+Filled [] = Unit {0}
+Filled (r ∷ rs) = (r .from ≤ r .to) × Filled rs
+
 abbrev Open : Step → Type 0
-Open (Next n lo hi) = lo ≤ hi
+Open (Next rs) = Filled rs
 Open Stop = Unit {0}
 
-opens : (n lo hi b : ℕ) → Open (afterOf n lo hi b)
-unfolding afterOf
-opens zero lo hi b = by-rows b Open (omega arith)
-opens (suc n) lo hi b = picked lo hi b Open (omega arith) tt
+-- of each alternative
+abbrev Fillable : List Alternative → Type 0
+Fillable [] = Unit {0}
+Fillable (a ∷ l) = Filled (a .rest) × Fillable l
 
-fill : (n lo hi : ℕ) → lo ≤ hi → (u : List ℕ) × Rest n lo hi u
-fill zero lo hi h = ([], done)
-fill (suc n) lo hi h =
-    let r = fill n 0x80 0xBF (omega arith) in
-    let i : In lo hi lo = record { low = omega arith; high = h } in
-    (lo ∷ r .0, byte i (r .1))
+fillable : Fillable UTF8-char
+fillable = omega arith
+
+opens-with : (l : List Alternative) (b : ℕ) → Fillable l → Open (lookup l b)
+opens-with [] b k = tt
+opens-with (a ∷ l) b k = picked (a .first .from) (a .first .to) b Open (λ _. k .0) (opens-with l b (k .1))
+
+opens : (rs : List Range) (b : ℕ) → Filled rs → Open (afterOf rs b)
+unfolding afterOf leadOf
+opens [] b k = opens-with UTF8-char b fillable
+opens (r ∷ rs) b k = picked (r .from) (r .to) b Open (λ _. k .1) tt
+
+fill : (rs : List Range) → Filled rs → (u : List ℕ) × Fits rs u
+fill [] k = ([], done)
+fill (r ∷ rs) k =
+    let f = fill rs (k .1) in
+    let i : In (r .from) (r .to) (r .from) = record { low = omega arith; high = k .0 } in
+    (r .from ∷ f .0, byte i (f .1))
 
 -- the scan from place i on is broken at k, d bytes further: with some bytes for those from there on it is whole, and with none after the byte there
-record Broke (n lo hi i : ℕ) (s : List ℕ) (k : ℕ) : Type 0 where
+record Broke (rs : List Range) (i : ℕ) (s : List ℕ) (k : ℕ) : Type 0 where
   d : ℕ
   place : i + d ≡ k
   within : d ≤ length s
-  continues : (u : List ℕ) × (scanFrom n lo hi i (take d s ++ u) ≡ Whole)
-  stops : d < length s → (u : List ℕ) → scanFrom n lo hi i (take (suc d) s ++ u) ≡ Broken k
+  continues : (u : List ℕ) × (scanFrom rs i (take d s ++ u) ≡ Whole)
+  stops : d < length s → (u : List ℕ) → scanFrom rs i (take (suc d) s ++ u) ≡ Broken k
 
 -- broken at i itself
-broke-here : (n lo hi i k : ℕ) (s : List ℕ) → lo ≤ hi → Broken i ≡ Broken k
-    → (0 < length s → (u : List ℕ) → scanFrom n lo hi i (take 1 s ++ u) ≡ Broken k) → Broke n lo hi i s k
-broke-here n lo hi i k s ok e h =
+broke-here : (rs : List Range) (i k : ℕ) (s : List ℕ) → Filled rs → Broken i ≡ Broken k
+    → (0 < length s → (u : List ℕ) → scanFrom rs i (take 1 s ++ u) ≡ Broken k) → Broke rs i s k
+broke-here rs i k s ok e h =
     let p : i ≡ k = cc in
-    let r = fill n lo hi ok in
+    let r = fill rs ok in
     record {
       d = 0;
       place = omega arith;
@@ -56,14 +70,14 @@ broke-here n lo hi i k s ok e h =
     }
 
 -- one byte more, by what the scan says after it
-module _ (n lo hi i k b : ℕ) (s : List ℕ) (ok : lo ≤ hi)
-    (go : (l a z : ℕ) → a ≤ z → scanFrom l a z (suc i) s ≡ Broken k → Broke l a z (suc i) s k) where
-  broke-onward : (st : Step) → afterOf n lo hi b ≡ st → Open st
-      → onward st i (λ l a z. scanFrom l a z (suc i) s) ≡ Broken k → Broke n lo hi i (b ∷ s) k
+module _ (rs : List Range) (i k b : ℕ) (s : List ℕ) (ok : Filled rs)
+    (go : (l : List Range) → Filled l → scanFrom l (suc i) s ≡ Broken k → Broke l (suc i) s k) where
+  broke-onward : (st : Step) → afterOf rs b ≡ st → Open st
+      → onward st i (λ l. scanFrom l (suc i) s) ≡ Broken k → Broke rs i (b ∷ s) k
   unfolding scanFrom
-  broke-onward Stop q o e = broke-here n lo hi i k (b ∷ s) ok e (λ h u. rw q e)
-  broke-onward (Next l a z) q o e =
-      let p = go l a z o e in
+  broke-onward Stop q o e = broke-here rs i k (b ∷ s) ok e (λ h u. rw q e)
+  broke-onward (Next l) q o e =
+      let p = go l o e in
       record {
         d = suc (p .d);
         place = omega (arith, p .place);
@@ -72,12 +86,11 @@ module _ (n lo hi i k b : ℕ) (s : List ℕ) (ok : lo ≤ hi)
         stops = λ h u. rw q (p .stops (omega arith) u);
       }
 
-broke : (s : List ℕ) (n lo hi i k : ℕ) → lo ≤ hi → scanFrom n lo hi i s ≡ Broken k → Broke n lo hi i s k
+broke : (s : List ℕ) (rs : List Range) (i k : ℕ) → Filled rs → scanFrom rs i s ≡ Broken k → Broke rs i s k
 unfolding scanFrom
-broke [] zero lo hi i k ok e = absurd (never e)
-broke [] (suc n) lo hi i k ok e = broke-here (suc n) lo hi i k [] ok e (λ h. absurd (omega arith))
-broke (b ∷ s) n lo hi i k ok e =
-    broke-onward n lo hi i k b s ok (λ l a z o. broke s l a z (suc i) k o) (afterOf n lo hi b) refl (opens n lo hi b) e
+broke [] [] i k ok e = absurd (never e)
+broke [] (r ∷ rs) i k ok e = broke-here (r ∷ rs) i k [] ok e (λ h. absurd (omega arith))
+broke (b ∷ s) rs i k ok e = broke-onward rs i k b s ok (λ l o. broke s l (suc i) k o) (afterOf rs b) refl (opens rs b ok) e
 
 not-text : (s : List ℕ) (k : ℕ) → scan s ≡ Broken k → Text s → ⊥
 not-text s k e t = never (sym (text-whole t) ∙ e)
@@ -85,7 +98,7 @@ not-text s k e t = never (sym (text-whole t) ∙ e)
 pub broken-breaks : (s : List ℕ) (k : ℕ) → scan s ≡ Broken k → Breaks s k
 unfolding scan
 broken-breaks s k e =
-    let p = broke s 0 0x80 0xBF 0 k (omega arith) e in
+    let p = broke s [] 0 k tt e in
     let q : p .d ≡ k = omega (arith, p .place) in
     rw (← q) record {
       wrong = not-text s k e;

@@ -6,18 +6,20 @@ use mathlib.Core.Bool.{true, false}
 use native.Mathlib.Omega.{arith}
 use Rattle.utf8.specs.declared.Found.{Found}
 use Rattle.utf8.specs.declared.Found.the-variants.{Whole, Broken}
-use Rattle.utf8.specs.Grammar.{Text, Reads, whole, broken}
+use Rattle.answer.specs.Numbers.{TEXT}
+use Rattle.answer.specs.Outcome.{Outcome, taken, refused}
+use Rattle.utf8.specs.Grammar.{Text, textOf, Reads, whole, broken}
 use Rattle.utf8.specs.Scan.{scan, isWhole, isText}
 use Rattle.utf8.proofs.Whole.{whole-text, text-whole}
 use Rattle.utf8.proofs.Broken.{broken-breaks, breaks-broken}
 
-pub scan-reads : (s : List ℕ) (r : Found) → r ≡ scan s → Reads s r
+pub scan-reads : (s : List ℕ) (r : Found) → r ≡ scan s → Reads s (textOf r)
 scan-reads s Whole e = whole (whole-text s (sym e))
 scan-reads s (Broken k) e = broken (broken-breaks s k (sym e))
 
-pub reads-scan : {s : List ℕ} {r : Found} → Reads s r → r ≡ scan s
-reads-scan (whole t) = sym (text-whole t)
-reads-scan (broken b) = sym (breaks-broken b)
+pub reads-scan : (s : List ℕ) (r : Found) → Reads s (textOf r) → r ≡ scan s
+reads-scan s Whole (whole t) = sym (text-whole t)
+reads-scan s (Broken k) (broken b) = sym (breaks-broken b)
 
 -- ---- the test
 pub text-is : {s : List ℕ} → Text s → isText s ≡ true
@@ -33,12 +35,6 @@ is-text s e = go (scan s) refl e
     go (Broken k) p q = absurd (let z : _≡_ {A = ℕ} 0 1 = cc in omega arith)
 
 -- ---- the test, from an answer of `text`
-pub reads-is : {s : List ℕ} {r : Found} → Reads s r → isText s ≡ isWhole r
+pub reads-is : (s : List ℕ) (r : Found) → Reads s (textOf r) → isText s ≡ isWhole r
 unfolding isText
-reads-is h = ap isWhole (sym (reads-scan h))
-
-pub whole-is : {s : List ℕ} {r : Found} → Reads s r → r ≡ Whole → isText s ≡ true
-whole-is h e = reads-is h ∙ ap isWhole e
-
-pub broken-is : {s : List ℕ} {r : Found} {k : ℕ} → Reads s r → r ≡ Broken k → isText s ≡ false
-broken-is h e = reads-is h ∙ ap isWhole e
+reads-is s r h = ap isWhole (sym (reads-scan s r h))

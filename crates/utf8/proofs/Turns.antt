@@ -11,12 +11,13 @@ use lib.ListN.{length, getD, take, drop, length-drop, drop-of-length-le, take-ap
 use lib.Seq.{drop-cons, drop-drop, length-take-le}
 use borrow.Author.Count.{below-more}
 use borrow.Author.Tests.{ltb-true, ltb-false}
-use Rattle.utf8.specs.declared.Step.the-variants.{Next, Stop}
 use Rattle.utf8.specs.declared.Found.{Found}
 use Rattle.utf8.specs.declared.Found.the-variants.{Whole, Broken}
-use Rattle.utf8.specs.Grammar.{In}
-use Rattle.utf8.specs.Scan.{leadOf, afterOf, onward, ended, scanFrom, scan}
-use Rattle.utf8.specs.Steps.{AtMost, scanAt, Passes, Ends, ends, breaks}
+use Rattle.utf8.specs.declared.Reach.{Reach}
+use Rattle.utf8.specs.declared.Reach.the-variants.{Ends, Breaks}
+use Rattle.utf8.specs.Grammar.{Range, _⋯_, tails, In}
+use Rattle.utf8.specs.Scan.{Next, Stop, leadOf, afterOf, onward, ended, scanFrom, scan}
+use Rattle.utf8.specs.Steps.{AtMost, scanAt, Passes, Reaches, ends, breaks}
 use Rattle.utf8.proofs.Table.{in-among, out-among, hit}
 use Rattle.utf8.proofs.Whole.{never}
 
@@ -43,122 +44,124 @@ module _ {s : List ℕ} {i top : ℕ} (t : Topped s i top) where
           rw (List·getD-eq-default s 0 z) (omega arith)
 
 -- ---- one byte, or the end
-module _ (s : List ℕ) (i left lo hi : ℕ) where
-  turn : i < length s → scanAt s i left lo hi ≡ onward (afterOf left lo hi (getD s i 0)) i (λ l a z. scanAt s (i + 1) l a z)
+module _ (s : List ℕ) (i : ℕ) (rs : List Range) where
+  turn : i < length s → scanAt s i rs ≡ onward (afterOf rs (getD s i 0)) i (λ l. scanAt s (i + 1) l)
   unfolding scanFrom
   turn h = simp (add-one, drop-cons s i 0 h)
 
-  at-end : length s ≤ i → scanAt s i left lo hi ≡ ended left i
+  at-end : length s ≤ i → scanAt s i rs ≡ ended rs i
   unfolding scanFrom
   at-end h = rw (drop-of-length-le s h)
 
 -- the first byte of a character
 module _ (s : List ℕ) (i : ℕ) (h : i < length s) where
-  first-next : (left lo hi : ℕ) → leadOf (getD s i 0) ≡ Next left lo hi → scanAt s i 0 0x80 0xBF ≡ scanAt s (i + 1) left lo hi
+  first-next : (rs : List Range) → leadOf (getD s i 0) ≡ Next rs → scanAt s i [] ≡ scanAt s (i + 1) rs
   unfolding afterOf
-  first-next left lo hi e = rw (turn s i 0 0x80 0xBF h, e)
+  first-next rs e = rw (turn s i [] h, e)
 
-  first-stop : leadOf (getD s i 0) ≡ Stop → scanAt s i 0 0x80 0xBF ≡ Broken i
+  first-stop : leadOf (getD s i 0) ≡ Stop → scanAt s i [] ≡ Broken i
   unfolding afterOf
-  first-stop e = rw (turn s i 0 0x80 0xBF h, e)
-
--- where a character begins, no bounds are in force
-fresh : (lo hi i : ℕ) (s : List ℕ) → scanFrom 0 lo hi i s ≡ scanFrom 0 0x80 0xBF i s
-unfolding scanFrom afterOf
-fresh lo hi i [] = refl
-fresh lo hi i (b ∷ s) = refl
+  first-stop e = rw (turn s i [] h, e)
 
 -- a byte that is to come
-ended-within : (n i : ℕ) → 0 < n → ended n i ≡ Broken i
-ended-within zero i h = absurd (omega arith)
-ended-within (suc n) i h = refl
+module _ (s : List ℕ) (i : ℕ) (r : Range) (rs : List Range) where
+  pub next-missing : length s ≤ i → scanAt s i (r ∷ rs) ≡ Broken i
+  next-missing h = at-end s i (r ∷ rs) h
 
-after-in : (n lo hi b : ℕ) → 0 < n → In lo hi b → afterOf n lo hi b ≡ Next (n - 1) 0x80 0xBF
-unfolding afterOf
-after-in zero lo hi b e h = absurd (omega arith)
-after-in (suc n) lo hi b e h = rw (in-among h) (ap (λ (m : ℕ). Next m 0x80 0xBF) (omega arith))
+  module _ (h : i < length s) where
+    pub next-in : In (r .from) (r .to) (getD s i 0) → scanAt s i (r ∷ rs) ≡ scanAt s (i + 1) rs
+    unfolding afterOf
+    next-in k = rw (turn s i (r ∷ rs) h, in-among k)
 
-after-out : (n lo hi b : ℕ) → 0 < n → (lo ≤ b → hi < b) → afterOf n lo hi b ≡ Stop
-unfolding afterOf
-after-out zero lo hi b e h = absurd (omega arith)
-after-out (suc n) lo hi b e h = rw (out-among lo hi b h)
+    pub next-out : (r .from ≤ getD s i 0 → r .to < getD s i 0) → scanAt s i (r ∷ rs) ≡ Broken i
+    unfolding afterOf
+    next-out k = rw (turn s i (r ∷ rs) h, out-among (r .from) (r .to) (getD s i 0) k)
 
--- ---- the loop over the bytes that are to come: after some of them
-pub record Came (s : List ℕ) (i₀ left₀ lo₀ hi₀ i left lo hi : ℕ) : Type 0 where
-  pub within : i ≤ length s
-  pub count : i + left ≡ i₀ + left₀
-  pub same : scanAt s i₀ left₀ lo₀ hi₀ ≡ scanAt s i left lo hi
+-- ---- the loop over the UTF8-tails that are to come: after some of them
+pub record Came (s : List ℕ) (i n at left : ℕ) : Type 0 where
+  pub after : i ≤ at
+  pub within : at ≤ length s
+  pub same : scanAt s i (tails n) ≡ scanAt s at (tails left)
 
-module _ {s : List ℕ} {i₀ left₀ lo₀ hi₀ i left lo hi : ℕ} (c : Came s i₀ left₀ lo₀ hi₀ i left lo hi) where
-  pub came-whole : left ≡ 0 → Ends s i₀ left₀ lo₀ hi₀ Whole
-  came-whole e =
-      let q : i ≡ i₀ + left₀ = omega (arith, c .count) in
-      ends (record {
-        after = omega arith;
-        within = omega (arith, c .within);
-        same = c .same ∙ rw (q, e) (fresh lo hi (i₀ + left₀) (drop (i₀ + left₀) s));
-      })
+module _ {s : List ℕ} {i n at : ℕ} where
+  pub came-whole : {left : ℕ} → Came s i n at left → left ≡ 0 → Reaches s i (tails n) i (Ends at)
+  came-whole c e =
+      ends (record { after = c .after; within = c .within; same = c .same ∙ ap (λ (m : ℕ). scanAt s at (tails m)) e }) (c .after)
 
-  module _ (more : 0 < left) where
-    pub came-end : length s ≤ i → Ends s i₀ left₀ lo₀ hi₀ (Broken i)
-    came-end h = breaks (c .same ∙ at-end s i left lo hi h ∙ ended-within left i more)
+  pub came-end : {left : ℕ} → Came s i n at left → 0 < left → length s ≤ at → Reaches s i (tails n) i (Breaks at)
+  came-end {left = zero} c e h = absurd (omega arith)
+  came-end {left = suc m} c e h = breaks (c .same ∙ next-missing s at (0x80 ⋯ 0xBF) (tails m) h)
 
-    pub came-out : i < length s → (lo ≤ getD s i 0 → hi < getD s i 0) → Ends s i₀ left₀ lo₀ hi₀ (Broken i)
-    came-out h o = breaks {k = i} (c .same ∙ rw (turn s i left lo hi h, after-out left lo hi (getD s i 0) more o))
+  pub came-out : {left : ℕ} → Came s i n at left → 0 < left → at < length s → (0x80 ≤ getD s at 0 → 0xBF < getD s at 0)
+      → Reaches s i (tails n) i (Breaks at)
+  came-out {left = zero} c e h o = absurd (omega arith)
+  came-out {left = suc m} c e h o = breaks (c .same ∙ next-out s at (0x80 ⋯ 0xBF) (tails m) h o)
 
-    pub came-in : i < length s → In lo hi (getD s i 0) → Came s i₀ left₀ lo₀ hi₀ (i + 1) (left - 1) 0x80 0xBF
-    came-in h o =
-        record {
-          within = omega arith;
-          count = omega (arith, c .count);
-          same = c .same ∙ rw (turn s i left lo hi h, after-in left lo hi (getD s i 0) more o);
-        }
+  pub came-in : {left : ℕ} → Came s i n at left → 0 < left → at < length s → In 0x80 0xBF (getD s at 0) → Came s i n (at + 1) (left - 1)
+  came-in {left = zero} c e h o = absurd (omega arith)
+  came-in {left = suc m} c e h o =
+      let q : m ≡ suc m - 1 = omega arith in
+      record {
+        after = omega (arith, c .after);
+        within = omega arith;
+        same = c .same ∙ next-in s at (0x80 ⋯ 0xBF) (tails m) h o ∙ ap (λ (k : ℕ). scanAt s (at + 1) (tails k)) q;
+      }
+
+-- ---- a byte of a range, and what is to come behind it
+module _ {s : List ℕ} {i : ℕ} where
+  -- what is reached from the next byte on is reached from here, if the scan goes on there
+  pub reaches-on : {rs rs′ : List Range} {least : ℕ} {r : Reach} → scanAt s i rs ≡ scanAt s (i + 1) rs′ → least ≤ i + 1
+      → Reaches s (i + 1) rs′ (i + 1) r → Reaches s i rs least r
+  reaches-on e k (ends {j = j} p h) = ends {j = j} (record { after = omega (arith, p .after); within = p .within; same = e ∙ p .same }) (omega (arith, h))
+  reaches-on e k (breaks q) = breaks (e ∙ q)
+
+  -- the first byte of a character begins an alternative
+  pub begins : (rs : List Range) {r : Reach} → i < length s → leadOf (getD s i 0) ≡ Next rs → Reaches s (i + 1) rs (i + 1) r → Reaches s i [] (i + 1) r
+  begins rs h e q = reaches-on (first-next s i h rs e) (omega arith) q
+
+  -- or none
+  pub begins-none : i < length s → leadOf (getD s i 0) ≡ Stop → Reaches s i [] (i + 1) (Breaks i)
+  begins-none h e = breaks (first-stop s i h e)
 
 -- ---- the loop over the characters
 module _ {s : List ℕ} where
-  pub passes-here : (i : ℕ) → i ≤ length s → Passes s i 0 0x80 0xBF i
+  pub passes-here : (i : ℕ) → i ≤ length s → Passes s i [] i
   passes-here i h = record { after = omega arith; within = h; same = refl }
 
-  pub passes-then : {i left lo hi j k : ℕ} → Passes s i left lo hi j → Passes s j 0 0x80 0xBF k → Passes s i left lo hi k
+  pub passes-then : {i j k : ℕ} {rs : List Range} → Passes s i rs j → Passes s j [] k → Passes s i rs k
   passes-then p q = record { after = omega (arith, p .after, q .after); within = q .within; same = p .same ∙ q .same }
 
-  pub passes-first : {i left lo hi j : ℕ} → i < length s → leadOf (getD s i 0) ≡ Next left lo hi → Passes s (i + 1) left lo hi j
-      → Passes s i 0 0x80 0xBF j
-  passes-first {i} {left} {lo} {hi} h e p =
-      record { after = omega (arith, p .after); within = p .within; same = first-next s i h left lo hi e ∙ p .same }
+  pub passes-first : {i j : ℕ} → i < length s → leadOf (getD s i 0) ≡ Next [] → Passes s (i + 1) [] j → Passes s i [] j
+  passes-first {i} h e p = record { after = omega (arith, p .after); within = p .within; same = first-next s i h [] e ∙ p .same }
 
-  pub ends-passes : {i left lo hi : ℕ} {r : Found} → Ends s i left lo hi r → r ≡ Whole → Passes s i left lo hi (i + left)
-  ends-passes (ends p) e = p
-  ends-passes (breaks q) e = absurd (never (sym e))
+  pub reaches-ends : {i least j : ℕ} {rs : List Range} {r : Reach} → Reaches s i rs least r → r ≡ Ends j → Passes s i rs j × (least ≤ j)
+  reaches-ends {j = x} (ends {j = y} p h) e = let q : y ≡ x = cc in (rw q at p, omega (arith, h))
+  reaches-ends (breaks q) e = absurd (let z : _≡_ {A = ℕ} 0 1 = cc in omega arith)
 
-  pub ends-breaks : {i left lo hi k : ℕ} {r : Found} → Ends s i left lo hi r → r ≡ Broken k → scanAt s i left lo hi ≡ Broken k
-  ends-breaks (ends p) e = absurd (never e)
-  ends-breaks (breaks q) e = q ∙ e
+  pub reaches-breaks : {i least k : ℕ} {rs : List Range} {r : Reach} → Reaches s i rs least r → r ≡ Breaks k → scanAt s i rs ≡ Broken k
+  reaches-breaks (ends p h) e = absurd (let z : _≡_ {A = ℕ} 0 1 = cc in omega arith)
+  reaches-breaks {k = x} (breaks {k = y} q) e = let w : y ≡ x = cc in rw w at q
 
-  module _ {i : ℕ} (p : Passes s 0 0 0x80 0xBF i) where
-    scan-at : scan s ≡ scanAt s i 0 0x80 0xBF
+  module _ {i : ℕ} (p : Passes s 0 [] i) where
+    scan-at : scan s ≡ scanAt s i []
     unfolding scan
     scan-at = p .same
 
-    pub walk-whole : length s ≤ i → Whole ≡ scan s
-    walk-whole h = sym (scan-at ∙ at-end s i 0 0x80 0xBF h)
+    pub octets-whole : length s ≤ i → Whole ≡ scan s
+    octets-whole h = sym (scan-at ∙ at-end s i [] h)
 
-    pub walk-stop : i < length s → leadOf (getD s i 0) ≡ Stop → Broken i ≡ scan s
-    walk-stop h e = sym (scan-at ∙ first-stop s i h e)
+    pub octets-broken : {k : ℕ} → scanAt s i [] ≡ Broken k → Broken k ≡ scan s
+    octets-broken b = sym (scan-at ∙ b)
 
-    pub walk-broken : {left lo hi k : ℕ} → i < length s → leadOf (getD s i 0) ≡ Next left lo hi
-        → scanAt s (i + 1) left lo hi ≡ Broken k → Broken k ≡ scan s
-    walk-broken {left} {lo} {hi} h e b = sym (scan-at ∙ first-next s i h left lo hi e ∙ b)
-
--- ---- a run of plain bytes
-run : (p u : List ℕ) (i top : ℕ) → top < 0x80 → AtMost p top → scanFrom 0 0x80 0xBF i (p ++ u) ≡ scanFrom 0 0x80 0xBF (i + length p) u
+-- ---- a run of ASCII
+run : (p u : List ℕ) (i top : ℕ) → top < 0x80 → AtMost p top → scanFrom [] i (p ++ u) ≡ scanFrom [] (i + length p) u
 unfolding scanFrom afterOf
 run [] u i top h m = rw add-zero
 run (b ∷ p) u i top h m =
     let q : suc i + length p ≡ i + suc (length p) = omega arith in
     rw (hit 0 b (omega (arith, m 0)), ← q) (run p u (suc i) top h (λ k. m (suc k)))
 
-pub run-passes : (s : List ℕ) (i j top : ℕ) → i ≤ j → j ≤ length s → top < 0x80 → AtMost (take (j - i) (drop i s)) top → Passes s i 0 0x80 0xBF j
+pub run-passes : (s : List ℕ) (i j top : ℕ) → i ≤ j → j ≤ length s → top < 0x80 → AtMost (take (j - i) (drop i s)) top → Passes s i [] j
 run-passes s i j top a z h m =
     let q : i + (j - i) ≡ j = omega arith in
     let l : j - i ≤ length (drop i s) = rw length-drop (omega arith) in

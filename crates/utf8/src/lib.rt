@@ -1,11 +1,13 @@
 // UTF-8 as in RFC 3629: whether bytes are a text, and if not, the first place at which no text continues.
 // Slices that are handed on as `&s[..]` go in registers (decision 38).
 ghost use mathlib.Core.Path.{_≡_};
-ghost use Prim.Native.Nat.{_≤_};
+ghost use mathlib.Core.Bool.{true};
+ghost use mathlib.Core.List.{[], _∷_};
+ghost use Prim.Native.Nat.{_+_, _≤_, _<_};
 ghost use lib.ListN.{length};
-ghost use Rattle.utf8.specs.Grammar.{Reads};
-ghost use Rattle.utf8.specs.Scan.{leadOf, scan, isText};
-ghost use Rattle.utf8.specs.Steps.{AtMost, Passes, Ends};
+ghost use Rattle.utf8.specs.Grammar.{_⋯_, tails as tailsOf, textOf, Reads};
+ghost use Rattle.utf8.specs.Scan.{scan, isText};
+ghost use Rattle.utf8.specs.Steps.{AtMost, Passes, Reaches};
 
 // A text; or the first place at which none continues, which is the length where the last character is cut short.
 pub enum Found {
@@ -13,10 +15,10 @@ pub enum Found {
     Broken(usize),
 }
 
-// After a byte: how many bytes of its character are to come, and between what the next one lies.
-enum Step {
-    Next(usize, u8, u8),
-    Stop,
+// The bytes of a character that are to come: where they end, or where they break.
+enum Reach {
+    Ends(usize),
+    Breaks(usize),
 }
 
 // The highest byte. The loop has no other way out, so that it compiles to vector instructions.
@@ -59,52 +61,84 @@ fn peak(s: &[u8]) -> u8
     higher(highest(&s[..m]), highest(&s[n - 32..]))
 }
 
-// What a first byte lets follow: the alternatives of the RFC, section 4, in its order.
-fn lead(b: u8) -> Step
-    ensures { λ r. ⌜ r ≡ leadOf b ⌝ }
-{
-    match b {
-        0x00..=0x7F => Step::Next(0, 0x80, 0xBF),
-        0xC2..=0xDF => Step::Next(1, 0x80, 0xBF),
-        0xE0 => Step::Next(2, 0xA0, 0xBF),
-        0xE1..=0xEC => Step::Next(2, 0x80, 0xBF),
-        0xED => Step::Next(2, 0x80, 0x9F),
-        0xEE..=0xEF => Step::Next(2, 0x80, 0xBF),
-        0xF0 => Step::Next(3, 0x90, 0xBF),
-        0xF1..=0xF3 => Step::Next(3, 0x80, 0xBF),
-        0xF4 => Step::Next(3, 0x80, 0x8F),
-        _ => Step::Stop,
-    }
-}
-
-// Whether the bytes of a character that are to come at i are there, the next of them between lo and hi.
-fn rest(s: &[u8], mut i: usize, mut left: usize, mut lo: u8, mut hi: u8) -> Found
+// n( UTF8-tail ) from i on.
+fn tails(s: &[u8], i: usize, n: usize) -> Reach
     requires { ⌜ i ≤ length (now s) ⌝ }
-    ensures { λ r. ⌜ Ends (now (s .entry)) i left lo hi r ⌝ }
+    ensures { λ r. ⌜ Reaches (now (s .entry)) i (tailsOf n) i r ⌝ }
 {
+    let mut at = i;
+    let mut left = n;
     while 0 < left {
-        if s.len() <= i {
-            return Found::Broken(i);
+        if s.len() <= at {
+            return Reach::Breaks(at);
         }
-        let b = s[i];
-        if b < lo {
-            return Found::Broken(i);
+        let b = s[at];
+        if b < 0x80 {
+            return Reach::Breaks(at);
         }
-        if hi < b {
-            return Found::Broken(i);
+        if 0xBF < b {
+            return Reach::Breaks(at);
         }
         left -= 1;
-        lo = 0x80;
-        hi = 0xBF;
-        i += 1;
+        at += 1;
     }
-    Found::Whole
+    Reach::Ends(at)
 }
 
-// Past the blocks of 32 plain bytes (those below 0x80) from i on. A block is two vector registers, tested at once.
+// %xLO-HI n( UTF8-tail ) from i on.
+fn then(s: &[u8], i: usize, lo: u8, hi: u8, n: usize) -> Reach
+    requires { ⌜ i ≤ length (now s) ⌝ }
+    ensures { λ r. ⌜ Reaches (now (s .entry)) i (lo ⋯ hi ∷ tailsOf n) i r ⌝ }
+{
+    if s.len() <= i {
+        return Reach::Breaks(i);
+    }
+    let b = s[i];
+    if b < lo {
+        return Reach::Breaks(i);
+    }
+    if hi < b {
+        return Reach::Breaks(i);
+    }
+    let next = i + 1;
+    tails(s, next, n)
+}
+
+// UTF8-char = UTF8-1 / UTF8-2 / UTF8-3 / UTF8-4: the character at i, each alternative of RFC 3629, section 4, as one case in the RFC's order.
+fn utf8_char(s: &[u8], i: usize) -> Reach
+    requires { ⌜ i < length (now s) ⌝ }
+    ensures { λ r. ⌜ Reaches (now (s .entry)) i [] (i + 1) r ⌝ }
+{
+    let next = i + 1;
+    let b = s[i];
+    match b {
+        // UTF8-1 = %x00-7F
+        0x00..=0x7F => Reach::Ends(next),
+
+        // UTF8-2 = %xC2-DF UTF8-tail
+        0xC2..=0xDF => tails(s, next, 1),
+
+        // UTF8-3 = %xE0 %xA0-BF UTF8-tail / %xE1-EC 2( UTF8-tail ) /
+        //          %xED %x80-9F UTF8-tail / %xEE-EF 2( UTF8-tail )
+        0xE0 => then(s, next, 0xA0, 0xBF, 1),
+        0xE1..=0xEC => tails(s, next, 2),
+        0xED => then(s, next, 0x80, 0x9F, 1),
+        0xEE..=0xEF => tails(s, next, 2),
+
+        // UTF8-4 = %xF0 %x90-BF 2( UTF8-tail ) / %xF1-F3 3( UTF8-tail ) /
+        //          %xF4 %x80-8F 2( UTF8-tail )
+        0xF0 => then(s, next, 0x90, 0xBF, 2),
+        0xF1..=0xF3 => tails(s, next, 3),
+        0xF4 => then(s, next, 0x80, 0x8F, 2),
+
+        _ => Reach::Breaks(i),
+    }
+}
+
+// Past the blocks of 32 ASCII bytes (those below 0x80) from i on. A block is two vector registers, tested at once.
 fn blocks(s: &[u8], i: usize) -> usize
     requires { ⌜ i ≤ length (now s) ⌝ }
-    ensures { λ r. ⌜ Passes (now (s .entry)) i 0 0x80 0xBF r ⌝ }
+    ensures { λ r. ⌜ Passes (now (s .entry)) i [] r ⌝ }
 {
     let mut at = i;
     while 32 <= s.len() - at {
@@ -117,10 +151,10 @@ fn blocks(s: &[u8], i: usize) -> usize
     at
 }
 
-// Past the plain bytes from i on: whole blocks first, then byte by byte.
-fn plain(s: &[u8], i: usize) -> usize
+// The fast path for ASCII within a text: past the ASCII bytes from i on, whole blocks first, then byte by byte. It changes nothing if the scan goes on from there.
+fn ascii(s: &[u8], i: usize) -> usize
     requires { ⌜ i ≤ length (now s) ⌝ }
-    ensures { λ r. ⌜ Passes (now (s .entry)) i 0 0x80 0xBF r ⌝ }
+    ensures { λ r. ⌜ Passes (now (s .entry)) i [] r ⌝ }
 {
     let mut at = blocks(s, i);
     while at < s.len() {
@@ -132,28 +166,21 @@ fn plain(s: &[u8], i: usize) -> usize
     at
 }
 
-// Character by character, but for runs of plain bytes, which are characters by themselves.
-fn walk(s: &[u8]) -> Found
+// UTF8-octets = *( UTF8-char ): character by character, but for runs of ASCII.
+fn utf8_octets(s: &[u8]) -> Found
     ensures { λ r. ⌜ r ≡ scan (now (s .entry)) ⌝ }
 {
     let mut i = 0;
     while i < s.len() {
-        let b = s[i];
-        let next = i + 1;
-        if b < 0x80 {
-            i = plain(s, next);
+        if s[i] < 0x80 {
+            i = ascii(s, i + 1);
         } else {
-            match lead(b) {
-                Step::Next(left, lo, hi) => match rest(s, next, left, lo, hi) {
-                    Found::Whole => {
-                        i = next + left;
-                    }
-                    Found::Broken(k) => {
-                        return Found::Broken(k);
-                    }
-                },
-                Step::Stop => {
-                    return Found::Broken(i);
+            match utf8_char(s, i) {
+                Reach::Ends(j) => {
+                    i = j;
+                }
+                Reach::Breaks(k) => {
+                    return Found::Broken(k);
                 }
             }
         }
@@ -161,14 +188,21 @@ fn walk(s: &[u8]) -> Found
     Found::Whole
 }
 
-// Whether s is a text, and if not, where it breaks. Most texts are all plain bytes, which one fast pass finds out.
-pub fn text(s: &[u8]) -> Found
-    ensures { λ r. ⌜ Reads (now (s .entry)) r ⌝ }
+// The fast path for a text that is all ASCII: it changes nothing, as the scan finds such a text whole.
+fn all_ascii(s: &[u8]) -> bool
+    ensures { λ r. ⌜ (r ≡ true → scan (now (s .entry)) ≡ Found.Whole) ⌝ }
 {
-    if peak(&s[..]) < 0x80 {
+    peak(s) < 0x80
+}
+
+// Whether s is a text, and if not, where it breaks.
+pub fn text(s: &[u8]) -> Found
+    ensures { λ r. ⌜ Reads (now (s .entry)) (textOf r) ⌝ }
+{
+    if all_ascii(&s[..]) {
         return Found::Whole;
     }
-    walk(&s[..])
+    utf8_octets(&s[..])
 }
 
 // Whether s is a text.

@@ -46,10 +46,10 @@ returns : tie.Need-returns
 returns c = let k = c .before .before .before in let a = start k .args in asked-stop utf8 (a .s .now) (a .at + 4) (sized-at 4 (atMost (a .most)) utf8 (a .s .now) (a .at)) (rw (c .before .number .given .1) at (k .part-at .ensures))
 
 returns-2 : tie.Need-returns-2
-returns-2 c = let e = c .before .before .before .before .before in let a = start (part e) .args in text-done (a .s .now) (a .at) (a .most) (read e) (reads-is (c .before .before .text .ensures) ∙ ap isWhole (c .enum-told .given .1))
+returns-2 c = let e = c .before .before .before .before .before in let a = start (part e) .args in text-done (a .s .now) (a .at) (a .most) (read e) (reads-is _ (c .before .before .text .result) (c .before .before .text .ensures) ∙ ap isWhole (c .enum-told .given .1))
 
 returns-3 : tie.Need-returns-3
-returns-3 c = let e = c .before .before .before .before .before in let a = start (part e) .args in text-fault (a .s .now) (a .at) (a .most) (read e) (reads-is (c .before .before .text .ensures) ∙ ap isWhole (c .enum-told2 .given .1))
+returns-3 c = let e = c .before .before .before .before .before in let a = start (part e) .args in text-fault (a .s .now) (a .at) (a .most) (read e) (reads-is _ (c .before .before .text .result) (c .before .before .text .ensures) ∙ ap isWhole (c .enum-told2 .given .1))
 
 pub text-at-spec : {M : Type 1} → statement M
 text-at-spec =

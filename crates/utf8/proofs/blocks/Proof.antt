@@ -1,5 +1,6 @@
 -- `utf8::blocks` meets its contract. The loop's invariant: the scan may as well go on from here. Assumes nothing.
 use Prim.Native.Nat.{_-_}
+use mathlib.Core.List.{[]}
 use native.Mathlib.Omega.{arith}
 use borrow.Author.Needs.{needs}
 use lib.ListN.{length}
@@ -9,7 +10,7 @@ use Rattle.utf8.proofs.blocks.Statement.{statement}
 use Rattle.utf8.proofs.blocks.Tie as tie
 
 abbrev Inv-loop : tie.InvT-loop
-Inv-loop s i at₀ at = Passes s i 0 0x80 0xBF at
+Inv-loop s i at₀ at = Passes s i [] at
 
 abbrev μ-loop : tie.MeasureT-loop
 μ-loop s i at₀ at = length s - at

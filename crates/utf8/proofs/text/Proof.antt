@@ -2,15 +2,14 @@
 use mathlib.Core.Path.{sym}
 use borrow.Author.Needs.{needs}
 use Rattle.utf8.proofs.Reading.{scan-reads}
-use Rattle.utf8.proofs.Turns.{run-whole}
 use Rattle.utf8.proofs.text.Statement.{statement}
 use Rattle.utf8.proofs.text.Tie as tie
 
 returns : tie.Need-returns
-returns c = scan-reads _ _ (sym (run-whole _ _ (c .if1 .taken) (c .before .peak .ensures)))
+returns c = scan-reads _ _ (sym (c .before .all-ascii .ensures (c .if1 .taken)))
 
 returns-2 : tie.Need-returns-2
-returns-2 c = scan-reads _ _ (c .walk .ensures)
+returns-2 c = scan-reads _ _ (c .utf8-octets .ensures)
 
 pub text-spec : {M : Type 1} → statement M
 text-spec = tie.close (tie.spec (λ c κs. search needs) returns (λ c κs. search needs) returns-2)

@@ -1,16 +1,17 @@
--- `utf8::plain` meets its contract. The loop's invariant: the scan may as well go on from here. Assumes nothing.
+-- `utf8::ascii` meets its contract. The loop's invariant: the scan may as well go on from here. Assumes nothing.
 use Prim.Native.Nat.{_-_}
+use mathlib.Core.List.{[]}
 use native.Mathlib.Omega.{arith}
 use borrow.Author.Needs.{needs}
 use lib.ListN.{length}
 use Rattle.utf8.specs.Steps.{Passes}
 use Rattle.utf8.proofs.Table.{hit}
 use Rattle.utf8.proofs.Turns.{passes-here, passes-then, passes-first}
-use Rattle.utf8.proofs.plain.Statement.{statement}
-use Rattle.utf8.proofs.plain.Tie as tie
+use Rattle.utf8.proofs.ascii.Statement.{statement}
+use Rattle.utf8.proofs.ascii.Tie as tie
 
 abbrev Inv-loop : tie.InvT-loop
-Inv-loop s i at₀ at = Passes s i 0 0x80 0xBF at
+Inv-loop s i at₀ at = Passes s i [] at
 
 abbrev μ-loop : tie.MeasureT-loop
 μ-loop s i at₀ at = length s - at
@@ -29,8 +30,8 @@ loop-again c =
 returns-2 : tie.Need-returns-2 Inv-loop μ-loop
 returns-2 c = c .before .loop .inv
 
-pub plain-spec : {M : Type 1} → statement M
-plain-spec =
+pub ascii-spec : {M : Type 1} → statement M
+ascii-spec =
     tie.close
     (tie.spec
     Inv-loop

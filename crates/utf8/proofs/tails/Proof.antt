@@ -1,18 +1,18 @@
--- `utf8::rest` meets its contract. The loop's invariant: the scan goes on from here with the bytes that are left. Assumes nothing.
+-- `utf8::tails` meets its contract. The loop's invariant: the scan goes on from here with the bytes that are left. Assumes nothing.
 use mathlib.Core.Path.{refl}
 use native.Mathlib.Omega.{arith}
 use Rattle.utf8.proofs.Turns.{Came, came-whole, came-end, came-out, came-in}
-use Rattle.utf8.proofs.rest.Statement.{statement}
-use Rattle.utf8.proofs.rest.Tie as tie
+use Rattle.utf8.proofs.tails.Statement.{statement}
+use Rattle.utf8.proofs.tails.Tie as tie
 
 abbrev Inv-loop : tie.InvT-loop
-Inv-loop s i₀ left₀ lo₀ hi₀ i left lo hi = Came s i₀ left₀ lo₀ hi₀ i left lo hi
+Inv-loop s i n at₀ left₀ at left = Came s i n at left
 
 abbrev μ-loop : tie.MeasureT-loop
-μ-loop s i₀ left₀ lo₀ hi₀ i left lo hi = left
+μ-loop s i n at₀ left₀ at left = left
 
 loop-holds : tie.Need-loop-holds Inv-loop μ-loop
-loop-holds c = record { within = c .pre; count = refl; same = refl }
+loop-holds c = record { after = omega arith; within = omega arith; same = refl }
 
 returns : tie.Need-returns Inv-loop μ-loop
 returns c = came-end (c .before .before .loop .inv) (omega arith) (omega arith)
@@ -31,8 +31,8 @@ loop-again c =
 returns-4 : tie.Need-returns-4 Inv-loop μ-loop
 returns-4 c = came-whole (c .before .loop .inv) (omega arith)
 
-pub rest-spec : {M : Type 1} → statement M
-rest-spec =
+pub tails-spec : {M : Type 1} → statement M
+tails-spec =
     tie.close
     (tie.spec
     Inv-loop
