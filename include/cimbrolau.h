@@ -45,7 +45,7 @@ enum {
     CIMBROLAU_SHAPE = 11,    /* field doesn't fit, at its start; state length wrong; bytes left over, at the first */
     CIMBROLAU_LIMIT = 12,    /* count or length over its bound, at its offset; message too long, at 0 */
     CIMBROLAU_KEY = 13,      /* key again; at the later entry's start */
-    CIMBROLAU_TEXT = 14,     /* not UTF-8; at the text's start */
+    CIMBROLAU_TEXT = 14,     /* not UTF-8; at the first byte at which none continues, or the text's end; in adds and message writing at 0 */
     CIMBROLAU_VALUE = 15,    /* listed byte or number outside its values; at its offset */
     CIMBROLAU_ROOM = 16,     /* output shorter than needed; the place is the length needed */
     CIMBROLAU_HAVE = 17,     /* added key is there; at 0 */

@@ -7,7 +7,7 @@ use lib.ListN.{length, set, replicate}
 use Rattle.answer.specs.Numbers.{RESERVED, CUT, MANY, TWICE, SECVER, SHAPE, LIMIT, TEXT, VALUE, ROOM}
 use Rattle.answer.specs.Outcome.{Outcome, taken, refused, after}
 use Rattle.wire.specs.Numbers.{leAt, le, bytesOf}
-use Rattle.utf8.specs.Scan.{leadOf, afterOf, scanFrom, scan, isText}
+use Rattle.utf8.specs.Scan.{leadOf, afterOf, scanFrom, scan, isText, breakAt}
 use Rattle.format.specs.Format.{read, values}
 use Rattle.order.specs.Keyed.{insert, has}
 use Rattle.order.specs.Entries.{join, split}
@@ -82,7 +82,7 @@ pub record Cases : Type 0 where
       ≡ taken (bytesOf 4 9 ++ (bytesOf 2 5 ++ (bytesOf 2 0 ++ (bytesOf 8 32 ++ (bytesOf 8 1 ++ (bytesOf 4 4 ++ (bytesOf 2 1 ++ (bytesOf 2 0 ++ (bytesOf 8 49 ++ bytesOf 8 4)))))))))
 
 pub cases : Cases
-unfolding leAt le bytesOf insert has leadOf afterOf scanFrom scan isText read values split entryAt walk listAt payload ruled sectionOf sections fileOf canonical placed addTo addItem
+unfolding leAt le bytesOf insert has leadOf afterOf scanFrom scan isText breakAt read values split entryAt walk listAt payload ruled sectionOf sections fileOf canonical placed addTo addItem
 cases = record {
   meta-fine = refl;
   meta-flag = refl;

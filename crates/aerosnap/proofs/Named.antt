@@ -14,7 +14,7 @@ use Rattle.answer.specs.Calls.{asked, verdict, answer, memory, Writes}
 use Rattle.answer.specs.declared.Answer.{Answer}
 use Rattle.answer.proofs.Table.{fault-some}
 use Rattle.wire.specs.Numbers.{leAt}
-use Rattle.utf8.specs.Scan.{isText}
+use Rattle.utf8.specs.Scan.{isText, breakAt}
 use Rattle.format.specs.Format.{Format, block, sized, option, pair, read, sizedChecks, optionChecks, values, text}
 use Rattle.order.specs.Keyed.{Every, insert, has}
 use Rattle.order.proofs.Folds.{every-append}
@@ -80,7 +80,7 @@ values-faulty [] e = tt
 values-faulty (r ∷ l) e = checked-faulty ((leb (r .2) (leAt (r .1) e (r .0)) && leb (leAt (r .1) e (r .0)) (r .3), VALUE, r .0) ∷ []) (values l e) (refl, tt) (values-faulty l e)
 
 text-faults : (most : ℕ) → FormFaults (text most)
-text-faults most = ((λ n. (refl, tt)), λ e. one-faulty (isText e) TEXT 0 refl)
+text-faults most = ((λ n. (refl, tt)), λ e. one-faulty (isText e) TEXT (breakAt e) refl)
 
 -- ---- lists
 

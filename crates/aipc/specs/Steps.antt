@@ -9,7 +9,7 @@ use Rattle.answer.specs.Numbers.{SHAPE, LIMIT, TEXT, VALUE}
 use Rattle.answer.specs.Outcome.{Outcome, taken, Checks, checked, after, room}
 use Rattle.wire.specs.Numbers.{bytesOf}
 use Rattle.wire.specs.Parts.{put}
-use Rattle.utf8.specs.Scan.{isText}
+use Rattle.utf8.specs.Scan.{isText, breakAt}
 use Rattle.kinds.specs.declared.Message.{Message}
 use Rattle.kinds.specs.declared.Body.{Body}
 use Rattle.kinds.specs.declared.Body.the-variants.{Empty, Bytes, Text}
@@ -33,7 +33,7 @@ then a b = after a (λ _. b)
 
 -- a text from start to end
 abbrev pub textPart : ℕ → ℕ → List ℕ → Checks
-textPart start end m = (isText (take (end - start) (drop start m)), TEXT, start) ∷ []
+textPart start end m = (isText (take (end - start) (drop start m)), TEXT, start + breakAt (take (end - start) (drop start m))) ∷ []
 
 -- what stands behind the numbers, at a place
 unfoldable pub behind : Message → Body → ℕ → List ℕ → Outcome Content

@@ -169,15 +169,15 @@ fn first(a: Test, b: Test) -> Test
     }
 }
 
-// The part from start to end is UTF-8.
+// The part from start to end is UTF-8, or TEXT at the byte at which it breaks.
 fn text_part(m: &[u8], start: usize, end: usize) -> Test
     requires { ⌜ (start ≤ end) × (end ≤ length (now m)) ⌝ }
     ensures { λ r. ⌜ testOf r ≡ asked (textPart start end (now (m .entry))) ⌝ }
 {
-    if is_text(&m[start..end]) {
-        return Test::Fine;
+    match utf8::text(&m[start..end]) {
+        utf8::Found::Whole => Test::Fine,
+        utf8::Found::Broken(k) => Test::Fault(TEXT, start + k),
     }
-    Test::Fault(TEXT, start)
 }
 
 // The same, and then nothing follows.

@@ -1,4 +1,4 @@
--- Demands: the three demands. Examples: P1 to P13. RuledOut: wrong answers that no call can give. Rings: request 1. Text: request 7.
+-- Demands: the three demands. Examples: P1 to P13. RuledOut: wrong answers that no call can give. Rings: request 1. Text: requests 2 and 7.
 pub mod Demands
 pub mod Examples
 pub mod RuledOut

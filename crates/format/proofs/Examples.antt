@@ -6,7 +6,7 @@ use Prim.Native.Nat.{ℕ}
 use Rattle.answer.specs.Numbers.{SHAPE, LIMIT, TEXT, VALUE}
 use Rattle.answer.specs.Outcome.{Outcome, taken, refused}
 use Rattle.wire.specs.Numbers.{le, leAt}
-use Rattle.utf8.specs.Scan.{leadOf, afterOf, scanFrom, scan, isText}
+use Rattle.utf8.specs.Scan.{leadOf, afterOf, scanFrom, scan, isText, breakAt}
 use Rattle.format.specs.Format.{Format, option, text, values, read}
 
 abbrev label : Format
@@ -26,8 +26,8 @@ pub labels : Reads (0 ∷ 7 ∷ []) (taken 1)
     × Reads (1 ∷ 4 ∷ 0 ∷ 0 ∷ 0 ∷ []) (refused LIMIT 1)
     × Reads (1 ∷ 3 ∷ 0 ∷ 0 ∷ 0 ∷ 65 ∷ 66 ∷ []) (refused SHAPE 5)
     -- the text is asked once its bytes are there
-    × Reads (1 ∷ 2 ∷ 0 ∷ 0 ∷ 0 ∷ 65 ∷ 195 ∷ []) (refused TEXT 5)
-unfolding read leAt le isText scan scanFrom afterOf leadOf
+    × Reads (1 ∷ 2 ∷ 0 ∷ 0 ∷ 0 ∷ 65 ∷ 195 ∷ []) (refused TEXT 7)
+unfolding read leAt le isText breakAt scan scanFrom afterOf leadOf
 labels = (refl, refl, refl, refl, refl, refl, refl, refl, refl)
 
 -- a listed byte from 0 to 3 at 1, and a u16 at 2 that is 4

@@ -15,7 +15,6 @@ use Rattle.answer.proofs.Checks.{checked-pass, pass-checked, checked-append}
 use Rattle.answer.proofs.Outcomes.{shift-taken, moved-taken}
 use Rattle.wire.specs.Numbers.{leAt}
 use Rattle.wire.proofs.Numbers.{leAt-here, leAt-one}
-use Rattle.utf8.specs.Scan.{isText}
 use Rattle.format.specs.Format.{Asks, any, Format, sized, option, pair, bytes, atMost, blob, utf8, text, read, Is, optionChecks, sizedChecks}
 use Rattle.format.specs.Places.{readAt, presentAt}
 use Rattle.format.proofs.Meaning.{sound, least-le}
@@ -164,15 +163,3 @@ module _ (ask : Asks) (s : List ℕ) (b : ℕ) {plain whole : Outcome ℕ} (spli
 
     pub asked-fault : {m p : ℕ} → refused m p ≡ ask (take (e - b) (drop b s)) → refused m (b + p) ≡ whole
     asked-fault k = ap (λ (r : Outcome (Unit {0})). after (moved b r) (λ _. taken e)) k ∙ then-asked h
-
--- ---- a text
-
-module _ (s : List ℕ) (at most : ℕ) {e : ℕ} (h : taken e ≡ readAt (blob 4 most) s at) where
-  told : {t : Bool} → isText (take (e - (at + 4)) (drop (at + 4) s)) ≡ t → checked ((t, TEXT, 0) ∷ []) (taken tt) ≡ utf8 (take (e - (at + 4)) (drop (at + 4) s))
-  told k = sym (ap (λ (b : Bool). checked ((b, TEXT, 0) ∷ []) (taken tt)) k)
-
-  pub text-done : isText (take (e - (at + 4)) (drop (at + 4) s)) ≡ true → taken e ≡ readAt (text most) s at
-  text-done k = asked-done utf8 s (at + 4) (sized-at 4 (atMost most) utf8 s at) h (told k)
-
-  pub text-fault : isText (take (e - (at + 4)) (drop (at + 4) s)) ≡ false → refused TEXT (at + 4) ≡ readAt (text most) s at
-  text-fault k = ap (refused TEXT) (omega arith) ∙ asked-fault utf8 s (at + 4) (sized-at 4 (atMost most) utf8 s at) h (told k)

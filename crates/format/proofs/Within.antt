@@ -13,7 +13,8 @@ use Rattle.answer.specs.Numbers.{SHAPE, TEXT, VALUE}
 use Rattle.answer.specs.Outcome.{Outcome, taken, Checks, Pass, after, moved, shift}
 use Rattle.answer.proofs.Within.{Within, Bounded, within-more, checked-within, after-within, moved-within, shift-within}
 use Rattle.wire.specs.Numbers.{leAt}
-use Rattle.utf8.specs.Scan.{isText}
+use Rattle.utf8.specs.Scan.{isText, breakAt}
+use Rattle.utf8.proofs.Reading.{break-within}
 use Rattle.format.specs.Format.{Asks, Format, block, sized, option, pair, sizedChecks, optionChecks, read, values, blob, text}
 use Rattle.format.proofs.Meaning.{sound}
 
@@ -83,7 +84,7 @@ values-within [] e m h = tt
 values-within (r ∷ l) e m h = checked-within ((leb (r .2) (leAt (r .1) e (r .0)) && leb (leAt (r .1) e (r .0)) (r .3), VALUE, r .0) ∷ []) (values l e) m (h .0, λ _. values-within l e m (h .1))
 
 pub text-keeps : (most : ℕ) → Keeps (text most)
-text-keeps most = ((λ n. (refl, tt)), λ e h. checked-within ((isText e, TEXT, 0) ∷ []) (taken tt) (length e) (zero-le, λ _. tt))
+text-keeps most = ((λ n. (refl, tt)), λ e h. checked-within ((isText e, TEXT, breakAt e) ∷ []) (taken tt) (length e) (break-within e, λ _. tt))
 
 pub blob-keeps : (w most : ℕ) → Keeps (blob w most)
 blob-keeps w most = ((λ n. (refl, tt)), λ e h. tt)

@@ -11,7 +11,7 @@ use Rattle.answer.specs.Numbers.{SHAPE, LIMIT, TEXT, VALUE}
 use Rattle.answer.specs.Outcome.{Outcome, taken, Checks, checked, Pass, after, moved, shift}
 use Rattle.answer.specs.Calls.{asked}
 use Rattle.wire.specs.Numbers.{le, leAt}
-use Rattle.utf8.specs.Scan.{isText}
+use Rattle.utf8.specs.Scan.{isText, breakAt}
 
 -- what is asked of bytes whose number is known
 abbrev pub Asks : Type 0
@@ -70,9 +70,9 @@ atMost most n = (leb n most, LIMIT, 0) ∷ []
 abbrev pub blob : ℕ → ℕ → Format
 blob w most = sized w (atMost most) any
 
--- UTF-8
+-- UTF-8; else TEXT at the first byte at which none continues
 abbrev pub utf8 : Asks
-utf8 e = asked ((isText e, TEXT, 0) ∷ [])
+utf8 e = asked ((isText e, TEXT, breakAt e) ∷ [])
 
 -- a u32 length, at most so much, and as many bytes of UTF-8
 abbrev pub text : ℕ → Format

@@ -76,7 +76,7 @@ pub fn text_at(s: &[u8], at: usize, most: u32) -> Piece
             let b = at + 4;
             match utf8::text(&s[b..e]) {
                 utf8::Found::Whole => Piece::Ends(e),
-                utf8::Found::Broken(_) => Piece::Stop(TEXT, b),
+                utf8::Found::Broken(k) => Piece::Stop(TEXT, b + k),
             }
         }
     }

@@ -15,7 +15,7 @@ use Rattle.answer.proofs.Checks.{checked-pass, pass-append, append-pass}
 use Rattle.answer.proofs.Outcomes.{taken-is}
 use Rattle.wire.specs.Numbers.{Bytes as AreBytes, leAt}
 use Rattle.wire.proofs.Numbers.{leAt-bound, bytesOf-leAt}
-use Rattle.utf8.specs.Scan.{isText}
+use Rattle.utf8.specs.Scan.{isText, breakAt}
 use Rattle.kinds.specs.declared.Message.{Message}
 use Rattle.kinds.specs.declared.Body.{Body}
 use Rattle.kinds.specs.declared.Body.the-variants.{Empty, Bytes, Text}
@@ -80,7 +80,7 @@ kept Bytes k at m y p =
     let h = append-pass (dataFits at m) (leftOver m (at + 4 + dataLength at m)) p in
     record { bytes = kept-sized at m y (h .0) (h .1); contents = tt }
 kept Text k at m y p =
-    let h = append-pass (dataFits at m) ((isText (dataIn at m), TEXT, at + 4) ∷ leftOver m (at + 4 + dataLength at m)) p in
+    let h = append-pass (dataFits at m) ((isText (dataIn at m), TEXT, at + 4 + breakAt (dataIn at m)) ∷ leftOver m (at + 4 + dataLength at m)) p in
     record { bytes = kept-sized at m y (h .0) (h .1 .1); contents = (h .1 .0, tt) }
 
 -- ---- the whole

@@ -14,7 +14,7 @@ use Rattle.answer.specs.Outcome.{taken, Checks, Pass}
 use Rattle.answer.proofs.Checks.{pass-checked, pass-append, append-pass}
 use Rattle.wire.specs.Numbers.{leAt, bytesOf}
 use Rattle.wire.proofs.Numbers.{length-bytesOf, leAt-here, leAt-bytesOf}
-use Rattle.utf8.specs.Scan.{isText}
+use Rattle.utf8.specs.Scan.{isText, breakAt}
 use Rattle.kinds.specs.declared.Message.{Message}
 use Rattle.kinds.specs.declared.Body.{Body}
 use Rattle.kinds.specs.declared.Body.the-variants.{Empty, Bytes, Text}
@@ -108,7 +108,7 @@ body-back Bytes k d p m at c e a h =
     record { passes = pass-append (dataFits at m) (leftOver m (at + 4 + dataLength at m)) (s .fits) (s .ends); content = rw (s .len); bytes = rw (s .len) at (s .bytes) }
 body-back Text k d p m at c e a h =
     let s = sized-back d p m at e a h in
-    record { passes = pass-append (dataFits at m) ((isText (dataIn at m), TEXT, at + 4) ∷ leftOver m (at + 4 + dataLength at m)) (s .fits) (rw (s .bytes) (c .0), s .ends); content = rw (s .len); bytes = rw (s .len) at (s .bytes) }
+    record { passes = pass-append (dataFits at m) ((isText (dataIn at m), TEXT, at + 4 + breakAt (dataIn at m)) ∷ leftOver m (at + 4 + dataLength at m)) (s .fits) (rw (s .bytes) (c .0), s .ends); content = rw (s .len); bytes = rw (s .len) at (s .bytes) }
 
 -- ---- the whole
 

@@ -6,7 +6,7 @@ use Prim.Native.Nat.{ℕ}
 use Rattle.answer.specs.Numbers.{SHAPE, TEXT, VALUE, TAG, ROOM}
 use Rattle.answer.specs.Outcome.{taken, refused}
 use Rattle.wire.specs.Numbers.{le, leAt, bytesOf}
-use Rattle.utf8.specs.Scan.{isText, scan, scanFrom, afterOf, leadOf}
+use Rattle.utf8.specs.Scan.{isText, breakAt, scan, scanFrom, afterOf, leadOf}
 use Rattle.kinds.specs.declared.Message.{Message}
 use Rattle.kinds.specs.declared.Message.the-variants.{Nothing, PortReadResp, DiskReadResp, Log}
 use Rattle.kinds.specs.Kinds.{paper}
@@ -41,9 +41,9 @@ pub record Examples : Type 0 where
   pub p10-room : writeMessage (PortReadResp 7 15) [] 9 ≡ refused ROOM 10
   -- Log, level 2, the letter é, whole and broken
   pub log : read (0x00 ∷ 0x14 ∷ 0x02 ∷ 0x02 ∷ 0x00 ∷ 0x00 ∷ 0x00 ∷ 0xC3 ∷ 0xA9 ∷ []) ≡ right (Log 2) 7 2
-  pub log-text : read (0x00 ∷ 0x14 ∷ 0x02 ∷ 0x02 ∷ 0x00 ∷ 0x00 ∷ 0x00 ∷ 0xC3 ∷ 0x29 ∷ []) ≡ wrong TEXT 7
+  pub log-text : read (0x00 ∷ 0x14 ∷ 0x02 ∷ 0x02 ∷ 0x00 ∷ 0x00 ∷ 0x00 ∷ 0xC3 ∷ 0x29 ∷ []) ≡ wrong TEXT 8
   -- TEXT comes before a byte left over
-  pub log-left : read (0x00 ∷ 0x14 ∷ 0x02 ∷ 0x02 ∷ 0x00 ∷ 0x00 ∷ 0x00 ∷ 0xC3 ∷ 0x29 ∷ 0x00 ∷ []) ≡ wrong TEXT 7
+  pub log-left : read (0x00 ∷ 0x14 ∷ 0x02 ∷ 0x02 ∷ 0x00 ∷ 0x00 ∷ 0x00 ∷ 0xC3 ∷ 0x29 ∷ 0x00 ∷ []) ≡ wrong TEXT 8
   -- beside `ok` 1 the error number reads as 0, and is not there
   pub passed : read (0x04 ∷ 0x11 ∷ 0x09 ∷ 0x00 ∷ 0x00 ∷ 0x00 ∷ 0x01 ∷ 0x05 ∷ 0x00 ∷ 0x00 ∷ 0x00 ∷ []) ≡ right (DiskReadResp 9 1 5 0) 0 0
   -- nothing is not written; an error code beside `ok` 1 neither
@@ -51,7 +51,7 @@ pub record Examples : Type 0 where
   pub error-beside : writeMessage (DiskReadResp 9 1 0 2) [] 99 ≡ refused VALUE 0
 
 pub examples : Examples
-unfolding readMessage readChecks fieldChecks bodyChecks messageAt numbersAt sizeOf paper leAt le isText scan scanFrom afterOf leadOf writeMessage writeChecks written formBytes fieldBytes valueChecks bytesOf
+unfolding readMessage readChecks fieldChecks bodyChecks messageAt numbersAt sizeOf paper leAt le isText breakAt scan scanFrom afterOf leadOf writeMessage writeChecks written formBytes fieldBytes valueChecks bytesOf
 examples = record {
   p10 = refl;
   p11 = refl;

@@ -8,7 +8,7 @@ use Rattle.answer.specs.Numbers.{SHAPE, LIMIT, TEXT, VALUE, TAG}
 use Rattle.answer.specs.Outcome.{Outcome, taken, refused, Checks, checked}
 use Rattle.wire.specs.Numbers.{leAt}
 pub use Rattle.wire.specs.Parts.{leftOver}
-use Rattle.utf8.specs.Scan.{isText}
+use Rattle.utf8.specs.Scan.{isText, breakAt}
 use Rattle.kinds.specs.declared.Message.{Message}
 use Rattle.kinds.specs.declared.Message.the-variants.{Nothing}
 use Rattle.kinds.specs.declared.Body.{Body}
@@ -47,7 +47,7 @@ dataIn at m = take (dataLength at m) (drop (at + 4) m)
 unfoldable pub bodyChecks : Body → ℕ → List ℕ → Checks
 bodyChecks Empty at m = leftOver m at
 bodyChecks Bytes at m = dataFits at m ++ leftOver m (at + 4 + dataLength at m)
-bodyChecks Text at m = dataFits at m ++ (isText (dataIn at m), TEXT, at + 4) ∷ leftOver m (at + 4 + dataLength at m)
+bodyChecks Text at m = dataFits at m ++ (isText (dataIn at m), TEXT, at + 4 + breakAt (dataIn at m)) ∷ leftOver m (at + 4 + dataLength at m)
 
 -- where the numbers of a message end
 abbrev pub numbersEnd : Form → ℕ

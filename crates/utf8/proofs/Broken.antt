@@ -8,7 +8,7 @@ use lib.ListN.{length, take, drop, take-append-drop}
 use lib.Seq.{take-take}
 use Rattle.utf8.specs.declared.Found.{Found}
 use Rattle.utf8.specs.declared.Found.the-variants.{Whole, Broken}
-use Rattle.utf8.specs.Grammar.{Range, Alternative, UTF8-char, In, Fits, done, byte, Text, none, Begins, Breaks}
+use Rattle.utf8.specs.Grammar.{Range, Alternative, UTF8-char, In, Fits, done, byte, Text, none, Begins, Longest, Breaks}
 use Rattle.utf8.specs.Scan.{Step, Next, Stop, lookup, leadOf, afterOf, onward, scanFrom, scan}
 use Rattle.utf8.proofs.Table.{picked}
 use Rattle.utf8.proofs.Whole.{never, rest-whole, text-passed, whole-text, text-whole}
@@ -95,21 +95,6 @@ broke (b ∷ s) rs i k ok e = broke-onward rs i k b s ok (λ l o. broke s l (suc
 not-text : (s : List ℕ) (k : ℕ) → scan s ≡ Broken k → Text s → ⊥
 not-text s k e t = never (sym (text-whole t) ∙ e)
 
-pub broken-breaks : (s : List ℕ) (k : ℕ) → scan s ≡ Broken k → Breaks s k
-unfolding scan
-broken-breaks s k e =
-    let p = broke s [] 0 k tt e in
-    let q : p .d ≡ k = omega (arith, p .place) in
-    rw (← q) record {
-      wrong = not-text s k e;
-      within = p .within;
-      continues = record { rest = p .continues .0; text = whole-text _ (p .continues .1) };
-      stops = λ h g. not-text _ k (rw add-one (p .stops h (g .rest))) (g .text);
-    }
-
-pub broken-within : (s : List ℕ) (k : ℕ) → scan s ≡ Broken k → k ≤ length s
-broken-within s k e = broken-breaks s k e .within
-
 -- ---- there is one such place, so the scan finds it
 begins-front : (p q : List ℕ) → Begins (p ++ q) → Begins p
 begins-front p q g = record { rest = q ++ g .rest; text = rw (← append-assoc p q (g .rest)) (g .text) }
@@ -118,18 +103,39 @@ begins-take : (s : List ℕ) (j k : ℕ) → j ≤ k → Begins (take k s) → B
 begins-take s j k h g =
     begins-front (take j s) (drop j (take k s)) (rw (← take-take j k s h, take-append-drop) g)
 
-not-before : {s : List ℕ} {j k : ℕ} → Breaks s j → Breaks s k → j < k → ⊥
-not-before {s} {j} {k} a b h = a .stops (omega (arith, b .within)) (begins-take s (j + 1) k (omega arith) (b .continues))
+-- a prefix with which some text begins is the longest if none begins with the byte behind it too
+pub stops-longest : {s : List ℕ} {k : ℕ} → k ≤ length s → Begins (take k s) → (k < length s → Begins (take (k + 1) s) → ⊥) → Longest s k
+stops-longest {s} {k} w c h =
+    record {
+      within = w;
+      continues = c;
+      longest = λ j i g. let n : k < j → ⊥ = λ l. h (omega arith) (begins-take s (k + 1) j (omega arith) g) in omega (arith, n);
+    }
 
-pub breaks-once : {s : List ℕ} {j k : ℕ} → Breaks s j → Breaks s k → j ≡ k
-breaks-once {s} {j} {k} a b =
-    let p : j < k → ⊥ = not-before a b in
-    let q : k < j → ⊥ = not-before b a in
-    omega arith
+pub longest-stops : {s : List ℕ} {k : ℕ} → Longest s k → k < length s → Begins (take (k + 1) s) → ⊥
+longest-stops {s} {k} l h g = omega (arith, l .longest (k + 1) (omega arith) g)
+
+pub longest-once : {s : List ℕ} {j k : ℕ} → Longest s j → Longest s k → j ≡ k
+longest-once {s} {j} {k} a b = omega (arith, a .longest k (b .within) (b .continues), b .longest j (a .within) (a .continues))
+
+pub broken-breaks : (s : List ℕ) (k : ℕ) → scan s ≡ Broken k → Breaks s k
+unfolding scan
+broken-breaks s k e =
+    let p = broke s [] 0 k tt e in
+    let q : p .d ≡ k = omega (arith, p .place) in
+    rw (← q) record {
+      wrong = not-text s k e;
+      prefix = stops-longest (p .within)
+          (record { rest = p .continues .0; text = whole-text _ (p .continues .1) })
+          (λ h g. not-text _ k (rw add-one (p .stops h (g .rest))) (g .text));
+    }
+
+pub broken-within : (s : List ℕ) (k : ℕ) → scan s ≡ Broken k → k ≤ length s
+broken-within s k e = broken-breaks s k e .prefix .within
 
 pub breaks-broken : {s : List ℕ} {k : ℕ} → Breaks s k → scan s ≡ Broken k
 breaks-broken {s} {k} a = go (scan s) refl
   where
     go : (r : Found) → scan s ≡ r → r ≡ Broken k
     go Whole e = absurd (a .wrong (whole-text s e))
-    go (Broken j) e = rw (breaks-once (broken-breaks s j e) a)
+    go (Broken j) e = rw (longest-once (broken-breaks s j e .prefix) (a .prefix))

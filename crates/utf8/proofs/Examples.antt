@@ -22,6 +22,13 @@ pub record Examples : Type 0 where
   -- €, cut short by the end, and by another character
   pub cut : scan (0xE2 ∷ 0x82 ∷ []) ≡ Broken 2
   pub cut-by : scan (0xE2 ∷ 0x82 ∷ 0x21 ∷ []) ≡ Broken 2
+  -- the other places at which a character breaks
+  pub letter : scan (0xE2 ∷ 0x82 ∷ 0x41 ∷ []) ≡ Broken 2
+  pub low-three : scan (0xE0 ∷ 0x80 ∷ []) ≡ Broken 1
+  pub no-first : scan (0xC0 ∷ []) ≡ Broken 0
+  pub half : scan (0xED ∷ 0xA0 ∷ []) ≡ Broken 1
+  pub high-four : scan (0xF4 ∷ 0x90 ∷ []) ≡ Broken 1
+  pub past : scan (0xF5 ∷ []) ≡ Broken 0
   -- a byte that only continues a character, first and after one; a byte that no character has
   pub stray : scan (0x80 ∷ []) ≡ Broken 0
   pub stray-after : scan (0xC3 ∷ 0xA9 ∷ 0xA9 ∷ []) ≡ Broken 2

@@ -1,6 +1,6 @@
 -- UTF-8 as the grammar of RFC 3629, section 4: each line of the RFC is a definition under its name, and each alternative is one row,
 -- in the RFC's order; and the place at which bytes cease to follow it. Assumes nothing.
-use Prim.Native.Nat.{ℕ, zero, suc, _+_, _≤_, _<_}
+use Prim.Native.Nat.{ℕ, zero, suc, _≤_}
 use mathlib.Core.Logic.{_⊎_}
 use mathlib.Core.List.{List, [], _∷_, _++_}
 use lib.ListN.{length, take}
@@ -102,13 +102,17 @@ pub record Begins (p : List ℕ) : Type 0 where
   pub rest : List ℕ
   pub text : Text (p ++ rest)
 
--- s is no text, and k is the first place at which none continues: some text begins with the first k bytes, and none with those
--- and the byte at k. Where s ends within a character there is no such byte, and k is the length.
-pub record Breaks (s : List ℕ) (k : ℕ) : Type 0 where
-  pub wrong : Text s → ⊥
+-- The first k bytes of s are its longest prefix that some text begins with.
+pub record Longest (s : List ℕ) (k : ℕ) : Type 0 where
   pub within : k ≤ length s
   pub continues : Begins (take k s)
-  pub stops : k < length s → Begins (take (k + 1) s) → ⊥
+  pub longest : (j : ℕ) → j ≤ length s → Begins (take j s) → j ≤ k
+
+-- s is no text, and k is the place of the first byte at which none continues: what stands before it is that prefix. Where s ends within a
+-- character there is no such byte, and k is the length.
+pub record Breaks (s : List ℕ) (k : ℕ) : Type 0 where
+  pub wrong : Text s → ⊥
+  pub prefix : Longest s k
 
 -- ---- answers
 -- Document 01's number and place for each answer: a text is taken, another is TEXT.

@@ -57,3 +57,12 @@ isWhole (Broken k) = false
 -- The test that s is a text.
 unfoldable pub isText : List ℕ → Bool
 isText s = isWhole (scan s)
+
+-- The place of an answer.
+abbrev pub breakOf : Found → ℕ
+breakOf Whole = 0
+breakOf (Broken k) = k
+
+-- The place of the first byte of s at which no text continues; the length, if s ends early.
+unfoldable pub breakAt : List ℕ → ℕ
+breakAt s = breakOf (scan s)

@@ -1,6 +1,6 @@
 //! The commands. Each reads its input, asks the library, and prints or writes the answer.
 
-use crate::failure::Failure;
+use crate::failure::{of_input, Failure};
 use crate::files;
 use crate::help;
 use crate::words::Words;
@@ -46,7 +46,7 @@ pub const ALL: &[Command] = &[
 fn check(words: &Words) -> Result<(), Failure> {
     let [name] = words.plain("one FILE")?;
     let file = files::read(name, snapshot::MOST_BYTES)?;
-    snapshot::check(&file)?;
+    snapshot::check(&file).map_err(of_input(&file))?;
     files::print("taken\n")
 }
 
@@ -54,7 +54,9 @@ fn list(words: &Words) -> Result<(), Failure> {
     let [name] = words.plain("one FILE")?;
     let file = files::read(name, snapshot::MOST_BYTES)?;
     let mut text = String::from("id version flags offset length\n");
-    for Section { id, version, flags, offset, length } in snapshot::sections(&file)? {
+    for Section { id, version, flags, offset, length } in
+        snapshot::sections(&file).map_err(of_input(&file))?
+    {
         line(&mut text, format_args!("{id} {version} {flags} {offset} {length}"));
     }
     for Device { id, version, flags, offset, length } in snapshot::devices(&file)? {
@@ -69,7 +71,7 @@ fn list(words: &Words) -> Result<(), Failure> {
 fn canon(words: &Words) -> Result<(), Failure> {
     let [name, out] = words.plain("FILE and OUT")?;
     let file = files::read(name, snapshot::MOST_BYTES)?;
-    files::write(out, &snapshot::canonical(&file)?)
+    files::write(out, &snapshot::canonical(&file).map_err(of_input(&file))?)
 }
 
 fn add_device(words: &Words) -> Result<(), Failure> {
@@ -83,7 +85,10 @@ fn add_device(words: &Words) -> Result<(), Failure> {
     }
     let file = files::read(name, snapshot::MOST_BYTES)?;
     let payload = files::read(payload, snapshot::MOST_PAYLOAD_BYTES)?;
-    files::write(out, &snapshot::add_device(&file, id, version, flags, &payload)?)
+    files::write(
+        out,
+        &snapshot::add_device(&file, id, version, flags, &payload).map_err(of_input(&file))?,
+    )
 }
 
 fn add_disk(words: &Words) -> Result<(), Failure> {
@@ -92,7 +97,7 @@ fn add_disk(words: &Words) -> Result<(), Failure> {
     let base = words.needed("--base")?.as_bytes();
     let overlay = words.needed("--overlay")?.as_bytes();
     let file = files::read(name, snapshot::MOST_BYTES)?;
-    files::write(out, &snapshot::add_disk(&file, id, base, overlay)?)
+    files::write(out, &snapshot::add_disk(&file, id, base, overlay).map_err(of_input(&file))?)
 }
 
 fn wrapper(words: &Words) -> Result<(), Failure> {
@@ -125,7 +130,7 @@ fn message(words: &Words) -> Result<(), Failure> {
             }
         }
     };
-    let mut text = told(&bytes)?;
+    let mut text = told(&bytes).map_err(of_input(&bytes))?;
     text.push('\n');
     files::print(&text)
 }

@@ -1,15 +1,15 @@
 //! Why a command ends without its answer, what it says then and with which status.
 
 use crate::files::complain;
-use cimbrolau::Refusal;
-use std::fmt::Display;
+use cimbrolau::{Kind, Refusal};
+use std::fmt::{Display, Write};
 use std::io::{self, ErrorKind};
 use std::process::ExitCode;
 
 /// Why a command ends without its answer.
 pub enum Failure {
-    /// The library refuses the input: status 1.
-    Refused(Refusal),
+    /// The library refuses the input: status 1. Of a broken text, the bytes around the place.
+    Refused(Refusal, Option<String>),
     /// The command line is not understood: status 2.
     Usage(String),
     /// A file cannot be read or written: status 3.
@@ -40,8 +40,11 @@ impl Failure {
     /// Tells the failure on standard error; the status to end with.
     pub fn told(self) -> ExitCode {
         match self {
-            Failure::Refused(refusal) => {
+            Failure::Refused(refusal, around) => {
                 complain(format_args!("refused {refusal}"));
+                if let Some(bytes) = around {
+                    complain(bytes);
+                }
                 ExitCode::from(1)
             }
             Failure::Usage(fault) => {
@@ -59,6 +62,48 @@ impl Failure {
 
 impl From<Refusal> for Failure {
     fn from(refusal: Refusal) -> Failure {
-        Failure::Refused(refusal)
+        Failure::Refused(refusal, None)
+    }
+}
+
+/// A refusal of this input, with the bytes around the place where a text in it breaks. (At place 0 stands no text of an
+/// input: that is the place of one that is to be added.)
+pub fn of_input(input: &[u8]) -> impl FnOnce(Refusal) -> Failure + '_ {
+    |refusal| {
+        let broken = refusal.kind == Kind::Text && refusal.place > 0;
+        Failure::Refused(refusal, broken.then(|| around(input, refusal.place as usize)))
+    }
+}
+
+/// Up to eight bytes on either side of a place, the one that stands there in brackets.
+fn around(input: &[u8], place: usize) -> String {
+    let from = place.saturating_sub(8);
+    let to = input.len().min(place + 9);
+    let mut line = format!("bytes from {from}:");
+    for (at, byte) in (from..).zip(&input[from..to]) {
+        // Writing to a string does not fail.
+        let _ =
+            if at == place { write!(line, " [{byte:02X}]") } else { write!(line, " {byte:02X}") };
+    }
+    if place == input.len() {
+        line.push_str(" [end]");
+    }
+    line
+}
+
+#[cfg(test)]
+mod tests {
+    use super::*;
+
+    #[test]
+    fn the_bytes_around_a_place() {
+        let input: Vec<u8> = (0..20).collect();
+        assert_eq!(
+            around(&input, 10),
+            "bytes from 2: 02 03 04 05 06 07 08 09 [0A] 0B 0C 0D 0E 0F 10 11 12"
+        );
+        assert_eq!(around(&input, 1), "bytes from 0: 00 [01] 02 03 04 05 06 07 08 09");
+        assert_eq!(around(&input, 19), "bytes from 11: 0B 0C 0D 0E 0F 10 11 12 [13]");
+        assert_eq!(around(&input, 20), "bytes from 12: 0C 0D 0E 0F 10 11 12 13 [end]");
     }
 }

@@ -32,6 +32,11 @@ Prints `taken` if the snapshot follows the rules. Else it is refused with its fi
 and the name of the refusal, and the byte at which it stands.
 
   refused 13 KEY at 53: key again
+
+Of a text that is no UTF-8 the byte at which it breaks is named, and shown among those around it:
+
+  refused 14 TEXT at 57: not UTF-8
+  bytes from 49: 01 05 00 00 00 69 6D 67 [FC] 2F
 ";
 
 pub const LIST: &str = "\

@@ -101,6 +101,24 @@ fn check_takes_or_refuses() {
     prints(fed(&at, &["check", "-"], TWO_DEVICES), "taken\n");
 }
 
+/// A disk whose base image is `/b\xFCro`, which is no UTF-8 from its third byte on.
+const BROKEN_TEXT: &[u8] = b"AEROSNAP\x01\x00\x01\x00\x00\x00\x00\x00\
+    \x05\x00\x00\x00\x01\x00\x00\x00\x15\x00\x00\x00\x00\x00\x00\x00\
+    \x01\x00\x00\x00\x07\x00\x00\x00\x05\x00\x00\x00/b\xFCro\x00\x00\x00\x00";
+
+#[test]
+fn a_broken_text_is_shown_at_the_byte_at_which_it_breaks() {
+    let at = folder("broken_text");
+    put(&at, "broken", BROKEN_TEXT);
+    let told = "refused 14 TEXT at 46: not UTF-8\n\
+        bytes from 38: 00 00 05 00 00 00 2F 62 [FC] 72 6F 00 00 00 00\n";
+    for words in [&["check", "broken"][..], &["list", "broken"], &["canon", "broken", "out"]] {
+        fails(run(&at, words), told, 1);
+    }
+    let told = "refused 14 TEXT at 8: not UTF-8\nbytes from 0: FE 1F 02 00 00 00 E2 82 [end]\n";
+    fails(run(&at, &["message", "--hex", "FE1F 02000000 E282"]), told, 1);
+}
+
 #[test]
 fn list_prints_the_listing_of_document_01() {
     let at = folder("list");

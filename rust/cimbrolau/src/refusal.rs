@@ -35,7 +35,7 @@ pub enum Kind {
     Limit = 12,
     /// A key comes again.
     Key = 13,
-    /// A text is not UTF-8.
+    /// A text is not UTF-8; the place is the first byte at which none continues, or where the text ends early.
     Text = 14,
     /// A byte or a number is outside its values.
     Value = 15,

@@ -79,7 +79,7 @@ impl<'a> Cursor<'a> {
         let length = self.u32_to(most)?;
         let place = self.at;
         let text = self.take(u64::from(length))?;
-        ask(is_text(text), TEXT, place)?;
+        ask_text(text, place)?;
         Ok(text)
     }
 
@@ -92,6 +92,28 @@ impl<'a> Cursor<'a> {
 /// Whether the bytes are UTF-8 as in RFC 3629.
 pub fn is_text(bytes: &[u8]) -> bool {
     std::str::from_utf8(bytes).is_ok()
+}
+
+/// Refuses bytes that are no UTF-8 at the first of them at which no valid UTF-8 continues; `start` is where they stand.
+pub fn ask_text(bytes: &[u8], start: usize) -> Taken<()> {
+    match broken(bytes) {
+        None => Ok(()),
+        Some(place) => ask(false, TEXT, start + place),
+    }
+}
+
+/// The length of the longest prefix with which some text begins, of bytes that are none.
+///
+/// All that stands before the first character that is not whole is such a prefix, and so are the bytes behind it as
+/// long as they only lack some more: `error_len` is then none.
+fn broken(bytes: &[u8]) -> Option<usize> {
+    let whole = std::str::from_utf8(bytes).err()?.valid_up_to();
+    let begins = |end: &usize| {
+        std::str::from_utf8(&bytes[whole..*end])
+            .is_err_and(|error| error.valid_up_to() == 0 && error.error_len().is_none())
+    };
+    let ends = whole + 1..=bytes.len();
+    Some(ends.take_while(begins).last().unwrap_or(whole))
 }
 
 /// The little-endian number at a place of a slice that is long enough.
@@ -128,5 +150,29 @@ impl<'a> Output<'a> {
         let (here, rest) = std::mem::take(&mut self.rest).split_at_mut(bytes.len());
         here.copy_from_slice(bytes);
         self.rest = rest;
+    }
+}
+
+#[cfg(test)]
+mod tests {
+    use super::*;
+
+    #[test]
+    fn a_text_breaks_at_the_first_byte_at_which_none_continues() {
+        for (bytes, place) in [
+            (&[0xE2, 0x82, 0xAC][..], None),
+            (&[0xE2, 0x82, 0x41], Some(2)),
+            (&[0xE2, 0x82], Some(2)),
+            (&[0xE0, 0x80], Some(1)),
+            (&[0xC0], Some(0)),
+            (&[0xED, 0xA0], Some(1)),
+            (&[0xF4, 0x90], Some(1)),
+            (&[0xF5], Some(0)),
+            (&[0x41, 0xC3], Some(2)),
+            (&[0x41, 0xC3, 0xA9, 0xA9, 0x41], Some(3)),
+            (&[0xF0, 0x9F, 0x98, 0x41], Some(3)),
+        ] {
+            assert_eq!(broken(bytes), place, "{bytes:02X?}");
+        }
     }
 }

@@ -4,7 +4,7 @@
 //! there is none. Its data, if its kind has any, stands behind a u32 length as the last field.
 
 use crate::answer::{answered, ask, Answer, Taken, LIMIT, SHAPE, TAG, TEXT, VALUE};
-use crate::cursor::{is_text, u16_at, u32_at, u64_at, Cursor, Output};
+use crate::cursor::{ask_text, is_text, u16_at, u32_at, u64_at, Cursor, Output};
 
 const MOST_MESSAGE: usize = 65_536;
 
@@ -151,7 +151,9 @@ fn read_data(data: Data, cursor: &mut Cursor) -> Taken<(u64, u64)> {
     let length = cursor.u32()?;
     let place = cursor.place();
     let bytes = cursor.take(u64::from(length))?;
-    ask(data != Data::Text || is_text(bytes), TEXT, place)?;
+    if data == Data::Text {
+        ask_text(bytes, place)?;
+    }
     Ok((place as u64, u64::from(length)))
 }
 

@@ -1,15 +1,15 @@
 use mathlib.Core.Path.{_≡_, sym, _∙_, ap}
-use Rattle.utf8.specs.Scan.{isWhole}
-use Rattle.utf8.proofs.Reading.{reads-is}
+use Rattle.utf8.specs.Grammar.{textOf}
+use Rattle.utf8.proofs.Reading.{reads-asked, reads-within}
 use native.Mathlib.Omega.{arith}
 use Rattle.format.specs.Format.{atMost, any, utf8, sized}
-use lib.ListN.{length}
+use lib.ListN.{length, drop, length-take}
 use Rattle.answer.specs.Outcome.{taken}
 use Rattle.answer.specs.Calls.{pieceOf}
 use Rattle.format.specs.Places.{readAt}
-use Prim.Native.Nat.{ℕ, _+_, _≤_}
+use Prim.Native.Nat.{ℕ, _+_, _-_, _≤_}
 use Rattle.format.proofs.Placed.{sized-at}
-use Rattle.format.proofs.Exits.{sized-inside, asked-stop, text-done, text-fault}
+use Rattle.format.proofs.Exits.{sized-inside, asked-stop, asked-done, asked-fault}
 use borrow.Author.Needs.{needs}
 use Rattle.format.proofs.text_at.Statement.{statement}
 use Rattle.format.proofs.text_at.Tie as tie
@@ -42,14 +42,33 @@ part-text-start c = omega (arith, inside (c .before))
 part-text-end : tie.Need-part-text-end
 part-text-end c = omega (arith, inside (c .before))
 
+-- the byte at which it breaks lies within
+add-place : tie.Need-add-t17
+add-place c =
+    let m = c .before .before .before in
+    let e = m .before .before .before in
+    let a = start (part e) .args in
+    let k = reads-within _ (m .text .result) (m .text .ensures) (c .before .k .given .1) in
+    omega (arith, inside e, k, length-take (end e - (a .at + 4)) (drop (a .at + 4) (a .s .now)))
+
 returns : tie.Need-returns
 returns c = let k = c .before .before .before in let a = start k .args in asked-stop utf8 (a .s .now) (a .at + 4) (sized-at 4 (atMost (a .most)) utf8 (a .s .now) (a .at)) (rw (c .before .number .given .1) at (k .part-at .ensures))
 
 returns-2 : tie.Need-returns-2
-returns-2 c = let e = c .before .before .before .before .before in let a = start (part e) .args in text-done (a .s .now) (a .at) (a .most) (read e) (reads-is _ (c .before .before .text .result) (c .before .before .text .ensures) ∙ ap isWhole (c .enum-told .given .1))
+returns-2 c =
+    let m = c .before .before in
+    let e = m .before .before .before in
+    let a = start (part e) .args in
+    asked-done utf8 (a .s .now) (a .at + 4) (sized-at 4 (atMost (a .most)) utf8 (a .s .now) (a .at)) (read e)
+    (sym (ap textOf (c .enum-told .given .1)) ∙ reads-asked _ (m .text .result) (m .text .ensures))
 
 returns-3 : tie.Need-returns-3
-returns-3 c = let e = c .before .before .before .before .before in let a = start (part e) .args in text-fault (a .s .now) (a .at) (a .most) (read e) (reads-is _ (c .before .before .text .result) (c .before .before .text .ensures) ∙ ap isWhole (c .enum-told2 .given .1))
+returns-3 c =
+    let m = c .before .before .before in
+    let e = m .before .before .before in
+    let a = start (part e) .args in
+    asked-fault utf8 (a .s .now) (a .at + 4) (sized-at 4 (atMost (a .most)) utf8 (a .s .now) (a .at)) (read e)
+    (sym (ap textOf (c .before .k .given .1)) ∙ reads-asked _ (m .text .result) (m .text .ensures))
 
 pub text-at-spec : {M : Type 1} → statement M
 text-at-spec =
@@ -65,6 +84,7 @@ text-at-spec =
     (λ c κs. search needs)
     (λ c. search needs)
     (λ c. search needs)
+    add-place
     returns
     returns-2
     returns-3)

@@ -9,6 +9,7 @@
 
 mod adds;
 mod bounds;
+mod breaks;
 mod messages;
 mod rings;
 mod snapshots;
@@ -49,6 +50,7 @@ const GROUPS: &[Group] = &[
     ("messages: written at random", messages::written),
     ("adds: chains in several orders", adds::chains),
     ("adds: to any file", adds::to_any_file),
+    ("texts: every break", breaks::all),
     ("bounds: counts", bounds::counts::all),
     ("bounds: texts and messages", bounds::texts::all),
     ("bounds: payloads", bounds::payloads::all),

@@ -214,7 +214,7 @@ pub fn texts(run: &mut Comparison) {
 }
 
 /// A file whose label, base image or overlay image is these bytes.
-fn with_text(text: &[u8], role: usize) -> Vec<u8> {
+pub fn with_text(text: &[u8], role: usize) -> Vec<u8> {
     let mut made = Made::file();
     match role {
         0 => made.section(1, 1, 0, |made| {

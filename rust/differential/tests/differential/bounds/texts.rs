@@ -13,7 +13,7 @@ pub fn all(run: &mut Comparison) {
     messages_written(run);
 }
 
-/// So many bytes of text, which end in a character of three bytes; or with its last byte wrong.
+/// So many bytes of text, which end in a character of three bytes; or with its last byte wrong, so that it breaks there.
 fn long_text(length: usize, broken: bool) -> Vec<u8> {
     let mut text = vec![b'x'; length];
     text[length - 3..].copy_from_slice(if broken {
@@ -33,7 +33,7 @@ fn label(run: &mut Comparison) {
     };
     for _ in 0..10 {
         expect(run.file(&of(4096, false)), 0, 0);
-        expect(run.file(&of(4096, true)), TEXT, 54);
+        expect(run.file(&of(4096, true)), TEXT, 54 + 4095);
         expect(run.file(&of(4097, false)), LIMIT, 50);
         expect(run.file(&of(4097, true)), LIMIT, 50);
     }
@@ -54,8 +54,8 @@ fn images(run: &mut Comparison) {
     expect(run.file(&two), 0, 0);
     expect(run.file(&of(&over, &most)), LIMIT, 40);
     expect(run.file(&of(&most, &over)), LIMIT, 44 + 65_536);
-    expect(run.file(&of(&broken, &over)), TEXT, 44);
-    expect(run.file(&of(&most, &broken)), TEXT, 48 + 65_536);
+    expect(run.file(&of(&broken, &over)), TEXT, 44 + 65_535);
+    expect(run.file(&of(&most, &broken)), TEXT, 48 + 65_536 + 65_535);
 }
 
 fn added_images(run: &mut Comparison) {
@@ -99,7 +99,7 @@ fn messages_read(run: &mut Comparison) {
             let expected = if length > MOST_MESSAGE {
                 (LIMIT, 0)
             } else if broken && is_text {
-                (TEXT, 6 + numbers as u64)
+                (TEXT, length as u64 - 1)
             } else {
                 (0, 0)
             };
