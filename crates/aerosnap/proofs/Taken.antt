@@ -40,7 +40,7 @@ peeled n at v s i h j =
     let q : x ≡ bytesOf n v = small x v (eqb-true _ _ h) j ∙ ap (λ (k : ℕ). bytesOf k v) l in
     sym (take-append-drop n (drop at s)) ∙ cc (q, drop-drop n at s)
 
-header-sound : (s : List ℕ) → Pass (headerChecks s) → s ≡ header ++ drop 16 s
+pub header-sound : (s : List ℕ) → Pass (headerChecks s) → s ≡ header ++ drop 16 s
 unfolding bytesOf
 header-sound s (_, (n, (m, (v, (e, (r, (u, _))))))) =
     let l : 16 ≤ length s = leb-true _ _ n in
