@@ -8,14 +8,12 @@ use native.Mathlib.Omega.{arith}
 use lib.ListN.{length, drop}
 use lib.Seq.{drop-drop, drop-append-le}
 use borrow.Author.Tests.{eqb-true, ne-eqb}
-use Rattle.answer.specs.Outcome.{taken}
 use Rattle.wire.specs.Numbers.{Bytes}
 use Rattle.order.specs.Keyed.{Every, flat, keep}
 use Rattle.order.specs.Entries.{join}
 use Rattle.order.proofs.Folds.{every-imp}
 use Rattle.order.proofs.Keeps.{keep-none}
 use Rattle.order.proofs.Starts.{drop-past}
-use Rattle.entries.specs.Kinds.{Description}
 use Rattle.lists.specs.Lists.{entries, IsList}
 use Rattle.lists.proofs.Taken.{list-complete}
 use Rattle.tables.specs.Tables.{described, framedRow}
@@ -23,9 +21,9 @@ use Rattle.tables.specs.declared.Table.{Table}
 use Rattle.tables.specs.Named.{NamesFramed, Each, IsTable}
 use Rattle.tables.proofs.Named.{framed-names, table-lawful, list-table}
 use Rattle.aerosnap.specs.Known.{known, slot}
-use Rattle.aerosnap.specs.Payloads.{Body, list, bodyOf}
+use Rattle.aerosnap.specs.Payloads.{list, bodyOf}
 use Rattle.aerosnap.specs.File.{fileMost, idOf, versionOf}
-use Rattle.aerosnap.specs.Rules.{IsBody, IsSection}
+use Rattle.aerosnap.specs.Rules.{IsSection}
 use Rattle.aerosnap.specs.Content.{isId, entriesIn}
 use Rattle.aerosnap.specs.Tables.{placed, listRows}
 use Rattle.aerosnap.proofs.Rows.{rows-skip, rows-here}

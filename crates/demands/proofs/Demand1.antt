@@ -25,7 +25,7 @@ use Rattle.tables.specs.Tables.{rowsAt}
 use Rattle.aerosnap.specs.File.{fileOf}
 use Rattle.aerosnap.specs.Content.{Content, contentAt, render, canonical}
 use Rattle.aerosnap.specs.Tables.{placed, table}
-use Rattle.aerosnap.specs.Adding.{Item, device, disk, ownChecks, addChecks, put, addTo, addItem}
+use Rattle.aerosnap.specs.Adding.{Item, device, disk, ownChecks, addChecks, withItem, addTo, addItem}
 use Rattle.aerosnap.proofs.Refusals.{Refuses, checked-refuses, after-refuses, refuses-more}
 use Rattle.aerosnap.proofs.Named.{checked-faulty, after-faulty, file-faulty, content-faulty}
 use Rattle.dskc.specs.Wrapper as wrapped
@@ -42,7 +42,7 @@ use Rattle.messages.specs.Writing.{valueChecks, dataChecks, writeChecks, writte
 use Rattle.numbers.specs.declared.Numbers.{Numbers}
 use Rattle.numbers.specs.declared.Told.{Told}
 use Rattle.numbers.specs.Numbers.{numbersOf, kindIn, allWithin, messageOf, told, writeNumbers}
-use Rattle.demands.specs.Demand1.{Taken, InTable, Answers, Fills, Reads, Tells, numbersIn, Demand1}
+use Rattle.demands.specs.Demand1.{Taken, InTable, Answers, Fills, ReadsMessage, TellsMessage, numbersIn, Demand1}
 use Rattle.demands.proofs.Faults.{wrapper-faulty, message-faulty}
 
 -- ---- numbers
@@ -94,7 +94,7 @@ reading-zero number made t f (refused n p) h r e = (
   λ (a, q). absurd (taken-refused (sym q)),
 )
 
-reads : (o : Outcome MessageContent) → Faulty o → Reads o
+reads : (o : Outcome MessageContent) → Faulty o → ReadsMessage o
 reads o h = record {
   faults = h;
   zero = reading-zero (λ r. r .number) reading (λ c. refl) (λ n p. refl) o h;
@@ -112,7 +112,7 @@ nothing-told : numbersOf Nothing ≡ record { tag = 0; a = 0; b = 0; c = 0; d = 
 unfolding paper
 nothing-told = refl
 
-tells : (o : Outcome MessageContent) → Faulty o → Tells o
+tells : (o : Outcome MessageContent) → Faulty o → TellsMessage o
 tells o h = record {
   faults = h;
   zero = reading-zero (λ r. r .number) toldOf (λ c. refl) (λ n p. refl) o h;
@@ -199,23 +199,23 @@ own-rows : (x : Item) → Rows (ownChecks x)
 own-rows (device id v f p) = (plain 12 refl, tt)
 own-rows (disk id x y) = (plain 12 refl, (plain 14 refl, tt))
 
-add-rows : (x : Item) (c : Content) → Rows (ownChecks x ++ addChecks x c (put x c))
-add-rows x c = every-append _ (ownChecks x) (addChecks x c (put x c)) (own-rows x) ((refl, λ e. omega arith), (plain 12 refl, (plain 12 refl, (plain 8 refl, (plain 6 refl, tt)))))
+add-rows : (x : Item) (c : Content) → Rows (ownChecks x ++ addChecks x c (withItem x c))
+add-rows x c = every-append _ (ownChecks x) (addChecks x c (withItem x c)) (own-rows x) ((refl, λ e. omega arith), (plain 12 refl, (plain 12 refl, (plain 8 refl, (plain 6 refl, tt)))))
 
 add-core : (s : List ℕ) (x : Item) → Core (λ have. addItem have s x)
 unfolding addItem addTo
 add-core s x =
-    let rows : Content → Checks = λ c. ownChecks x ++ addChecks x c (put x c) in
-    let all : Content → Outcome (List ℕ) = λ c. checked (rows c) (taken (render (put x c))) in
+    let rows : Content → Checks = λ c. ownChecks x ++ addChecks x c (withItem x c) in
+    let all : Content → Outcome (List ℕ) = λ c. checked (rows c) (taken (render (withItem x c))) in
     record {
       core = after (contentAt s) all;
-      apart = after-refuses Plain (contentAt s) all (faulty-unroomed (contentAt s) (content-faulty s)) (λ c. checked-refuses Plain (rows c) (taken (render (put x c))) (add-rows x c) tt);
+      apart = after-refuses Plain (contentAt s) all (faulty-unroomed (contentAt s) (content-faulty s)) (λ c. checked-refuses Plain (rows c) (taken (render (withItem x c))) (add-rows x c) tt);
       same = λ have. by have (contentAt s);
     }
   where
     by : (have : ℕ) (r : Outcome Content)
-        → after r (λ c. checked (ownChecks x ++ addChecks x c (put x c)) (fitting have (render (put x c)))) ≡ after (after r (λ c. checked (ownChecks x ++ addChecks x c (put x c)) (taken (render (put x c))))) (fitting have)
-    by have (taken c) = sym (checked-after (ownChecks x ++ addChecks x c (put x c)) (taken (render (put x c))) (fitting have))
+        → after r (λ c. checked (ownChecks x ++ addChecks x c (withItem x c)) (fitting have (render (withItem x c)))) ≡ after (after r (λ c. checked (ownChecks x ++ addChecks x c (withItem x c)) (taken (render (withItem x c))))) (fitting have)
+    by have (taken c) = sym (checked-after (ownChecks x ++ addChecks x c (withItem x c)) (taken (render (withItem x c))) (fitting have))
     by have (refused n p) = refl
 
 value-rows : (ok : ℕ) (cs : List Cell) → Rows (valueChecks ok cs)

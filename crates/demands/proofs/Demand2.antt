@@ -27,7 +27,7 @@ use Rattle.aerosnap.specs.File.{fileMost, fileOf}
 use Rattle.aerosnap.specs.Rules.{IsSection}
 use Rattle.aerosnap.specs.Content.{Content, contentOf, contentAt, render, entriesIn, canonical}
 use Rattle.aerosnap.specs.Tables.{placed, listRows, table}
-use Rattle.aerosnap.specs.Adding.{Item, put, addItem}
+use Rattle.aerosnap.specs.Adding.{Item, withItem, addItem}
 use Rattle.aerosnap.proofs.Slots.{Once}
 use Rattle.aerosnap.proofs.Taken.{file-sound, taken-exactly, file-unique}
 use Rattle.aerosnap.proofs.Records.{section-rows, list-rows}
@@ -187,7 +187,7 @@ addresses = record {
 
 -- ---- adds
 
-adds-exactly : (have : ℕ) (s : List ℕ) (x : Item) (b : List ℕ) → (addItem have s x ≡ taken b) ↔ ((c : Content) × (contentAt s ≡ taken c) × Passed have x c × (render (put x c) ≡ b))
+adds-exactly : (have : ℕ) (s : List ℕ) (x : Item) (b : List ℕ) → (addItem have s x ≡ taken b) ↔ ((c : Content) × (contentAt s ≡ taken c) × Passed have x c × (render (withItem x c) ≡ b))
 adds-exactly have s x b = (
   λ h. let (c, e, p, q) = add-exactly have s x b .0 h in (c, e, record { own = p .own; others = p .others; fits = p .room-is }, q),
   λ (c, e, p, q). add-exactly have s x b .1 (c, e, record { own = p .own; others = p .others; room-is = p .fits }, q),
@@ -198,7 +198,7 @@ adds = record { exactly = adds-exactly; gives = λ have s x b k. let g = call-gi
 
 -- ---- wrappers
 
-wrapper-exactly : (s : List ℕ) → Bytes s → Taken (wrapped.wrapperOf s) ↔ ((l : List (List ℕ)) × (s ≡ wrapped.wrapperBytes l) × wrapped.Valid l)
+wrapper-exactly : (s : List ℕ) → Bytes s → Taken (wrapped.wrapperOf s) ↔ ((l : List (List ℕ)) × (s ≡ wrapped.wrapperBytes l) × wrapped.IsWrapper l)
 wrapper-exactly s y = (
   λ (r, e). let w = wrapper-sound s y e in (wrapped.controllersOf s, w .0, w .1),
   λ (l, e, v). (_, ap wrapped.wrapperOf e ∙ wrapper-complete l v),

@@ -27,9 +27,9 @@ use Rattle.lists.proofs.Faults.{StopsAt, walk-stop, stop-walk, starts-distinct,
 use Rattle.aerosnap.specs.Known.{known}
 use Rattle.aerosnap.specs.Payloads.{bodyOf, payload}
 use Rattle.aerosnap.specs.File.{fileMost, sectionsMost, header, headerChecks, idOf, versionOf, flagsOf, lengthOf, payloadOf, frameChecks, knownChecks, ruled, sectionOf, sections, fileOf}
-use Rattle.aerosnap.specs.Rules.{Valid}
+use Rattle.aerosnap.specs.Rules.{IsFile}
 use Rattle.aerosnap.specs.Content.{Content, contentAt, render}
-use Rattle.aerosnap.specs.Adding.{Item, ownChecks, addChecks, put, addTo, addItem}
+use Rattle.aerosnap.specs.Adding.{Item, ownChecks, addChecks, withItem, addTo, addItem}
 use Rattle.aerosnap.proofs.Taken.{header-sound}
 use Rattle.aerosnap.proofs.Faults.{Stops, sections-stop, stop-sections}
 use Rattle.dskc.specs.Wrapper as wrapped
@@ -77,7 +77,7 @@ section-first before at b n p =
     )
 
 abbrev FileFault : List ℕ → ℕ → ℕ → Type 0
-FileFault s n p = (l : List (List ℕ)) × (b : List ℕ) × (s ≡ header ++ (join l ++ b)) × (1 ≤ length b) × Valid l × SectionFault l (16 + length (join l)) b n p
+FileFault s n p = (l : List (List ℕ)) × (b : List ℕ) × (s ≡ header ++ (join l ++ b)) × (1 ≤ length b) × IsFile l × SectionFault l (16 + length (join l)) b n p
 
 file-first : (s : List ℕ) (n p : ℕ) → (fileOf s ≡ refused n p) ↔ FirstOr (headerChecks s) n p (FileFault s n p)
 unfolding fileOf
@@ -214,23 +214,23 @@ module _ (v : Numbers) (d : List ℕ) (have n p : ℕ) where
 
 add-first : (have : ℕ) (s : List ℕ) (x : Item) (n p : ℕ)
     → (addItem have s x ≡ refused n p)
-    ↔ ((contentAt s ≡ refused n p) ⊎ ((c : Content) × (contentAt s ≡ taken c) × First ((ownChecks x ++ addChecks x c (put x c)) ++ room have (length (render (put x c)))) n p))
+    ↔ ((contentAt s ≡ refused n p) ⊎ ((c : Content) × (contentAt s ≡ taken c) × First ((ownChecks x ++ addChecks x c (withItem x c)) ++ room have (length (render (withItem x c)))) n p))
 unfolding addItem addTo
 add-first have s x n p = ((λ e. there (after-refused (contentAt s) (λ c. addTo have c x) n p e)), back)
   where
     rows : Content → Checks
-    rows c = (ownChecks x ++ addChecks x c (put x c)) ++ room have (length (render (put x c)))
+    rows c = (ownChecks x ++ addChecks x c (withItem x c)) ++ room have (length (render (withItem x c)))
 
-    joined : (c : Content) → addTo have c x ≡ checked (rows c) (taken (render (put x c)))
-    joined c = sym (checked-append (ownChecks x ++ addChecks x c (put x c)) (room have (length (render (put x c)))) (taken (render (put x c))))
+    joined : (c : Content) → addTo have c x ≡ checked (rows c) (taken (render (withItem x c)))
+    joined c = sym (checked-append (ownChecks x ++ addChecks x c (withItem x c)) (room have (length (render (withItem x c)))) (taken (render (withItem x c))))
 
     there : ((contentAt s ≡ refused n p) ⊎ ((c : Content) × (contentAt s ≡ taken c) × (addTo have c x ≡ refused n p))) → (contentAt s ≡ refused n p) ⊎ ((c : Content) × (contentAt s ≡ taken c) × First (rows c) n p)
     there (inl e) = inl e
-    there (inr (c, e, h)) = inr (c, e, checked-first (rows c) (render (put x c)) n p .0 (sym (joined c) ∙ h))
+    there (inr (c, e, h)) = inr (c, e, checked-first (rows c) (render (withItem x c)) n p .0 (sym (joined c) ∙ h))
 
     back : ((contentAt s ≡ refused n p) ⊎ ((c : Content) × (contentAt s ≡ taken c) × First (rows c) n p)) → after (contentAt s) (λ c. addTo have c x) ≡ refused n p
     back (inl e) = ap (λ (r : Outcome Content). after r (λ c. addTo have c x)) e
-    back (inr (c, e, h)) = ap (λ (r : Outcome Content). after r (λ c. addTo have c x)) e ∙ joined c ∙ checked-first (rows c) (render (put x c)) n p .1 h
+    back (inr (c, e, h)) = ap (λ (r : Outcome Content). after r (λ c. addTo have c x)) e ∙ joined c ∙ checked-first (rows c) (render (withItem x c)) n p .1 h
 
 pub faults : Faults
 faults = record {

@@ -18,8 +18,8 @@ use Rattle.order.specs.Entries.{split}
 use Rattle.lists.specs.Lists.{entryAt, walk, listAt}
 use Rattle.aerosnap.specs.Payloads.{payload}
 use Rattle.aerosnap.specs.File.{ruled, sectionOf, sections, fileOf}
-use Rattle.aerosnap.specs.Content.{Content, contentAt, render, InOrder}
-use Rattle.aerosnap.specs.Adding.{Item, device, disk, Wide, listIn, entryOf, put, addTo, addItem, Call}
+use Rattle.aerosnap.specs.Content.{Content, contentAt, render, IsCanonical}
+use Rattle.aerosnap.specs.Adding.{Item, device, disk, Wide, listIn, entryOf, withItem, addTo, addItem, Call}
 use Rattle.aerosnap.specs.Calls.{canonicalCall}
 use Rattle.aerosnap.proofs.Canonical.{canonical-exactly}
 use Rattle.aerosnap.proofs.Added.{add-exactly, grows}
@@ -137,16 +137,16 @@ entry-long (disk id x y) = omega arith
 call-new : (have : ℕ) (s : List ℕ) (x : Item) (b : List ℕ) → Call have s x b → contentAt b ≢ contentAt s
 call-new have s x b k e =
     let g = call-gives have s x b k in
-    let q : put x (g .old) ≡ g .old = taken-is (sym (g .content-is) ∙ e ∙ g .read) in
+    let q : withItem x (g .old) ≡ g .old = taken-is (sym (g .content-is) ∙ e ∙ g .read) in
     let n : suc (length (listIn x (g .old))) ≡ length (listIn x (g .old)) = sym (grows x (g .old) .count) ∙ ap (λ (c : Content). length (listIn x c)) q in
     omega arith
 
-call-longer : (have : ℕ) (s : List ℕ) (x : Item) (b : List ℕ) → InOrder s → Call have s x b → length s < length b
+call-longer : (have : ℕ) (s : List ℕ) (x : Item) (b : List ℕ) → IsCanonical s → Call have s x b → length s < length b
 call-longer have s x b o k =
     let (c, e, q, n) = canonical-exactly (length s) s s .0 o in
     let (d, f, p, r) = add-exactly have s x b .0 (k .accepts) in
     let w : d ≡ c = taken-is (sym f ∙ e) in
-    let z : length (render (put x d)) ≡ length b = ap length r in
+    let z : length (render (withItem x d)) ≡ length b = ap length r in
     let y : length (render d) ≡ length s = ap (λ (c : Content). length (render c)) w ∙ ap length q in
     omega (arith, grows x d .size, entry-long x)
 
@@ -156,14 +156,14 @@ module _ (P : Program addCall) where
   called s x old w h = call-made s x old (P .leaves (s, x) old) (P .answers (s, x) old) w (P .meets (s, x) old) h
 
   -- along a chain files only grow
-  runs-longer : (s b : List ℕ) (l : List (List ℕ × Item)) → InOrder s → Runs P s l b → length s ≤ length b
+  runs-longer : (s b : List ℕ) (l : List (List ℕ × Item)) → IsCanonical s → Runs P s l b → length s ≤ length b
   runs-longer s b [] o h = omega (arith, ap length h)
   runs-longer s b (q ∷ l) o (w, t, h) =
       let k = called s (q .1) (q .0) w t in
       let i = call-gives (length (q .0)) s (q .1) (output P (s, q .1) (q .0)) k .canonical-is in
       omega (arith, call-longer (length (q .0)) s (q .1) (output P (s, q .1) (q .0)) o k, runs-longer (output P (s, q .1) (q .0)) b l i h)
 
-  passed-on : (s b : List ℕ) (p q : List ℕ × Item) (l : List (List ℕ × Item)) → InOrder s → Runs P s (p ∷ q ∷ l) b → output P (s, p .1) (p .0) ≢ b
+  passed-on : (s b : List ℕ) (p q : List ℕ × Item) (l : List (List ℕ × Item)) → IsCanonical s → Runs P s (p ∷ q ∷ l) b → output P (s, p .1) (p .0) ≢ b
   passed-on s b p q l o (w, t, (v, u, h)) e =
       let a : List ℕ = output P (s, p .1) (p .0) in
       let i = call-gives (length (p .0)) s (p .1) a (called s (p .1) (p .0) w t) .canonical-is in

@@ -58,7 +58,7 @@ pub record Fills (o : ℕ → Outcome (List ℕ)) : Type 0 where
   pub once : (old new now : List ℕ) (r s : Answer) → Writes (o (length old)) old r new → Writes (o (length old)) old s now → (r ≡ s) × (new ≡ now)
 
 -- reading a message: the place is 0 if it is taken; a refused reading has no message, start 0 and length 0
-pub record Reads (o : Outcome messages.Content) : Type 0 where
+pub record ReadsMessage (o : Outcome messages.Content) : Type 0 where
   pub faults : Faulty o
   pub zero : (r : Reading) → r ≡ messages.reading o → (r .number ≡ 0) ↔ Taken o
   pub takes : (r : Reading) (c : messages.Content) → r ≡ messages.reading o → o ≡ taken c
@@ -72,7 +72,7 @@ abbrev pub numbersIn : Told → Numbers
 numbersIn r = record { tag = r .tag; a = r .a; b = r .b; c = r .c; d = r .d }
 
 -- the same by tag and numbers, as at the C boundary: a refused reading has 0 for each
-pub record Tells (o : Outcome messages.Content) : Type 0 where
+pub record TellsMessage (o : Outcome messages.Content) : Type 0 where
   pub faults : Faulty o
   pub zero : (r : Told) → r ≡ told (messages.reading o) → (r .number ≡ 0) ↔ Taken o
   pub takes : (r : Told) (c : messages.Content) → r ≡ told (messages.reading o) → o ≡ taken c
@@ -104,11 +104,11 @@ pub record Demand1 : Type 0 where
   -- dskc::canonical, cimbrolau_wrapper_canonical
   pub wrapper-canonical : (wrapper : List ℕ) → Fills (λ have. wrapped.canonicalCall have wrapper)
   -- aipc::read
-  pub message-read : (message : List ℕ) → Reads (messages.readMessage message)
+  pub message-read : (message : List ℕ) → ReadsMessage (messages.readMessage message)
   -- aipc::write
   pub message-write : (message : Message) (bytes : List ℕ) → Fills (writeMessage message bytes)
   -- numbers::read, cimbrolau_message_read
-  pub numbers-read : (message : List ℕ) → Tells (messages.readMessage message)
+  pub numbers-read : (message : List ℕ) → TellsMessage (messages.readMessage message)
   -- numbers::write, cimbrolau_message_write
   pub numbers-write : (n : Numbers) (bytes : List ℕ) → Fills (writeNumbers n bytes)
   -- numbers::message_of refuses for a fault of the numbers alone; numbers::numbers_of refuses nothing

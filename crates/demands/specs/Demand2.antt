@@ -23,16 +23,16 @@ use Rattle.tables.specs.Named.{NamesFramed, Each, IsTable}
 use Rattle.aerosnap.specs.Known.{DEVICES, DISKS, known}
 use Rattle.aerosnap.specs.Payloads.{bodyOf, payload}
 use Rattle.aerosnap.specs.File.{header, headerChecks, idOf, versionOf, flagsOf, payloadOf, frameChecks, knownChecks}
-use Rattle.aerosnap.specs.Rules.{Valid}
-use Rattle.aerosnap.specs.Content.{Content, contentOf, contentAt, render, tidy, isOther, entriesIn, InOrder}
+use Rattle.aerosnap.specs.Rules.{IsFile}
+use Rattle.aerosnap.specs.Content.{Content, contentOf, contentAt, render, tidy, isOther, entriesIn, IsCanonical}
 use Rattle.aerosnap.specs.Tables.{placed, table}
-use Rattle.aerosnap.specs.Adding.{Item, ownChecks, addChecks, put, addItem, Call}
+use Rattle.aerosnap.specs.Adding.{Item, ownChecks, addChecks, withItem, addItem, Call}
 use Rattle.aerosnap.specs.Calls.{checkCall, sectionsCall, devicesCall, disksCall, canonicalCall}
 use Rattle.dskc.specs.Wrapper as wrapped
 use Rattle.kinds.specs.declared.Message.{Message}
 use Rattle.kinds.specs.declared.Cell.{Cell}
 use Rattle.kinds.specs.Kinds.{Kind as MessageKind, kinds, blank, paper, cells}
-use Rattle.messages.specs.Fields.{widthOf, messageAt}
+use Rattle.messages.specs.Fields.{fieldWidth, messageAt}
 use Rattle.messages.specs.Reading as messages
 use Rattle.messages.specs.Writing.{writeChecks, written, writeMessage}
 use Rattle.numbers.specs.declared.Numbers.{Numbers}
@@ -55,8 +55,8 @@ pub record Canonical (s b : List ℕ) : Type 0 where
 
 pub record Files : Type 0 where
   -- taken with certain sections exactly if it is the header and these, and they follow the rules; and no others are
-  pub exactly : (s : List ℕ) (l : List (List ℕ)) → (checkCall s ≡ taken l) ↔ ((s ≡ header ++ join l) × Valid l)
-  pub unique : (l m : List (List ℕ)) → Valid l → Valid m → header ++ join l ≡ header ++ join m → l ≡ m
+  pub exactly : (s : List ℕ) (l : List (List ℕ)) → (checkCall s ≡ taken l) ↔ ((s ≡ header ++ join l) × IsFile l)
+  pub unique : (l m : List (List ℕ)) → IsFile l → IsFile m → header ++ join l ≡ header ++ join m → l ≡ m
   -- a table is the records of its sections in file order (the calls `sections`, `devices` and `disks` differ in `rows` alone)
   pub tables : (rows : ℕ × List ℕ → List ℕ) (s : List ℕ) → Writing (checkCall s) (λ l. flat rows (placed 16 l)) (λ have. table rows have s)
   -- the canonical form is the rendering of the content
@@ -66,7 +66,7 @@ pub record Files : Type 0 where
   pub same : (have : ℕ) (s t : List ℕ) → contentAt s ≡ contentAt t → canonicalCall have s ≡ canonicalCall have t
   pub only : (have : ℕ) (s t b : List ℕ) → canonicalCall have s ≡ taken b → canonicalCall have t ≡ taken b → contentAt s ≡ contentAt t
   -- savers that hand over the same devices and the same disks in other orders, and the same sections besides, save the same content
-  pub any-saver : (l m : List (List ℕ)) → Valid l → List·Permᴰ (entriesIn DEVICES devices l) (entriesIn DEVICES devices m) → List·Permᴰ (entriesIn DISKS disks l) (entriesIn DISKS disks m)
+  pub any-saver : (l m : List (List ℕ)) → IsFile l → List·Permᴰ (entriesIn DEVICES devices l) (entriesIn DEVICES devices m) → List·Permᴰ (entriesIn DISKS disks l) (entriesIn DISKS disks m)
       → flat tidy (keep isOther l) ≡ flat tidy (keep isOther m) → contentOf l ≡ contentOf m
   -- a file has a content exactly if it is taken, and else the same fault
   pub content : (s : List ℕ) (l : List (List ℕ)) → checkCall s ≡ taken l → contentAt s ≡ taken (contentOf l)
@@ -116,15 +116,15 @@ pub record Addresses : Type 0 where
 -- none of the checks of adding x to c fails, and the output holds the result
 pub record Passed (have : ℕ) (x : Item) (c : Content) : Type 0 where
   pub own : Pass (ownChecks x)
-  pub others : Pass (addChecks x c (put x c))
-  pub fits : length (render (put x c)) ≤ have
+  pub others : Pass (addChecks x c (withItem x c))
+  pub fits : length (render (withItem x c)) ≤ have
 
 -- adding is taken exactly if the file is and none of the add's checks fails; the bytes are the rendering of the old content and the new entry
 pub record Additions : Type 0 where
   pub exactly : (have : ℕ) (s : List ℕ) (x : Item) (b : List ℕ)
-      → (addItem have s x ≡ taken b) ↔ ((c : Content) × (contentAt s ≡ taken c) × Passed have x c × (render (put x c) ≡ b))
+      → (addItem have s x ≡ taken b) ↔ ((c : Content) × (contentAt s ≡ taken c) × Passed have x c × (render (withItem x c) ≡ b))
   -- the file that is written has that content and is canonical
-  pub gives : (have : ℕ) (s : List ℕ) (x : Item) (b : List ℕ) → Call have s x b → (c : Content) × (contentAt s ≡ taken c) × (contentAt b ≡ taken (put x c)) × InOrder b
+  pub gives : (have : ℕ) (s : List ℕ) (x : Item) (b : List ℕ) → Call have s x b → (c : Content) × (contentAt s ≡ taken c) × (contentAt b ≡ taken (withItem x c)) × IsCanonical b
 
 -- ---- wrappers
 
@@ -134,15 +134,15 @@ ordered = sort (controllers .key)
 
 pub record Wrappers : Type 0 where
   -- taken exactly if it is the rendering of controllers that follow the rules, which are the only ones
-  pub exactly : (s : List ℕ) → Bytes s → Taken (wrapped.wrapperOf s) ↔ ((l : List (List ℕ)) × (s ≡ wrapped.wrapperBytes l) × wrapped.Valid l)
-  pub unique : (l m : List (List ℕ)) → wrapped.Valid l → wrapped.Valid m → wrapped.wrapperBytes l ≡ wrapped.wrapperBytes m → l ≡ m
-  pub back : (l : List (List ℕ)) → wrapped.Valid l → wrapped.controllersOf (wrapped.wrapperBytes l) ≡ l
+  pub exactly : (s : List ℕ) → Bytes s → Taken (wrapped.wrapperOf s) ↔ ((l : List (List ℕ)) × (s ≡ wrapped.wrapperBytes l) × wrapped.IsWrapper l)
+  pub unique : (l m : List (List ℕ)) → wrapped.IsWrapper l → wrapped.IsWrapper m → wrapped.wrapperBytes l ≡ wrapped.wrapperBytes m → l ≡ m
+  pub back : (l : List (List ℕ)) → wrapped.IsWrapper l → wrapped.controllersOf (wrapped.wrapperBytes l) ≡ l
   -- the table, and the canonical form: the controllers in address order
   pub table : (s : List ℕ) → Writing (wrapped.wrapperOf s) (rowsAt Controllers 16 (drop 16 s)) (λ have. wrapped.controllersCall have s)
   pub canonical : (s : List ℕ) → Writing (wrapped.wrapperOf s) (λ _. wrapped.wrapperBytes (ordered (wrapped.controllersOf s))) (λ have. wrapped.canonicalCall have s)
   -- in that order they are as long, follow the rules, and stay as they are
   pub long : (l : List (List ℕ)) → length (wrapped.wrapperBytes (ordered l)) ≡ length (wrapped.wrapperBytes l)
-  pub valid : (l : List (List ℕ)) → wrapped.Valid l → wrapped.Valid (ordered l)
+  pub valid : (l : List (List ℕ)) → wrapped.IsWrapper l → wrapped.IsWrapper (ordered l)
   pub again : (l : List (List ℕ)) → ordered (ordered l) ≡ ordered l
 
 -- ---- messages
@@ -150,7 +150,7 @@ pub record Wrappers : Type 0 where
 -- each number is within the type of its field
 abbrev pub Within : List Cell → Type 0
 Within [] = Unit {0}
-Within (c ∷ cs) = (c .1 < 256 ^ widthOf 0 (c .0)) × Within cs
+Within (c ∷ cs) = (c .1 < 256 ^ fieldWidth 0 (c .0)) × Within cs
 
 -- m is the message k with the data d, written; k and d follow the rules
 pub record Says (m : List ℕ) (k : Message) (d : List ℕ) : Type 0 where
@@ -203,7 +203,7 @@ ListFault d s before b n p =
 pub record Faults : Type 0 where
   -- a file: its header, then the first section at fault; those before it, l, follow the rules
   pub file : (s : List ℕ) (n p : ℕ) → (checkCall s ≡ refused n p)
-      ↔ FirstOr (headerChecks s) n p ((l : List (List ℕ)) × (b : List ℕ) × (s ≡ header ++ (join l ++ b)) × (1 ≤ length b) × Valid l × SectionFault l (16 + length (join l)) b n p)
+      ↔ FirstOr (headerChecks s) n p ((l : List (List ℕ)) × (b : List ℕ) × (s ≡ header ++ (join l ++ b)) × (1 ≤ length b) × IsFile l × SectionFault l (16 + length (join l)) b n p)
   -- a wrapper: its header, then its list
   pub wrapper : (s : List ℕ) (n p : ℕ) → (wrapped.wrapperOf s ≡ refused n p) ↔ FirstOr (wrapped.headerChecks s) n p (FaultAt 16 (listAt controllers (drop 16 s)) n p)
   -- a list of any kind: its count, then the first entry at fault; those before it, l, are entries with distinct keys
@@ -219,7 +219,7 @@ pub record Faults : Type 0 where
   -- an add: the file's fault, or else the first check of the add that fails
   pub add : (have : ℕ) (s : List ℕ) (x : Item) (n p : ℕ)
       → (addItem have s x ≡ refused n p)
-      ↔ ((contentAt s ≡ refused n p) ⊎ ((c : Content) × (contentAt s ≡ taken c) × First ((ownChecks x ++ addChecks x c (put x c)) ++ room have (length (render (put x c)))) n p))
+      ↔ ((contentAt s ≡ refused n p) ⊎ ((c : Content) × (contentAt s ≡ taken c) × First ((ownChecks x ++ addChecks x c (withItem x c)) ++ room have (length (render (withItem x c)))) n p))
 
 pub record Demand2 : Type 0 where
   pub files : Files

@@ -8,7 +8,7 @@ use lib.ListN.{length, take}
 use Rattle.answer.specs.declared.Answer.{Answer}
 use Rattle.answer.specs.Outcome.{Outcome, taken}
 use Rattle.answer.specs.Calls.{verdict, Writes}
-use Rattle.aerosnap.specs.Content.{contentAt, InOrder}
+use Rattle.aerosnap.specs.Content.{contentAt, IsCanonical}
 use Rattle.aerosnap.specs.Adding.{Item, Wide, addItem}
 use Rattle.aerosnap.specs.Calls.{checkCall, canonicalCall}
 use Rattle.dskc.specs.Wrapper as wrapped
@@ -64,5 +64,5 @@ pub record RuledOut : Type 0 where
   pub add : Useful addCall (λ i. i .0)
   pub does-nothing : (P : Program addCall) (s : List ℕ) (x : Item) (old : List ℕ) → Wide x → Takes P (s, x) old → contentAt (output P (s, x) old) ≢ contentAt s
   -- a chain of adds whose first writes the final file and whose later ones merely pass it on: each file is longer than the one before it
-  pub longer : (P : Program addCall) (s : List ℕ) (x : Item) (old : List ℕ) → InOrder s → Wide x → Takes P (s, x) old → length s < length (output P (s, x) old)
-  pub passed-on : (P : Program addCall) (s b : List ℕ) (p q : List ℕ × Item) (l : List (List ℕ × Item)) → InOrder s → Runs P s (p ∷ q ∷ l) b → output P (s, p .1) (p .0) ≢ b
+  pub longer : (P : Program addCall) (s : List ℕ) (x : Item) (old : List ℕ) → IsCanonical s → Wide x → Takes P (s, x) old → length s < length (output P (s, x) old)
+  pub passed-on : (P : Program addCall) (s b : List ℕ) (p q : List ℕ × Item) (l : List (List ℕ × Item)) → IsCanonical s → Runs P s (p ∷ q ∷ l) b → output P (s, p .1) (p .0) ≢ b

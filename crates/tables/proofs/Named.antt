@@ -6,12 +6,12 @@ use Prim.Native.Nat.{ℕ, _+_, _≤_, _<_, _^_}
 use native.Mathlib.Omega.{arith}
 use lib.ListN.{length, take, drop, length-append, length-drop}
 use lib.Seq.{drop-drop, drop-append-le, drop-append-seam, take-append-le, take-append-seam, take-all}
-use Rattle.answer.specs.Outcome.{Outcome, taken}
+use Rattle.answer.specs.Outcome.{taken}
 use Rattle.wire.specs.Numbers.{Bytes, leAt, bytesOf}
-use Rattle.wire.proofs.Numbers.{leAt-append, leAt-drop, leAt-here, leAt-zero, leAt-bound, leAt-bytesOf, length-bytesOf, bytes-part}
+use Rattle.wire.proofs.Numbers.{leAt-append, leAt-here, leAt-bound, leAt-bytesOf, length-bytesOf, bytes-part}
 use Rattle.wire.proofs.Records.{Fields, fieldBytes}
 use Rattle.order.specs.Keyed.{Every, flat, sort}
-use Rattle.order.specs.Entries.{join, first}
+use Rattle.order.specs.Entries.{join}
 use Rattle.order.proofs.Sorts.{sort-perm, sort-asc}
 use Rattle.order.proofs.Entries.{first-append}
 use Rattle.format.specs.Format.{Format, span, Is}
@@ -20,13 +20,13 @@ use Rattle.format.proofs.Spans.{span-read}
 use Rattle.entries.specs.declared.Kind.the-variants as kind
 use Rattle.entries.specs.Kinds.{Description, devices, disks, controllers}
 use Rattle.entries.proofs.Lawful.{Lawful, lawful}
-use Rattle.lists.specs.Lists.{widthOf, entries, listAt}
+use Rattle.lists.specs.Lists.{entries, listAt}
 use Rattle.lists.proofs.Taken.{self, list-entries, list-sound}
 use Rattle.lists.proofs.Ordered.{pieceAt, list-order, index-every}
 use Rattle.tables.specs.declared.Table.{Table}
 use Rattle.tables.specs.declared.Table.the-variants.{Devices, Disks, Controllers}
 use Rattle.tables.specs.Tables.{described, framedRow, diskRow, controllerRow, rowOf, rowsAt}
-use Rattle.tables.specs.Named.{NamesFramed, baseOf, overlayOf, NamesDisk, NamesController, Names, Each, IsTable}
+use Rattle.tables.specs.Named.{NamesFramed, NamesDisk, NamesController, Names, Each, IsTable}
 use Rattle.tables.proofs.Rows.{length-row}
 
 -- ---- numbers read back

@@ -1,9 +1,9 @@
--- `vectors_aipc::written` meets its contract. Assumes nothing.
+-- `vectors_aipc::trial` meets its contract. Assumes nothing.
 use lib.ListN.{length-take}
 use native.Mathlib.Omega.{arith}
 use borrow.Author.Needs.{needs}
-use Rattle.vectors_aipc.proofs.written.Statement.{statement}
-use Rattle.vectors_aipc.proofs.written.Tie as tie
+use Rattle.vectors_aipc.proofs.trial.Statement.{statement}
+use Rattle.vectors_aipc.proofs.trial.Tie as tie
 
 array-share-prefix-text : tie.Need-array-share-prefix-text
 array-share-prefix-text c = search needs
@@ -41,8 +41,8 @@ returns-2 c = search needs
 returns-3 : tie.Need-returns-3
 returns-3 c = search needs
 
-pub written-spec : {M : Type 1} → statement M
-written-spec =
+pub trial-spec : {M : Type 1} → statement M
+trial-spec =
     tie.close
     (tie.spec
     array-share-prefix-text
