@@ -13,7 +13,7 @@ use Rattle.answer.proofs.Checks.{checked-pass, pass-checked, append-pass, pass-
 use Rattle.answer.proofs.Outcomes.{taken-is, after-taken}
 use Rattle.format.specs.Format.{Is}
 use Rattle.order.specs.Keyed.{Fresh, weigh, present, insert}
-use Rattle.order.specs.Adding.{Adds}
+use Rattle.order.specs.Adding.{AddLaws}
 use Rattle.order.proofs.Folds.{present-min}
 use Rattle.order.proofs.Keys.{has-fresh, fresh-has}
 use Rattle.order.proofs.Inserts.{insert-perm, insert-comm, weigh-insert, length-insert, present-insert, every-insert, insert-every, asc-insert}
@@ -22,7 +22,7 @@ use Rattle.entries.specs.Kinds.{Description, devices, disks}
 use Rattle.lists.specs.Lists.{listBytes}
 use Rattle.lists.proofs.Written.{length-list}
 use Rattle.aerosnap.specs.Content.{Content, secs, render, contentAt}
-use Rattle.aerosnap.specs.Adding.{Item, device, disk, Wide, entryOf, kindOf, listIn, put, ownChecks, there, addChecks, addTo, addItem, Call}
+use Rattle.aerosnap.specs.Adding.{Item, device, disk, Wide, entryOf, kindOf, listIn, withItem, ownChecks, there, addChecks, addTo, addItem, Call}
 use Rattle.aerosnap.proofs.Canon.{countOf, sizeOf, FitsIn, Sorted, Canon, length-secs, length-render}
 use Rattle.aerosnap.proofs.Back.{read-back}
 use Rattle.aerosnap.proofs.Canonical.{fits-taken, taken-fits}
@@ -33,24 +33,24 @@ use Rattle.aerosnap.proofs.Items.{entry-is, deviceFrom, diskFrom, item-
 -- none of the checks of an add fails
 pub record Passed (have : ℕ) (x : Item) (c : Content) : Type 0 where
   pub own : Pass (ownChecks x)
-  pub others : Pass (addChecks x c (put x c))
-  pub room-is : length (render (put x c)) ≤ have
+  pub others : Pass (addChecks x c (withItem x c))
+  pub room-is : length (render (withItem x c)) ≤ have
 
-pub add-exactly-to : (have : ℕ) (c : Content) (x : Item) (b : List ℕ) → (addTo have c x ≡ taken b) ↔ (Passed have x c × (render (put x c) ≡ b))
+pub add-exactly-to : (have : ℕ) (c : Content) (x : Item) (b : List ℕ) → (addTo have c x ≡ taken b) ↔ (Passed have x c × (render (withItem x c) ≡ b))
 unfolding addTo
 add-exactly-to have c x b = (
   λ h.
-      let p = checked-pass (ownChecks x ++ addChecks x c (put x c)) (fitting have (render (put x c))) b h in
-      let q = append-pass (ownChecks x) (addChecks x c (put x c)) (p .0) in
-      let r = fits-taken have (render (put x c)) (p .1) in
+      let p = checked-pass (ownChecks x ++ addChecks x c (withItem x c)) (fitting have (render (withItem x c))) b h in
+      let q = append-pass (ownChecks x) (addChecks x c (withItem x c)) (p .0) in
+      let r = fits-taken have (render (withItem x c)) (p .1) in
       (record { own = q .0; others = q .1; room-is = r .0 }, r .1),
   λ (p, e).
-      pass-checked (ownChecks x ++ addChecks x c (put x c)) (fitting have (render (put x c))) (pass-append (ownChecks x) (addChecks x c (put x c)) (p .own) (p .others))
-      ∙ taken-fits have (render (put x c)) (p .room-is) ∙ ap taken e,
+      pass-checked (ownChecks x ++ addChecks x c (withItem x c)) (fitting have (render (withItem x c))) (pass-append (ownChecks x) (addChecks x c (withItem x c)) (p .own) (p .others))
+      ∙ taken-fits have (render (withItem x c)) (p .room-is) ∙ ap taken e,
 )
 
 -- An add to a file is taken exactly if the file is and none of the add's checks fails; its bytes are then the canonical bytes of the old content and the entry.
-pub add-exactly : (have : ℕ) (s : List ℕ) (x : Item) (b : List ℕ) → (addItem have s x ≡ taken b) ↔ ((c : Content) × (contentAt s ≡ taken c) × Passed have x c × (render (put x c) ≡ b))
+pub add-exactly : (have : ℕ) (s : List ℕ) (x : Item) (b : List ℕ) → (addItem have s x ≡ taken b) ↔ ((c : Content) × (contentAt s ≡ taken c) × Passed have x c × (render (withItem x c) ≡ b))
 unfolding addItem
 add-exactly have s x b = (
   λ h. let p = after-taken (contentAt s) (λ c. addTo have c x) h in let q = add-exactly-to have (p .0) x b .0 (p .2) in (p .0, p .1, q .0, q .1),
@@ -76,19 +76,19 @@ differ-sym (disk a x y) (disk b z w) d = λ e. d (sym e)
 differ-sym (device a v f p) (disk b z w) d = tt
 differ-sym (disk a x y) (device b w g q) d = tt
 
-new-put : (x y : Item) (c : Content) → Fresh (kindOf y .key) (kindOf y .key (entryOf y)) (listIn y (put x c)) → Fresh (kindOf y .key) (kindOf y .key (entryOf y)) (listIn y c) × Differ x y
+new-put : (x y : Item) (c : Content) → Fresh (kindOf y .key) (kindOf y .key (entryOf y)) (listIn y (withItem x c)) → Fresh (kindOf y .key) (kindOf y .key (entryOf y)) (listIn y c) × Differ x y
 new-put (device a v f p) (device b w g q) c h = let k = insert-every (devices .key) _ (entryOf (device a v f p)) (c .devices) h in (k .1, k .0)
 new-put (disk a x y) (disk b z w) c h = let k = insert-every (disks .key) _ (entryOf (disk a x y)) (c .disks) h in (k .1, k .0)
 new-put (device a v f p) (disk b z w) c h = (h, tt)
 new-put (disk a x y) (device b w g q) c h = (h, tt)
 
-put-new : (x y : Item) (c : Content) → Fresh (kindOf y .key) (kindOf y .key (entryOf y)) (listIn y c) → Differ x y → Fresh (kindOf y .key) (kindOf y .key (entryOf y)) (listIn y (put x c))
+put-new : (x y : Item) (c : Content) → Fresh (kindOf y .key) (kindOf y .key (entryOf y)) (listIn y c) → Differ x y → Fresh (kindOf y .key) (kindOf y .key (entryOf y)) (listIn y (withItem x c))
 put-new (device a v f p) (device b w g q) c h d = every-insert (devices .key) _ (entryOf (device a v f p)) (c .devices) d h
 put-new (disk a x y) (disk b z w) c h d = every-insert (disks .key) _ (entryOf (disk a x y)) (c .disks) d h
 put-new (device a v f p) (disk b z w) c h d = h
 put-new (disk a x y) (device b w g q) c h d = h
 
-comm : (x y : Item) (c : Content) → Differ x y → put x (put y c) ≡ put y (put x c)
+comm : (x y : Item) (c : Content) → Differ x y → withItem x (withItem y c) ≡ withItem y (withItem x c)
 comm (device a v f p) (device b w g q) c d = cc (insert-comm (devices .key) (entryOf (device a v f p)) (entryOf (device b w g q)) (c .devices) (λ e. d (sym e)))
 comm (disk a x y) (disk b z w) c d = cc (insert-comm (disks .key) (entryOf (disk a x y)) (entryOf (disk b z w)) (c .disks) (λ e. d (sym e)))
 comm (device a v f p) (disk b z w) c d = refl
@@ -98,7 +98,7 @@ comm (disk a x y) (device b w g q) c d = refl
 abbrev pub held : Content → List Item
 held c = map deviceFrom (c .devices) ++ map diskFrom (c .disks)
 
-held-put : (x : Item) (c : Content) → May x c → List·Permᴰ (held (put x c)) (x ∷ held c)
+held-put : (x : Item) (c : Content) → May x c → List·Permᴰ (held (withItem x c)) (x ∷ held c)
 held-put (device a v f p) c (w, o, _) =
     rw (item-back (device a v f p) w o) at (Permᴰ·append-right (map diskFrom (c .disks)) (Permᴰ·map deviceFrom (insert-perm (devices .key) (entryOf (device a v f p)) (c .devices))))
 held-put (disk a x y) c (w, o, _) =
@@ -115,26 +115,26 @@ module _ (d : Description) (e : List ℕ) (l : List (List ℕ)) where
 
 -- what an item adds: an entry, its bytes, and a section where its list was empty
 pub record Grows (x : Item) (c : Content) : Type 0 where
-  pub count : length (listIn x (put x c)) ≡ suc (length (listIn x c))
-  pub sections-are : length (secs (put x c)) ≡ length (secs c) + (1 - present (listIn x c))
-  pub size : length (render (put x c)) ≡ length (render c) + length (entryOf x) + 20 * (1 - present (listIn x c))
-  pub more-devices : length (c .devices) ≤ length (put x c .devices)
-  pub more-disks : length (c .disks) ≤ length (put x c .disks)
-  pub longer-devices : length (listBytes (c .devices)) ≤ length (listBytes (put x c .devices))
+  pub count : length (listIn x (withItem x c)) ≡ suc (length (listIn x c))
+  pub sections-are : length (secs (withItem x c)) ≡ length (secs c) + (1 - present (listIn x c))
+  pub size : length (render (withItem x c)) ≡ length (render c) + length (entryOf x) + 20 * (1 - present (listIn x c))
+  pub more-devices : length (c .devices) ≤ length (withItem x c .devices)
+  pub more-disks : length (c .disks) ≤ length (withItem x c .disks)
+  pub longer-devices : length (listBytes (c .devices)) ≤ length (listBytes (withItem x c .devices))
 
 numbers : (x : Item) (c : Content)
-    → (length (listIn x (put x c)) ≡ suc (length (listIn x c)))
-    × (countOf (put x c) ≡ countOf c + (1 - present (listIn x c)))
-    × (sizeOf (put x c) ≡ sizeOf c + length (entryOf x) + 20 * (1 - present (listIn x c)))
-    × (length (c .devices) ≤ length (put x c .devices))
-    × (length (c .disks) ≤ length (put x c .disks))
-    × (weigh length (c .devices) ≤ weigh length (put x c .devices))
+    → (length (listIn x (withItem x c)) ≡ suc (length (listIn x c)))
+    × (countOf (withItem x c) ≡ countOf c + (1 - present (listIn x c)))
+    × (sizeOf (withItem x c) ≡ sizeOf c + length (entryOf x) + 20 * (1 - present (listIn x c)))
+    × (length (c .devices) ≤ length (withItem x c .devices))
+    × (length (c .disks) ≤ length (withItem x c .disks))
+    × (weigh length (c .devices) ≤ weigh length (withItem x c .devices))
 numbers (device a v f p) c = let (i, j, k, m) = list-up devices (entryOf (device a v f p)) (c .devices) in (i, omega arith, omega arith, omega arith, omega arith, omega arith)
 numbers (disk a x y) c = let (i, j, k, m) = list-up disks (entryOf (disk a x y)) (c .disks) in (i, omega arith, omega arith, omega arith, omega arith, omega arith)
 
 pub grows : (x : Item) (c : Content) → Grows x c
 grows x c =
-    let u : Content = put x c in
+    let u : Content = withItem x c in
     let (i, j, k, l, m, n) = numbers x c in
     record {
       count = i;
@@ -145,10 +145,10 @@ grows x c =
       longer-devices = omega (arith, length-list (c .devices), length-list (u .devices));
     }
 
-size-up : (x : Item) (c : Content) → length (render c) ≤ length (render (put x c))
+size-up : (x : Item) (c : Content) → length (render c) ≤ length (render (withItem x c))
 size-up x c = omega (arith, grows x c .size)
 
-fits-down : (x : Item) (c : Content) → FitsIn (put x c) → FitsIn c
+fits-down : (x : Item) (c : Content) → FitsIn (withItem x c) → FitsIn c
 fits-down x c h =
     let g = grows x c in
     record {
@@ -163,12 +163,12 @@ fits-down x c h =
 
 -- with so much room adding x to c is accepted and gives u
 pub record Step (have : ℕ) (c : Content) (x : Item) (u : Content) : Type 0 where
-  pub gives : u ≡ put x c
+  pub gives : u ≡ withItem x c
   pub may : May x c
-  pub fits : FitsIn (put x c)
-  pub room-is : length (render (put x c)) ≤ have
+  pub fits : FitsIn (withItem x c)
+  pub room-is : length (render (withItem x c)) ≤ have
 
-pub adds : Adds Step put May Differ FitsIn (λ c. length (render c)) held
+pub adds : AddLaws Step withItem May Differ FitsIn (λ c. length (render c)) held
 adds = record {
   checks = λ r c x u h. (h .gives, h .may, h .fits);
   accepts = λ r c x m f q. record { gives = refl; may = m; fits = f; room-is = q };
@@ -184,12 +184,12 @@ adds = record {
 -- ---- on files
 
 -- the counts of the other kind stay
-other-count : (x : Item) (c : Content) → FitsIn c → length (listIn x (put x c)) ≤ kindOf x .most → (length (put x c .devices) ≤ devices .most) × (length (put x c .disks) ≤ disks .most)
+other-count : (x : Item) (c : Content) → FitsIn c → length (listIn x (withItem x c)) ≤ kindOf x .most → (length (withItem x c .devices) ≤ devices .most) × (length (withItem x c .disks) ≤ disks .most)
 other-count (device a v f p) c h n = (n, h .many-disks)
 other-count (disk a x y) c h n = (h .many-devices, n)
 
 -- an add whose checks pass, and a step
-pub passed-step : (have : ℕ) (x : Item) (c : Content) → Canon c → Wide x → Passed have x c → Step have c x (put x c)
+pub passed-step : (have : ℕ) (x : Item) (c : Content) → Canon c → Wide x → Passed have x c → Step have c x (withItem x c)
 passed-step have x c k w p =
     let (h, (n, (d, (m, (z, _))))) = p .others in
     let q = other-count x c (k .fits) (leb-true _ _ n) in
@@ -204,10 +204,10 @@ own-count : (x : Item) (u : Content) → FitsIn u → length (listIn x u) ≤ ki
 own-count (device a v f p) u h = h .many-devices
 own-count (disk a x y) u h = h .many-disks
 
-pub step-passed : (have : ℕ) (x : Item) (c : Content) → May x c → FitsIn (put x c) → length (render (put x c)) ≤ have → Passed have x c
+pub step-passed : (have : ℕ) (x : Item) (c : Content) → May x c → FitsIn (withItem x c) → length (render (withItem x c)) ≤ have → Passed have x c
 step-passed have x c (w, o, n) f r = record {
   own = o;
-  others = (ap not (fresh-has _ _ (listIn x c) n), (le-leb _ _ (own-count x (put x c) f), (le-leb _ _ (f .long-devices), (le-leb _ _ (f .many), (le-leb _ _ (f .long), tt)))));
+  others = (ap not (fresh-has _ _ (listIn x c) n), (le-leb _ _ (own-count x (withItem x c) f), (le-leb _ _ (f .long-devices), (le-leb _ _ (f .many), (le-leb _ _ (f .long), tt)))));
   room-is = r;
 }
 
@@ -215,7 +215,7 @@ sorted-insert : (d : Description) (e : List ℕ) (l : List (List ℕ)) → Is (d
 sorted-insert d e l i f s = record { asc = asc-insert (d .key) 0 e l (omega arith) f (s .asc); are = every-insert (d .key) _ e l i (s .are) }
 
 -- a content in order stays so
-pub canon-put : (x : Item) (c : Content) → Canon c → May x c → FitsIn (put x c) → Canon (put x c)
+pub canon-put : (x : Item) (c : Content) → Canon c → May x c → FitsIn (withItem x c) → Canon (withItem x c)
 canon-put (device a v f p) c h (w, o, n) t = record {
   fits = t;
   devices-sorted = sorted-insert devices (entryOf (device a v f p)) (c .devices) (entry-is (device a v f p) o) n (h .devices-sorted);
@@ -235,7 +235,7 @@ canon-put (disk a x y) c h (w, o, n) t = record {
   rest-once = h .rest-once;
 }
 
-pub files : Files Step put May FitsIn (λ c. length (render c)) Canon render Call
+pub files : Files Step withItem May FitsIn (λ c. length (render c)) Canon render Call
 files = record {
   fits = λ c h. h .fits;
   keeps = canon-put;
@@ -244,6 +244,6 @@ files = record {
   step-down = λ r c x b h k.
       let (d, e, p, q) = add-exactly r (render c) x b .0 (k .accepts) in
       let g : d ≡ c = taken-is (sym e ∙ read-back c h) in
-      (put x c, passed-step r x c h (k .wide) (rw g at p), rw g at q);
+      (withItem x c, passed-step r x c h (k .wide) (rw g at p), rw g at q);
   step-up = λ r c x u h k. record { wide = k .may .0; accepts = add-exactly r (render c) x (render u) .1 (c, read-back c h, step-passed r x c (k .may) (k .fits) (k .room-is), ap render (sym (k .gives))) };
 }

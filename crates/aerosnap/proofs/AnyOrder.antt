@@ -15,8 +15,8 @@ use Rattle.order.specs.Adding.{Chain, items, Roomy, puts}
 use Rattle.order.proofs.Sorts.{inserts-sort, asc-inserts}
 use Rattle.order.proofs.Files.{any-order-bytes, no-two-sets-bytes, content}
 use Rattle.entries.specs.Kinds.{devices, disks}
-use Rattle.aerosnap.specs.Content.{Content, render, contentAt, InOrder}
-use Rattle.aerosnap.specs.Adding.{Item, device, disk, Wide, put, addItem, Call, deviceEntries, diskEntries, grown}
+use Rattle.aerosnap.specs.Content.{Content, render, contentAt, IsCanonical}
+use Rattle.aerosnap.specs.Adding.{Item, device, disk, Wide, withItem, addItem, Call, deviceEntries, diskEntries, grown}
 use Rattle.aerosnap.proofs.Canon.{Canon}
 use Rattle.aerosnap.proofs.Back.{read-back}
 use Rattle.aerosnap.proofs.Canonical.{content-is, canonical-exactly}
@@ -24,18 +24,18 @@ use Rattle.aerosnap.proofs.Added.{add-exactly, passed-step, canon-put, 
 use Rattle.aerosnap.proofs.Named.{add-named, writes-zero}
 
 -- a canonical file is that of a content in order
-pub in-order : (s : List ℕ) → InOrder s → (c : Content) × Canon c × (render c ≡ s)
+pub in-order : (s : List ℕ) → IsCanonical s → (c : Content) × Canon c × (render c ≡ s)
 in-order s h = let (c, e, q, n) = canonical-exactly (length s) s s .0 h in (c, content-is s c e .0, q)
 
-pub render-in-order : (c : Content) → Canon c → InOrder (render c)
+pub render-in-order : (c : Content) → Canon c → IsCanonical (render c)
 render-in-order c h = canonical-exactly (length (render c)) (render c) (render c) .1 (c, read-back c h, refl, omega arith)
 
 -- one call, on any file that is taken: the file that it writes has the old content and the item, and is canonical
 pub record Gives (s : List ℕ) (x : Item) (b : List ℕ) : Type 0 where
   pub old : Content
   pub read : contentAt s ≡ taken old
-  pub content-is : contentAt b ≡ taken (put x old)
-  pub canonical-is : InOrder b
+  pub content-is : contentAt b ≡ taken (withItem x old)
+  pub canonical-is : IsCanonical b
 
 pub call-gives : (have : ℕ) (s : List ℕ) (x : Item) (b : List ℕ) → Call have s x b → Gives s x b
 call-gives have s x b k =
@@ -43,39 +43,39 @@ call-gives have s x b k =
     let h = content-is s c e .0 in
     let t = passed-step have x c h (k .wide) p in
     let u = canon-put x c h (t .may) (t .fits) in
-    record { old = c; read = e; content-is = ap contentAt (sym q) ∙ read-back (put x c) u; canonical-is = subst InOrder q (render-in-order (put x c) u) }
+    record { old = c; read = e; content-is = ap contentAt (sym q) ∙ read-back (withItem x c) u; canonical-is = subst IsCanonical q (render-in-order (withItem x c) u) }
 
-pub any-order : (s : List ℕ) (l m : List (ℕ × Item)) (b : List ℕ) → InOrder s → Chain Call s l b → List·Permᴰ (items l) (items m) → Roomy (length b) m → Chain Call s m b
+pub any-order : (s : List ℕ) (l m : List (ℕ × Item)) (b : List ℕ) → IsCanonical s → Chain Call s l b → List·Permᴰ (items l) (items m) → Roomy (length b) m → Chain Call s m b
 any-order s l m b o h p r = let (c, k, e) = in-order s o in rw e at (any-order-bytes adds files c l m b k (rw e h) p r)
 
-pub no-two-sets : (s : List ℕ) (l m : List (ℕ × Item)) (b : List ℕ) → InOrder s → Chain Call s l b → Chain Call s m b → Perm (items l) (items m)
+pub no-two-sets : (s : List ℕ) (l m : List (ℕ × Item)) (b : List ℕ) → IsCanonical s → Chain Call s l b → Chain Call s m b → Perm (items l) (items m)
 no-two-sets s l m b o h k = let (c, i, e) = in-order s o in no-two-sets-bytes adds files c l m b i (rw e h) (rw e k)
 
 -- ---- the content at the end
 
-puts-devices : (c : Content) (l : List Item) → puts put c l .devices ≡ inserts (devices .key) (c .devices) (deviceEntries l)
+puts-devices : (c : Content) (l : List Item) → puts withItem c l .devices ≡ inserts (devices .key) (c .devices) (deviceEntries l)
 puts-devices c [] = refl
-puts-devices c (device id v f p ∷ l) = puts-devices (put (device id v f p) c) l
-puts-devices c (disk id x y ∷ l) = puts-devices (put (disk id x y) c) l
+puts-devices c (device id v f p ∷ l) = puts-devices (withItem (device id v f p) c) l
+puts-devices c (disk id x y ∷ l) = puts-devices (withItem (disk id x y) c) l
 
-puts-disks : (c : Content) (l : List Item) → puts put c l .disks ≡ inserts (disks .key) (c .disks) (diskEntries l)
+puts-disks : (c : Content) (l : List Item) → puts withItem c l .disks ≡ inserts (disks .key) (c .disks) (diskEntries l)
 puts-disks c [] = refl
-puts-disks c (device id v f p ∷ l) = puts-disks (put (device id v f p) c) l
-puts-disks c (disk id x y ∷ l) = puts-disks (put (disk id x y) c) l
+puts-disks c (device id v f p ∷ l) = puts-disks (withItem (device id v f p) c) l
+puts-disks c (disk id x y ∷ l) = puts-disks (withItem (disk id x y) c) l
 
-puts-rest : (c : Content) (l : List Item) → puts put c l .rest ≡ c .rest
+puts-rest : (c : Content) (l : List Item) → puts withItem c l .rest ≡ c .rest
 puts-rest c [] = refl
-puts-rest c (device id v f p ∷ l) = puts-rest (put (device id v f p) c) l
-puts-rest c (disk id x y ∷ l) = puts-rest (put (disk id x y) c) l
+puts-rest c (device id v f p ∷ l) = puts-rest (withItem (device id v f p) c) l
+puts-rest c (disk id x y ∷ l) = puts-rest (withItem (disk id x y) c) l
 
 -- entries put one by one into a list in order, where that stays in order: all of them in order
 one-by-one : (key : List ℕ → ℕ) (s l r : List (List ℕ)) → r ≡ inserts key s l → Asc key 0 s → Asc key 0 r → r ≡ sort key (l ++ s)
 one-by-one key s l r e a b = e ∙ inserts-sort key s l a (asc-inserts key s l (rw e at b))
 
-pub puts-grown : (c : Content) (l : List Item) → Canon c → Canon (puts put c l) → puts put c l ≡ grown c l
+pub puts-grown : (c : Content) (l : List Item) → Canon c → Canon (puts withItem c l) → puts withItem c l ≡ grown c l
 puts-grown c l h k =
-    let d = one-by-one (devices .key) (c .devices) (deviceEntries l) (puts put c l .devices) (puts-devices c l) (h .devices-sorted .asc) (k .devices-sorted .asc) in
-    let e = one-by-one (disks .key) (c .disks) (diskEntries l) (puts put c l .disks) (puts-disks c l) (h .disks-sorted .asc) (k .disks-sorted .asc) in
+    let d = one-by-one (devices .key) (c .devices) (deviceEntries l) (puts withItem c l .devices) (puts-devices c l) (h .devices-sorted .asc) (k .devices-sorted .asc) in
+    let e = one-by-one (disks .key) (c .disks) (diskEntries l) (puts withItem c l .disks) (puts-disks c l) (h .disks-sorted .asc) (k .disks-sorted .asc) in
     let r = puts-rest c l in
     λ i. record { devices = d i; disks = e i; rest = r i }
 
@@ -85,10 +85,10 @@ pub record Ends (s : List ℕ) (l : List Item) (b : List ℕ) : Type 0 where
   pub read : contentAt s ≡ taken old
   pub content-is : contentAt b ≡ taken (grown old l)
   pub bytes-are : b ≡ render (grown old l)
-  pub in-order : InOrder b
+  pub in-order : IsCanonical b
   pub holds : List·Permᴰ (held (grown old l)) (l ++ held old)
 
-pub final : (s : List ℕ) (l : List (ℕ × Item)) (b : List ℕ) → InOrder s → Chain Call s l b → Ends s (items l) b
+pub final : (s : List ℕ) (l : List (ℕ × Item)) (b : List ℕ) → IsCanonical s → Chain Call s l b → Ends s (items l) b
 final s l b o h =
     let (c, k, e) = in-order s o in
     let (i, w, p) = content adds files c l b k (rw e h) in
@@ -96,9 +96,9 @@ final s l b o h =
     record {
       old = c;
       read = rw e at (read-back c k);
-      content-is = rw w at (read-back (puts put c (items l)) i) ∙ ap taken g;
+      content-is = rw w at (read-back (puts withItem c (items l)) i) ∙ ap taken g;
       bytes-are = sym w ∙ ap render g;
-      in-order = subst InOrder w (render-in-order (puts put c (items l)) i);
+      in-order = subst IsCanonical w (render-in-order (puts withItem c (items l)) i);
       holds = rw g at p;
     }
 

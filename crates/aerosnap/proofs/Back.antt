@@ -23,8 +23,8 @@ use Rattle.lists.proofs.Written.{Good, length-list, entries-list}
 use Rattle.aerosnap.specs.Known.{CPU, MMU, DEVICES, DISKS, CPUS, MMUS, takes, slot}
 use Rattle.aerosnap.specs.Payloads.{list, bodyOf}
 use Rattle.aerosnap.specs.File.{fileMost, devicesMost, idOf, slotOf}
-use Rattle.aerosnap.specs.Rules.{IsSection, Valid}
-use Rattle.aerosnap.specs.Content.{framed, listed, tidy, rank, isId, isOther, entriesIn, Content, contentOf, written, secs, render, contentAt}
+use Rattle.aerosnap.specs.Rules.{IsSection, IsFile}
+use Rattle.aerosnap.specs.Content.{framed, listed, tidy, rank, isId, isOther, entriesIn, Content, contentOf, writtenSections, secs, render, contentAt}
 use Rattle.aerosnap.proofs.Slots.{Once, once-perm, once-first}
 use Rattle.aerosnap.proofs.Taken.{file-complete}
 use Rattle.aerosnap.proofs.Written.{Tidy, list-reads, list-section}
@@ -126,10 +126,10 @@ module _ (c : Content) (h : Canon c) where
   keep-third = keep-append isOther A (B ++ c .rest)
       ∙ rw (keep-none isOther A (with-id isOther false DEVICES A (λ e q. rw q) fours), keep-append isOther B (c .rest), keep-none isOther B (with-id isOther false DISKS B (λ e q. rw q) fives), keep-all isOther (c .rest) (h .rest-other)) refl
 
-  pub secs-valid : Valid (secs c)
+  pub secs-valid : IsFile (secs c)
   unfolding A B
   secs-valid =
-      let p = Permᴰ·symm (sort-perm rank (written c)) in
+      let p = Permᴰ·symm (sort-perm rank (writtenSections c)) in
       record {
         few = h .fits .many;
         short = h .fits .long;
@@ -141,10 +141,10 @@ module _ (c : Content) (h : Canon c) where
   unfolding A B
   content-secs =
       let d : sort (devices .key) (entriesIn DEVICES devices (secs c)) ≡ c .devices =
-      rw (keep-sort rank (isId DEVICES) (written c), keep-first, listed-sort DEVICES 1 (c .devices), listed-entries DEVICES refl refl (lawful Devices) (c .devices) fit-devices) (asc-sort (devices .key) 0 (c .devices) (h .devices-sorted .asc)) in
+      rw (keep-sort rank (isId DEVICES) (writtenSections c), keep-first, listed-sort DEVICES 1 (c .devices), listed-entries DEVICES refl refl (lawful Devices) (c .devices) fit-devices) (asc-sort (devices .key) 0 (c .devices) (h .devices-sorted .asc)) in
       let k : sort (disks .key) (entriesIn DISKS disks (secs c)) ≡ c .disks =
-      rw (keep-sort rank (isId DISKS) (written c), keep-second, listed-sort DISKS 1 (c .disks), listed-entries DISKS refl refl (lawful Disks) (c .disks) fit-disks) (asc-sort (disks .key) 0 (c .disks) (h .disks-sorted .asc)) in
-      let r : sort rank (flat tidy (keep isOther (secs c))) ≡ c .rest = rw (keep-sort rank isOther (written c), keep-third, up-sort rank 0 (c .rest) (h .rest-up), flat-tidy (c .rest) (h .rest-are)) (up-sort rank 0 (c .rest) (h .rest-up)) in
+      rw (keep-sort rank (isId DISKS) (writtenSections c), keep-second, listed-sort DISKS 1 (c .disks), listed-entries DISKS refl refl (lawful Disks) (c .disks) fit-disks) (asc-sort (disks .key) 0 (c .disks) (h .disks-sorted .asc)) in
+      let r : sort rank (flat tidy (keep isOther (secs c))) ≡ c .rest = rw (keep-sort rank isOther (writtenSections c), keep-third, up-sort rank 0 (c .rest) (h .rest-up), flat-tidy (c .rest) (h .rest-are)) (up-sort rank 0 (c .rest) (h .rest-up)) in
       λ i. record { devices = d i; disks = k i; rest = r i }
 
   -- a content in order is read back from its file

@@ -23,8 +23,8 @@ use Rattle.lists.proofs.Written.{Good, good-sort, length-list}
 use Rattle.aerosnap.specs.Known.{DEVICES, DISKS}
 use Rattle.aerosnap.specs.Payloads.{list, bodyOf}
 use Rattle.aerosnap.specs.File.{fileMost, sectionsMost, devicesMost, header, idOf, versionOf}
-use Rattle.aerosnap.specs.Rules.{Valid}
-use Rattle.aerosnap.specs.Content.{listed, tidy, rank, isOther, entriesIn, Content, contentOf, written, secs, render}
+use Rattle.aerosnap.specs.Rules.{IsFile}
+use Rattle.aerosnap.specs.Content.{listed, tidy, rank, isOther, entriesIn, Content, contentOf, writtenSections, secs, render}
 use Rattle.aerosnap.proofs.Slots.{Once, once-perm}
 use Rattle.aerosnap.proofs.Framed.{length-framed}
 use Rattle.aerosnap.proofs.Written.{Tidy, Tidied, gone, kept, lists-of}
@@ -50,7 +50,7 @@ pub length-secs : (c : Content) → length (secs c) ≡ countOf c
 length-secs c =
     let a : List (List ℕ) = listed DEVICES 1 (c .devices) in
     let b : List (List ℕ) = listed DISKS 1 (c .disks) in
-    omega (arith, perm-length (sort-perm rank (written c)), length-append a (b ++ c .rest), length-append b (c .rest), length-listed DEVICES 1 (c .devices), length-listed DISKS 1 (c .disks))
+    omega (arith, perm-length (sort-perm rank (writtenSections c)), length-append a (b ++ c .rest), length-append b (c .rest), length-listed DEVICES 1 (c .devices), length-listed DISKS 1 (c .disks))
 
 pub length-render : (c : Content) → length (render c) ≡ sizeOf c
 length-render c =
@@ -59,7 +59,7 @@ length-render c =
     omega (
       arith,
       length-join (secs c),
-      perm-weigh length (sort-perm rank (written c)),
+      perm-weigh length (sort-perm rank (writtenSections c)),
       weigh-append length a (b ++ c .rest),
       weigh-append length b (c .rest),
       weigh-listed DEVICES 1 (c .devices),
@@ -119,7 +119,7 @@ fewer (e ∷ l) h = go (h .0) (fewer l (h .1))
     go gone r = (omega (arith, r .0), omega (arith, r .1))
     go (kept y i n) r = (omega (arith, r .0), omega (arith, r .1))
 
-pub secs-fewer : (l : List (List ℕ)) → Valid l → (length (secs (contentOf l)) ≤ length l) × (length (render (contentOf l)) ≤ length (header ++ join l))
+pub secs-fewer : (l : List (List ℕ)) → IsFile l → (length (secs (contentOf l)) ≤ length l) × (length (render (contentOf l)) ≤ length (header ++ join l))
 secs-fewer l v =
     let p = sort-perm rank l in
     let f = fewer (sort rank l) (every-perm _ (Permᴰ·symm p) (valid-tidied l v)) in
@@ -127,7 +127,7 @@ secs-fewer l v =
     (omega (arith, ap length e, f .0, perm-length p), omega (arith, ap (weigh length) e, length-join (secs (contentOf l)), length-join l, f .1, perm-weigh length p))
 
 -- no key of a device or of a disk comes twice
-pub entries-apart : (l : List (List ℕ)) → Valid l → Apart (devices .key) (entriesIn DEVICES devices l) × Apart (disks .key) (entriesIn DISKS disks l)
+pub entries-apart : (l : List (List ℕ)) → IsFile l → Apart (devices .key) (entriesIn DEVICES devices l) × Apart (disks .key) (entriesIn DISKS disks l)
 entries-apart l v = (
   held DEVICES devices (λ v. refl) (lawful Devices) (only-one DEVICES refl l (v .are) (v .once)) .good .apart,
   held DISKS disks (λ v. refl) (lawful Disks) (only-one DISKS refl l (v .are) (v .once)) .good .apart,
@@ -141,7 +141,7 @@ tidied-tidy (kept y i n) = (y, tt)
 abbrev Neither : ℕ → Type 0
 Neither i = (not (eqb i DEVICES) && not (eqb i DISKS)) ≡ true
 
-pub canon-of : (l : List (List ℕ)) → Valid l → Canon (contentOf l)
+pub canon-of : (l : List (List ℕ)) → IsFile l → Canon (contentOf l)
 canon-of l v =
     let d : Held DEVICES devices (entriesIn DEVICES devices l) = held DEVICES devices (λ v. refl) (lawful Devices) (only-one DEVICES refl l (v .are) (v .once)) in
     let k : Held DISKS disks (entriesIn DISKS disks l) = held DISKS disks (λ v. refl) (lawful Disks) (only-one DISKS refl l (v .are) (v .once)) in

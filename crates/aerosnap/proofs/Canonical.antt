@@ -15,7 +15,7 @@ use Rattle.order.proofs.Sorts.{sort-unique}
 use Rattle.entries.specs.Kinds.{devices, disks}
 use Rattle.aerosnap.specs.Known.{DEVICES, DISKS}
 use Rattle.aerosnap.specs.File.{fileOf}
-use Rattle.aerosnap.specs.Rules.{Valid}
+use Rattle.aerosnap.specs.Rules.{IsFile}
 use Rattle.aerosnap.specs.Content.{tidy, isOther, entriesIn, Content, contentOf, render, contentAt, canonical}
 use Rattle.aerosnap.proofs.Taken.{file-sound}
 use Rattle.aerosnap.proofs.Canon.{Canon, canon-of, secs-fewer, entries-apart}
@@ -76,7 +76,7 @@ pub same-content : (have : ℕ) (s t b : List ℕ) → canonical have s ≡ take
 same-content have s t b h k = sym (canonical-is have s b h .same) ∙ canonical-is have t b k .same
 
 -- Savers that hand over the same devices and the same disks in other orders save the same content.
-pub any-saver : (l m : List (List ℕ)) → Valid l → List·Permᴰ (entriesIn DEVICES devices l) (entriesIn DEVICES devices m) → List·Permᴰ (entriesIn DISKS disks l) (entriesIn DISKS disks m)
+pub any-saver : (l m : List (List ℕ)) → IsFile l → List·Permᴰ (entriesIn DEVICES devices l) (entriesIn DEVICES devices m) → List·Permᴰ (entriesIn DISKS disks l) (entriesIn DISKS disks m)
     → flat tidy (keep isOther l) ≡ flat tidy (keep isOther m) → contentOf l ≡ contentOf m
 any-saver l m v p q r =
     let a = entries-apart l v in

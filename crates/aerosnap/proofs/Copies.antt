@@ -23,7 +23,7 @@ use Rattle.lists.specs.Lists.{widthOf, entries, listBytes}
 use Rattle.lists.proofs.Written.{length-list}
 use Rattle.aerosnap.specs.Payloads.{Body, meta, cpu, mmu, list, opaque, bodyOf}
 use Rattle.aerosnap.specs.File.{idOf, versionOf, flagsOf, lengthOf}
-use Rattle.aerosnap.specs.Rules.{IsSection, Valid}
+use Rattle.aerosnap.specs.Rules.{IsSection, IsFile}
 use Rattle.aerosnap.specs.Content.{framed, listed, tidied, tidy, rank, contentOf, secs, render}
 use Rattle.aerosnap.proofs.Written.{lists-of, list-known, isEmpty, tidy-size}
 use Rattle.aerosnap.proofs.Ranks.{secs-tidy}
@@ -93,11 +93,11 @@ weigh-same f g [] h = refl
 weigh-same f g (e ∷ l) h = omega (arith, h .0, weigh-same f g l (h .1))
 
 -- the sections that are written of each section of the file
-pub secs-count : (l : List (List ℕ)) → Valid l → length (secs (contentOf l)) ≡ weigh (λ e. length (tidy e)) l
+pub secs-count : (l : List (List ℕ)) → IsFile l → length (secs (contentOf l)) ≡ weigh (λ e. length (tidy e)) l
 secs-count l v = ap length (secs-tidy l v) ∙ length-flat tidy (sort rank l) ∙ perm-weigh (λ e. length (tidy e)) (sort-perm rank l)
 
 -- the bytes of each section of the file, but those of empty lists
-pub render-size : (l : List (List ℕ)) → Valid l → length (render (contentOf l)) ≡ 16 + weigh (λ e. cond (isEmpty e) 0 (length e)) l
+pub render-size : (l : List (List ℕ)) → IsFile l → length (render (contentOf l)) ≡ 16 + weigh (λ e. cond (isEmpty e) 0 (length e)) l
 render-size l v =
     let s : length (join (secs (contentOf l))) ≡ weigh (λ e. length (join (tidy e))) l =
     ap (λ (m : List (List ℕ)). length (join m)) (secs-tidy l v) ∙ ap length (join-flat tidy (sort rank l)) ∙ length-flat (λ e. join (tidy e)) (sort rank l) ∙ perm-weigh (λ e. length (join (tidy e))) (sort-perm rank l) in

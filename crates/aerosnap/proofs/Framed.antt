@@ -14,14 +14,14 @@ pub length-framed : (id v f : ℕ) (p : List ℕ) → length (framed id v f p) �
 unfolding bytesOf
 length-framed id v f p = omega arith
 
-pub record Reads (e : List ℕ) (id v f : ℕ) (p : List ℕ) : Type 0 where
+pub record ReadsFramed (e : List ℕ) (id v f : ℕ) (p : List ℕ) : Type 0 where
   pub id-is : idOf e ≡ id
   pub version-is : versionOf e ≡ v
   pub flags-is : flagsOf e ≡ f
   pub whole : length e ≡ 16 + lengthOf e
   pub payload-is : drop 16 e ≡ p
 
-pub framed-reads : (id v f : ℕ) (p : List ℕ) → id < 4294967296 → v < 65536 → f < 65536 → length p < 18446744073709551616 → Reads (framed id v f p) id v f p
+pub framed-reads : (id v f : ℕ) (p : List ℕ) → id < 4294967296 → v < 65536 → f < 65536 → length p < 18446744073709551616 → ReadsFramed (framed id v f p) id v f p
 unfolding leAt bytesOf
 framed-reads id v f p i j k n =
     let w : lengthOf (framed id v f p) ≡ length p = le-bytesOf 8 (length p) n in

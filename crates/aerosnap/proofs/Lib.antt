@@ -1,6 +1,7 @@
 pub mod Bodies
 pub mod Slots
 pub mod Sections
+pub mod Faults
 pub mod Taken
 pub mod Places
 pub mod Refusals
@@ -16,6 +17,7 @@ pub mod Canonical
 pub mod Ranked
 pub mod Copies
 pub mod Rows
+pub mod Records
 pub mod Items
 pub mod Added
 pub mod AnyOrder

@@ -2,7 +2,7 @@
 -- Assumes nothing.
 use mathlib.Core.Path.{_≡_, refl, sym, ap}
 use mathlib.Core.List.{List, [], _∷_, _++_}
-use mathlib.Core.Bool.{Bool, true, false, not, _&&_, _||_}
+use mathlib.Core.Bool.{Bool, true, false, not, _&&_}
 use Prim.Native.Nat.{ℕ, zero, suc, _+_, _≤_}
 use native.Mathlib.Omega.{arith}
 use lib.ListN.{length, take, drop}
@@ -25,7 +25,7 @@ use Rattle.aerosnap.specs.Known.{META, CPU, MMU, DEVICES, DISKS, CPUS, M
 use Rattle.aerosnap.specs.Payloads.{metaForm, Body, meta, cpu, mmu, list, opaque, bodyBy, bodyOf, payload}
 use Rattle.aerosnap.specs.File.{sectionsMost, headerChecks, idOf, versionOf, flagsOf, lengthOf, payloadOf, frameChecks, knownChecks, ruled, sectionOf, sections, fileOf}
 use Rattle.aerosnap.specs.Content.{contentOf, render, contentAt, canonical}
-use Rattle.aerosnap.specs.Adding.{Item, device, disk, put, ownChecks, addChecks, addTo, addItem}
+use Rattle.aerosnap.specs.Adding.{Item, device, disk, withItem, ownChecks, addChecks, addTo, addItem}
 use Rattle.aerosnap.proofs.Refusals.{Refuses, checked-refuses, after-refuses, refuses-more}
 
 -- ---- outcomes and checks
@@ -199,9 +199,9 @@ own-numbered (disk id x y) = (omega arith, (omega arith, tt))
 pub add-named : (have : ℕ) (s : List ℕ) (x : Item) → Named (addItem have s x)
 unfolding addItem addTo
 add-named have s x = after-refuses Nonzero (contentAt s) (λ c. addTo have c x) (content-named s) (λ c.
-    checked-refuses Nonzero (ownChecks x ++ addChecks x c (put x c)) (fitting have (render (put x c)))
-    (every-append _ (ownChecks x) (addChecks x c (put x c)) (own-numbered x) (omega arith, (omega arith, (omega arith, (omega arith, (omega arith, tt))))))
-    (fitting-named have (render (put x c))))
+    checked-refuses Nonzero (ownChecks x ++ addChecks x c (withItem x c)) (fitting have (render (withItem x c)))
+    (every-append _ (ownChecks x) (addChecks x c (withItem x c)) (own-numbered x) (omega arith, (omega arith, (omega arith, (omega arith, (omega arith, tt))))))
+    (fitting-named have (render (withItem x c))))
 
 -- ---- what a number says
 

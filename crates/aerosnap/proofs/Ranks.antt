@@ -20,8 +20,8 @@ use Rattle.lists.specs.Lists.{entries}
 use Rattle.aerosnap.specs.Known.{DEVICES, DISKS, known, takes, slot}
 use Rattle.aerosnap.specs.Payloads.{Body, list, bodyOf}
 use Rattle.aerosnap.specs.File.{fileMost, idOf, versionOf, slotOf}
-use Rattle.aerosnap.specs.Rules.{IsSection, Valid}
-use Rattle.aerosnap.specs.Content.{listed, tidied, tidy, rank, isId, isOther, contentOf, written, secs}
+use Rattle.aerosnap.specs.Rules.{IsSection, IsFile}
+use Rattle.aerosnap.specs.Content.{listed, tidied, tidy, rank, isId, isOther, contentOf, writtenSections, secs}
 use Rattle.aerosnap.proofs.Slots.{Once, once-first, first-once, rest-once}
 use Rattle.aerosnap.proofs.Written.{Tidied, gone, kept, tidied-is}
 
@@ -213,11 +213,11 @@ pub tidy-rank : {e : List ℕ} {t : List (List ℕ)} → Tidied e t → Every (�
 tidy-rank gone = tt
 tidy-rank {e} (kept {d} y i n) = (same-rank d e i, tt)
 
-pub valid-tidied : (l : List (List ℕ)) → Valid l → Every (λ e. Tidied e (tidy e)) l
+pub valid-tidied : (l : List (List ℕ)) → IsFile l → Every (λ e. Tidied e (tidy e)) l
 valid-tidied l v = tidied-all l (v .are) (omega (arith, v .short, length-join l))
 
 -- the sections of a file's content are its sections in the order of their ranks, each as it is written
-pub secs-tidy : (l : List (List ℕ)) → Valid l → secs (contentOf l) ≡ flat tidy (sort rank l)
+pub secs-tidy : (l : List (List ℕ)) → IsFile l → secs (contentOf l) ≡ flat tidy (sort rank l)
 secs-tidy l v =
     ap (sort rank) w
     ∙ sort-part rank (a ++ b) c
@@ -240,7 +240,7 @@ secs-tidy l v =
     y : listed DISKS 1 (contentOf l .disks) ≡ b
     y = only-tidy DISKS disks (λ v. refl) refl (one-version DISKS refl) (only-one DISKS refl l (v .are) (v .once))
 
-    w : written (contentOf l) ≡ (a ++ b) ++ sort rank c
+    w : writtenSections (contentOf l) ≡ (a ++ b) ++ sort rank c
     w = cc (x, y, append-assoc a b (sort rank c))
 
     like : Every (λ e. Every (λ d. rank d ≡ rank e) (tidy e)) l

@@ -17,7 +17,7 @@ use Rattle.wire.specs.Numbers.{le, leAt, bytesOf}
 use Rattle.wire.proofs.Letters.{same-true}
 use Rattle.order.specs.Entries.{join}
 use Rattle.aerosnap.specs.File.{fileMost, sectionsMost, letters, header, headerChecks, sections, fileOf}
-use Rattle.aerosnap.specs.Rules.{Valid}
+use Rattle.aerosnap.specs.Rules.{IsFile}
 use Rattle.aerosnap.proofs.Sections.{sections-complete, sections-sound}
 
 -- ---- the header
@@ -40,7 +40,7 @@ peeled n at v s i h j =
     let q : x ≡ bytesOf n v = small x v (eqb-true _ _ h) j ∙ ap (λ (k : ℕ). bytesOf k v) l in
     sym (take-append-drop n (drop at s)) ∙ cc (q, drop-drop n at s)
 
-header-sound : (s : List ℕ) → Pass (headerChecks s) → s ≡ header ++ drop 16 s
+pub header-sound : (s : List ℕ) → Pass (headerChecks s) → s ≡ header ++ drop 16 s
 unfolding bytesOf
 header-sound s (_, (n, (m, (v, (e, (r, (u, _))))))) =
     let l : 16 ≤ length s = leb-true _ _ n in
@@ -52,7 +52,7 @@ header-sound s (_, (n, (m, (v, (e, (r, (u, _))))))) =
 
 -- ---- the file
 
-pub file-sound : (s : List ℕ) {l : List (List ℕ)} → fileOf s ≡ taken l → (s ≡ header ++ join l) × Valid l
+pub file-sound : (s : List ℕ) {l : List (List ℕ)} → fileOf s ≡ taken l → (s ≡ header ++ join l) × IsFile l
 unfolding fileOf
 file-sound s {l} h =
     let p = checked-pass (headerChecks s) (sections sectionsMost [] 16 (drop 16 s)) l h in
@@ -60,7 +60,7 @@ file-sound s {l} h =
     let e : s ≡ header ++ join l = header-sound s (p .0) ∙ rw (v .all) (ap (λ (b : List ℕ). header ++ b) (v .cut)) in
     (e, rw (v .all) (record { few = v .few; short = omega (arith, leb-true (length s) fileMost (p .0 .0), ap length e, ap (λ (m : List (List ℕ)). length (join m)) (v .all)); are = v .are; once = v .once }))
 
-pub file-complete : (l : List (List ℕ)) → Valid l → fileOf (header ++ join l) ≡ taken l
+pub file-complete : (l : List (List ℕ)) → IsFile l → fileOf (header ++ join l) ≡ taken l
 unfolding fileOf leAt le
 file-complete l v =
     pass-checked (headerChecks (header ++ join l)) (sections sectionsMost [] 16 (join l))
@@ -68,9 +68,9 @@ file-complete l v =
     ∙ sections-complete l sectionsMost [] 16 (v .few) (omega (arith, v .few)) (v .are) (v .once)
 
 -- A file is taken with certain sections exactly if it is the header and these, and they are valid.
-pub taken-exactly : (s : List ℕ) (l : List (List ℕ)) → (fileOf s ≡ taken l) ↔ ((s ≡ header ++ join l) × Valid l)
+pub taken-exactly : (s : List ℕ) (l : List (List ℕ)) → (fileOf s ≡ taken l) ↔ ((s ≡ header ++ join l) × IsFile l)
 taken-exactly s l = (file-sound s, λ h. ap fileOf (h .0) ∙ file-complete l (h .1))
 
 -- The sections of a file are the only ones.
-pub file-unique : (l m : List (List ℕ)) → Valid l → Valid m → header ++ join l ≡ header ++ join m → l ≡ m
+pub file-unique : (l m : List (List ℕ)) → IsFile l → IsFile m → header ++ join l ≡ header ++ join m → l ≡ m
 file-unique l m v w e = taken-is (sym (file-complete l v) ∙ ap fileOf e ∙ file-complete m w)

@@ -27,7 +27,7 @@ use Rattle.aerosnap.specs.Rules.{IsBody, IsSection}
 use Rattle.aerosnap.specs.Content.{framed, listed, tidied, tidy}
 use Rattle.aerosnap.proofs.Bodies.{Lawfully, lawful-body}
 use Rattle.aerosnap.proofs.Slots.{known-range}
-use Rattle.aerosnap.proofs.Framed.{Reads, length-framed, framed-reads}
+use Rattle.aerosnap.proofs.Framed.{ReadsFramed, length-framed, framed-reads}
 
 takes-le : (id v : ℕ) → takes id v ≡ true → v ≤ 2
 takes-le id v h = go (eqb v 1) (eqb v 2) refl refl h
@@ -60,7 +60,7 @@ pub record Tidy (e : List ℕ) : Type 0 where
 
 module _ (id v : ℕ) {d : Description} (q : bodyOf id v ≡ list d) (t : takes id v ≡ true) (K : Lawful d) (l : List (List ℕ)) (g : Good d l)
     (small : id ≡ DEVICES → length (listBytes l) ≤ devicesMost) (long : length (listBytes l) ≤ fileMost) where
-  pub list-reads : Reads (framed id v 0 (listBytes l)) id v 0 (listBytes l)
+  pub list-reads : ReadsFramed (framed id v 0 (listBytes l)) id v 0 (listBytes l)
   list-reads = framed-reads id v 0 (listBytes l) (omega (arith, known-range id (list-known id v d q) .1)) (omega (arith, takes-le id v t)) (omega arith) (omega arith)
 
   pub list-section : IsSection (framed id v 0 (listBytes l))

@@ -12,7 +12,7 @@ use Rattle.wire.specs.Numbers.{bytesOf}
 pub use Rattle.wire.specs.Parts.{withLength}
 use Rattle.utf8.specs.Scan.{isText}
 use Rattle.order.specs.Keyed.{insert, sort, has}
-use Rattle.entries.specs.Kinds.{Description, devices, disks}
+use Rattle.entries.specs.Kinds.{Description, payloadMost, imageMost, devices, disks}
 use Rattle.lists.specs.Lists.{listBytes}
 use Rattle.aerosnap.specs.Known.{DEVICES, DISKS}
 use Rattle.aerosnap.specs.File.{fileMost, sectionsMost, devicesMost}
@@ -49,14 +49,14 @@ listIn (device id v f p) c = c .devices
 listIn (disk id x y) c = c .disks
 
 -- the content with one entry more
-abbrev pub put : Item → Content → Content
-put (device id v f p) c = record { devices = insert (devices .key) (framed id v f p) (c .devices); disks = c .disks; rest = c .rest }
-put (disk id x y) c = record { devices = c .devices; disks = insert (disks .key) (entryOf (disk id x y)) (c .disks); rest = c .rest }
+abbrev pub withItem : Item → Content → Content
+withItem (device id v f p) c = record { devices = insert (devices .key) (framed id v f p) (c .devices); disks = c .disks; rest = c .rest }
+withItem (disk id x y) c = record { devices = c .devices; disks = insert (disks .key) (entryOf (disk id x y)) (c .disks); rest = c .rest }
 
 -- what is asked of the item alone: its lengths, then its texts
 abbrev pub ownChecks : Item → Checks
-ownChecks (device id v f p) = (leb (length p) 67108864, LIMIT, 0) ∷ []
-ownChecks (disk id x y) = (leb (length x) 65536 && leb (length y) 65536, LIMIT, 0) ∷ (isText x && isText y, TEXT, 0) ∷ []
+ownChecks (device id v f p) = (leb (length p) payloadMost, LIMIT, 0) ∷ []
+ownChecks (disk id x y) = (leb (length x) imageMost && leb (length y) imageMost, LIMIT, 0) ∷ (isText x && isText y, TEXT, 0) ∷ []
 
 -- its key is there
 abbrev pub there : Item → Content → Bool
@@ -74,7 +74,7 @@ addChecks x c u =
 
 -- an item added to a content, for an output of so many bytes
 unfoldable pub addTo : ℕ → Content → Item → Outcome (List ℕ)
-addTo have c x = checked (ownChecks x ++ addChecks x c (put x c)) (fitting have (render (put x c)))
+addTo have c x = checked (ownChecks x ++ addChecks x c (withItem x c)) (fitting have (render (withItem x c)))
 
 -- an item added to a file: the file's faults, then the add's
 unfoldable pub addItem : ℕ → List ℕ → Item → Outcome (List ℕ)

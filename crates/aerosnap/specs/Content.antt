@@ -66,12 +66,12 @@ contentOf l = record {
 }
 
 -- the sections that are written of it
-abbrev pub written : Content → List (List ℕ)
-written c = listed DEVICES 1 (c .devices) ++ (listed DISKS 1 (c .disks) ++ c .rest)
+abbrev pub writtenSections : Content → List (List ℕ)
+writtenSections c = listed DEVICES 1 (c .devices) ++ (listed DISKS 1 (c .disks) ++ c .rest)
 
 -- the same in their order
 abbrev pub secs : Content → List (List ℕ)
-secs c = sort rank (written c)
+secs c = sort rank (writtenSections c)
 
 -- the bytes of the canonical form
 abbrev pub render : Content → List ℕ
@@ -86,5 +86,5 @@ unfoldable pub canonical : ℕ → List ℕ → Outcome (List ℕ)
 canonical have s = after (contentAt s) (λ c. fitting have (render c))
 
 -- a canonical file: one that is its own canonical form
-abbrev pub InOrder : List ℕ → Type 0
-InOrder s = canonical (length s) s ≡ taken s
+abbrev pub IsCanonical : List ℕ → Type 0
+IsCanonical s = canonical (length s) s ≡ taken s

@@ -10,13 +10,11 @@ use Rattle.answer.specs.Outcome.{Outcome, taken, Checks, checked, after, moved}
 use Rattle.wire.specs.Numbers.{leAt}
 use Rattle.wire.specs.Parts.{same}
 use Rattle.order.specs.Keyed.{has}
+pub use Rattle.lists.specs.Lists.{fileMost}
 use Rattle.aerosnap.specs.Known.{DEVICES, known, takes, slot}
 use Rattle.aerosnap.specs.Payloads.{bodyOf, payload}
 
--- a file has at most 1024 MiB and 64 sections, the payload of DEVICES at most 256 MiB
-abbrev pub fileMost : ℕ
-fileMost = 1073741824
-
+-- a file has at most `fileMost` bytes and 64 sections, the payload of DEVICES at most 256 MiB
 abbrev pub sectionsMost : ℕ
 sectionsMost = 64
 

@@ -39,7 +39,7 @@ abbrev pub isKnown : List ℕ → Bool
 isKnown e = known (idOf e)
 
 -- l are the sections of a file: each is a section, they are within the bounds, and no two of the known ones share a slot
-pub record Valid (l : List (List ℕ)) : Type 0 where
+pub record IsFile (l : List (List ℕ)) : Type 0 where
   pub few : length l ≤ sectionsMost
   pub short : length (header ++ join l) ≤ fileMost
   pub are : Every IsSection l

@@ -17,7 +17,7 @@ use Rattle.kinds.specs.declared.Body.the-variants.{Empty, Bytes, Text}
 use Rattle.kinds.specs.declared.Cell.{Cell}
 use Rattle.kinds.specs.declared.Form.{Form}
 use Rattle.kinds.specs.Kinds.{cells, okOf}
-use Rattle.messages.specs.Fields.{widthOf, sizeOf}
+use Rattle.messages.specs.Fields.{fieldWidth, sizeOf}
 use Rattle.messages.specs.Reading.{numbersEnd}
 use Rattle.messages.specs.Writing.{fieldBytes, bodyBytes, withLength, formBytes}
 use Rattle.messages.proofs.Lengths.{length-sized, length-form}
@@ -44,7 +44,7 @@ pub wrote-cells : {w old l : List ℕ} {at : ℕ} (ok : ℕ) (cs : List Cell) �
 unfolding fieldBytes sizeOf putCells
 wrote-cells ok [] so h = rw (append-nil, add-zero) so
 wrote-cells {w} {old} {l} {at} ok (c ∷ cs) so h =
-    let n = widthOf ok (c .0) in
+    let n = fieldWidth ok (c .0) in
     let bs = bytesOf n (c .1) in
     let e : length bs ≡ n = length-bytesOf n (c .1) in
     let one : Wrote (w ++ bs) old (put at bs l) (at + n) = rw e at (wrote-put so bs (omega arith) refl) in
@@ -61,7 +61,7 @@ wrote-sized {w} {old} {l} {at} d so h =
 length-cells : (ok : ℕ) (cs : List Cell) (at : ℕ) (out : List ℕ) → length (putCells ok cs at out) ≡ length out
 unfolding putCells
 length-cells ok [] at out = refl
-length-cells ok (c ∷ cs) at out = length-cells ok cs (at + widthOf ok (c .0)) (put at (bytesOf (widthOf ok (c .0)) (c .1)) out) ∙ length-put at (bytesOf (widthOf ok (c .0)) (c .1)) out
+length-cells ok (c ∷ cs) at out = length-cells ok cs (at + fieldWidth ok (c .0)) (put at (bytesOf (fieldWidth ok (c .0)) (c .1)) out) ∙ length-put at (bytesOf (fieldWidth ok (c .0)) (c .1)) out
 
 -- what stands behind the numbers
 pub wrote-body : {w old l : List ℕ} {at : ℕ} (b : Body) (d : List ℕ) → Wrote w old l at → at + length (bodyBytes b d) ≤ length l
@@ -86,10 +86,10 @@ put-form f d out h =
     all .bytes ∙ ap (λ (w : List ℕ). w ++ drop (length w) out) (append-assoc t q (bodyBytes (f .body) d))
 
 abbrev pub cellBytes : ℕ → Cell → List ℕ
-cellBytes ok c = bytesOf (widthOf ok (c .0)) (c .1)
+cellBytes ok c = bytesOf (fieldWidth ok (c .0)) (c .1)
 
 -- four fields, each put where the one before it ends
-pub put-four : (f : Form) (out : List ℕ) {l₁ l₂ l₃ l₄ : List ℕ} {w₁ w₂ w₃ : ℕ} → w₁ ≡ widthOf (okOf f) (f .a .0) → w₂ ≡ widthOf (okOf f) (f .b .0) → w₃ ≡ widthOf (okOf f) (f .c .0)
+pub put-four : (f : Form) (out : List ℕ) {l₁ l₂ l₃ l₄ : List ℕ} {w₁ w₂ w₃ : ℕ} → w₁ ≡ fieldWidth (okOf f) (f .a .0) → w₂ ≡ fieldWidth (okOf f) (f .b .0) → w₃ ≡ fieldWidth (okOf f) (f .c .0)
     → l₁ ≡ put 2 (cellBytes (okOf f) (f .a)) out
     → l₂ ≡ put (2 + w₁) (cellBytes (okOf f) (f .b)) l₁
     → l₃ ≡ put (2 + w₁ + w₂) (cellBytes (okOf f) (f .c)) l₂

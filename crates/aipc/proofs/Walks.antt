@@ -19,8 +19,8 @@ use Rattle.kinds.specs.declared.Body.the-variants.{Text}
 use Rattle.kinds.specs.declared.Cell.{Cell}
 use Rattle.kinds.specs.declared.Form.{Form}
 use Rattle.kinds.specs.Kinds.{paper, cells, okOf}
-use Rattle.messages.specs.Fields.{widthOf, allowed, sizeOf, messageAt}
-use Rattle.messages.specs.Reading.{most, fieldChecks, dataLength, dataFits, leftOver, bodyChecks, numbersEnd, readChecks, contentOf, readMessage}
+use Rattle.messages.specs.Fields.{fieldWidth, allowed, sizeOf, messageAt}
+use Rattle.messages.specs.Reading.{most, fieldChecks, dataLength, dataFits, leftOver, bodyChecks, numbersEnd, readChecks, messageContent, readMessage}
 use Rattle.aipc.specs.Steps.{fieldAt, textPart, behind, formed}
 
 -- the steps that the code makes, each from where the one before it ended
@@ -38,7 +38,7 @@ walked-checks ok [] m at = ap taken (omega arith)
 walked-checks ok (c ∷ cs) m at = go (leb (at + w) (length m)) (allowed ok (c .0) (c .1)) (walked-checks ok cs m (at + w))
   where
     w : ℕ
-    w = widthOf ok (c .0)
+    w = fieldWidth ok (c .0)
 
     go : (a b : Bool) → walked ok cs m (taken (at + w)) ≡ checked (fieldChecks ok cs (at + w) m) (taken (at + w + sizeOf ok cs))
         → walked ok cs m (checked ((a, SHAPE, at) ∷ (b, VALUE, at) ∷ []) (taken (at + w)))
@@ -49,7 +49,7 @@ walked-checks ok (c ∷ cs) m at = go (leb (at + w) (length m)) (allowed ok (c .
 
 -- ---- where the numbers end
 
-width-small : (ok : ℕ) (f : Field) → widthOf ok f ≤ 8
+width-small : (ok : ℕ) (f : Field) → fieldWidth ok f ≤ 8
 width-small ok Absent = omega arith
 width-small ok U8 = omega arith
 width-small ok U16 = omega arith
@@ -63,7 +63,7 @@ width-small ok Error = go (eqb ok 0)
     go true = omega arith
     go false = omega arith
 
-pub end-sum : (f : Form) → numbersEnd f ≡ 2 + widthOf (okOf f) (f .a .0) + widthOf (okOf f) (f .b .0) + widthOf (okOf f) (f .c .0) + widthOf (okOf f) (f .d .0)
+pub end-sum : (f : Form) → numbersEnd f ≡ 2 + fieldWidth (okOf f) (f .a .0) + fieldWidth (okOf f) (f .b .0) + fieldWidth (okOf f) (f .c .0) + fieldWidth (okOf f) (f .d .0)
 unfolding sizeOf
 end-sum f = omega arith
 
@@ -89,4 +89,4 @@ pub read-formed : (m : List ℕ) (k : Message) (f : Form) → k ≡ messageAt m 
 unfolding formed behind readMessage readChecks
 read-formed m k f ek ef h g t =
     rw (← ek, ← ef, le-leb (length m) most h, le-leb 2 (length m) g, t)
-    (sym (checked-append (fieldChecks (okOf f) (cells f) 2 m) (bodyChecks (f .body) (numbersEnd f) m) (taken (contentOf k (f .body) (numbersEnd f) m))))
+    (sym (checked-append (fieldChecks (okOf f) (cells f) 2 m) (bodyChecks (f .body) (numbersEnd f) m) (taken (messageContent k (f .body) (numbersEnd f) m))))

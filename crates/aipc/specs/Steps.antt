@@ -16,16 +16,16 @@ use Rattle.kinds.specs.declared.Body.the-variants.{Empty, Bytes, Text}
 use Rattle.kinds.specs.declared.Cell.{Cell}
 use Rattle.kinds.specs.declared.Form.{Form}
 use Rattle.kinds.specs.Kinds.{cells, okOf}
-use Rattle.messages.specs.Fields.{widthOf, allowed}
-use Rattle.messages.specs.Reading.{Content, most, fieldChecks, bodyChecks, numbersEnd, contentOf}
+use Rattle.messages.specs.Fields.{fieldWidth, allowed}
+use Rattle.messages.specs.Reading.{Content, most, fieldChecks, bodyChecks, numbersEnd, messageContent}
 use Rattle.messages.specs.Writing.{dataChecks, formBytes, writeChecks}
 
 -- one field at a place, and where it ends
 abbrev pub fieldAt : ℕ → Cell → List ℕ → ℕ → Outcome ℕ
 fieldAt ok c m at =
     checked
-    ((leb (at + widthOf ok (c .0)) (length m), SHAPE, at) ∷ (allowed ok (c .0) (c .1), VALUE, at) ∷ [])
-    (taken (at + widthOf ok (c .0)))
+    ((leb (at + fieldWidth ok (c .0)) (length m), SHAPE, at) ∷ (allowed ok (c .0) (c .1), VALUE, at) ∷ [])
+    (taken (at + fieldWidth ok (c .0)))
 
 -- one test, and the other if that is passed
 abbrev pub then : Outcome (Unit {0}) → Outcome (Unit {0}) → Outcome (Unit {0})
@@ -37,7 +37,7 @@ textPart start end m = (isText (take (end - start) (drop start m)), TEXT, start 
 
 -- what stands behind the numbers, at a place
 unfoldable pub behind : Message → Body → ℕ → List ℕ → Outcome Content
-behind k b at m = checked (bodyChecks b at m) (taken (contentOf k b at m))
+behind k b at m = checked (bodyChecks b at m) (taken (messageContent k b at m))
 
 -- the numbers, and what stands behind them
 unfoldable pub formed : Message → Form → List ℕ → Outcome Content
@@ -64,7 +64,7 @@ writing f d have = writeChecks f d ++ room have (length (formBytes f d))
 -- the fields put into the output one after the other
 unfoldable pub putCells : ℕ → List Cell → ℕ → List ℕ → List ℕ
 putCells ok [] at out = out
-putCells ok (c ∷ cs) at out = putCells ok cs (at + widthOf ok (c .0)) (put at (bytesOf (widthOf ok (c .0)) (c .1)) out)
+putCells ok (c ∷ cs) at out = putCells ok cs (at + fieldWidth ok (c .0)) (put at (bytesOf (fieldWidth ok (c .0)) (c .1)) out)
 
 abbrev pub putSized : List ℕ → ℕ → List ℕ → List ℕ
 putSized d at out = put (at + 4) d (put at (bytesOf 4 (length d)) out)

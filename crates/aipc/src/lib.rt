@@ -10,8 +10,8 @@ ghost use Rattle.answer.specs.Calls.{pieceOf, testOf, asked, Writes};
 ghost use Rattle.wire.specs.Numbers.{bytesOf};
 ghost use Rattle.wire.specs.Parts.{put};
 ghost use Rattle.kinds.specs.Kinds.{cells, okOf};
-ghost use Rattle.messages.specs.Fields.{widthOf, allowed as allowedOf};
-ghost use Rattle.messages.specs.Reading.{fieldChecks, leftOver, dataLength, dataFits, bodyChecks, numbersEnd, contentOf, readMessage, reading};
+ghost use Rattle.messages.specs.Fields.{fieldWidth, allowed as allowedOf};
+ghost use Rattle.messages.specs.Reading.{fieldChecks, leftOver, dataLength, dataFits, bodyChecks, numbersEnd, messageContent, readMessage, reading};
 ghost use Rattle.messages.specs.Writing.{bodyBytes, formBytes, dataChecks, writeMessage};
 ghost use Rattle.aipc.specs.Steps.{fieldAt, behind, formed, then, textPart, allAllowed, limits as limitsOf, faults as faultsOf, writing, putCells, putBody, putForm};
 use answer::Answer;
@@ -37,7 +37,7 @@ const MOST: usize = 65536;
 
 // How many bytes a field has. The error code is there exactly if `ok` is 0.
 fn width(ok: u64, c: Cell) -> usize
-    ensures { λ r. ⌜ (r ≡ widthOf ok (c .0)) × (r ≤ 8) ⌝ }
+    ensures { λ r. ⌜ (r ≡ fieldWidth ok (c .0)) × (r ≤ 8) ⌝ }
 {
     let field = c.0;
     match field {
@@ -239,7 +239,7 @@ fn found(message: Message, start: u64, len: u64) -> Reading
 
 fn with_data(m: &[u8], message: Message, at: usize) -> Reading
     requires { ⌜ at ≤ 65536 ⌝ }
-    ensures { λ r. ⌜ r ≡ reading (taken (contentOf message Body.Bytes at (now (m .entry)))) ⌝ }
+    ensures { λ r. ⌜ r ≡ reading (taken (messageContent message Body.Bytes at (now (m .entry)))) ⌝ }
 {
     found(message, (at + 4) as u64, u32_at(m, at) as u64)
 }
@@ -247,7 +247,7 @@ fn with_data(m: &[u8], message: Message, at: usize) -> Reading
 // The message with the place and the length of its data.
 fn content(m: &[u8], message: Message, body: Body, at: usize) -> Reading
     requires { ⌜ at ≤ 65536 ⌝ }
-    ensures { λ r. ⌜ r ≡ reading (taken (contentOf message body at (now (m .entry)))) ⌝ }
+    ensures { λ r. ⌜ r ≡ reading (taken (messageContent message body at (now (m .entry)))) ⌝ }
 {
     match body {
         Body::Empty => found(message, 0, 0),
@@ -428,7 +428,7 @@ fn put32(out: &mut [u8], at: usize, x: u64)
 
 // One field at a place.
 fn put_field(out: &mut [u8], ok: u64, c: Cell, at: usize)
-    ensures { λ _. ⌜ now (out .exit) ≡ put at (bytesOf (widthOf ok (c .0)) (c .1)) (now (out .entry)) ⌝ }
+    ensures { λ _. ⌜ now (out .exit) ≡ put at (bytesOf (fieldWidth ok (c .0)) (c .1)) (now (out .entry)) ⌝ }
 {
     let field = c.0;
     let x = c.1;

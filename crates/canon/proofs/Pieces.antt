@@ -38,7 +38,7 @@ use Rattle.aerosnap.proofs.Copies.{plain-written, list-written}
 use Rattle.sections.specs.Index.{isListId, startsOf}
 use Rattle.sections.proofs.Kept.{listed-id}
 use Rattle.sections.proofs.Reading.{body-list, starts-list, starts-long}
-use Rattle.canon.specs.Steps.{bytesFor, Whole}
+use Rattle.canon.specs.Steps.{bytesFor, WholeSection}
 
 -- ---- which sections are lists
 
@@ -60,7 +60,7 @@ empty-list id v e h = go (eqb id 4) refl (eqb id 5) refl (eqb id 7) refl (eqb id
 pub size-plain : (e : List ℕ) {id : ℕ} → id ≡ idOf e → isListId id ≡ false → length e ≡ length (bytesFor e)
 size-plain e {id} i h = sym (ap length (plain-written e (listed-id (idOf e) (versionOf e) ∙ rw i at h)))
 
-pub size-list : (e : List ℕ) → Whole e → {id : ℕ} → id ≡ idOf e → isListId id ≡ true → length (bytesFor e) ≡ cond (eqb (leAt 4 e 16) 0) 0 (length e)
+pub size-list : (e : List ℕ) → WholeSection e → {id : ℕ} → id ≡ idOf e → isListId id ≡ true → length (bytesFor e) ≡ cond (eqb (leAt 4 e 16) 0) 0 (length e)
 size-list e w i h = tidy-size e (w .is) ∙ ap (λ (b : Bool). cond b 0 (length e)) (empty-list (idOf e) (versionOf e) e (rw i at h))
 
 -- ---- other sections
@@ -79,7 +79,7 @@ as-list e {id} i j h = ap (λ (n : ℕ). bodyOf n (versionOf e)) (sym i) ∙ ap 
 
 -- the section e is a list of a kind, its starts are l, and there is room for it in old
 pub record ListPiece (k : Kind) (e old l : List ℕ) : Type 0 where
-  pub whole : Whole e
+  pub whole : WholeSection e
   pub starts : l ≡ startsOf e
   pub form : bodyOf (idOf e) (versionOf e) ≡ list (describe k)
   pub bytes : Bytes e

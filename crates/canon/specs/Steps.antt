@@ -22,7 +22,7 @@ use Rattle.aerosnap.specs.Known.{DEVICES}
 use Rattle.aerosnap.specs.File.{fileMost, sectionsMost, devicesMost, header}
 use Rattle.aerosnap.specs.Rules.{IsSection}
 use Rattle.aerosnap.specs.Content.{framed, tidy, rank, Content, contentOf, render}
-use Rattle.aerosnap.specs.Adding.{Item, entryOf, kindOf, listIn, put, ownChecks, addChecks, idFor}
+use Rattle.aerosnap.specs.Adding.{Item, entryOf, kindOf, listIn, withItem, ownChecks, addChecks, idFor}
 
 -- the bytes that are written of a section
 abbrev pub bytesFor : List ℕ → List ℕ
@@ -46,7 +46,7 @@ pub record Marked (l : List (List ℕ)) (m : List ℕ) : Type 0 where
   pub none : (k : ℕ) → k ≤ 9 → getD m k 0 ≡ 0 → ranked k l ≡ []
 
 -- e is one section of a file
-pub record Whole (e : List ℕ) : Type 0 where
+pub record WholeSection (e : List ℕ) : Type 0 where
   pub is : IsSection e
   pub small : length e ≤ fileMost
 
@@ -113,11 +113,11 @@ pub record New (x : Item) (kind : Kind) (id : ℕ) (e : List ℕ) : Type 0 where
   pub own : Pass (ownChecks x)
 
 -- and p is that list in a file with the sections l, or an empty one where it has none
-pub record Adds (x : Item) (kind : Kind) (id : ℕ) (l : List (List ℕ)) (p e : List ℕ) : Type 0 where
+pub record AddsItem (x : Item) (kind : Kind) (id : ℕ) (l : List (List ℕ)) (p e : List ℕ) : Type 0 where
   pub new : New x kind id e
   pub joins : Joins (describe kind) p e
   pub same : listIn x (contentOf l) ≡ sort (describe kind .key) (entries (describe kind) p)
 
 -- the add of an item whose own checks passed, for an output of so many bytes
 abbrev pub addedTo : ℕ → Content → Item → Outcome (List ℕ)
-addedTo have c x = checked (addChecks x c (put x c)) (fitting have (render (put x c)))
+addedTo have c x = checked (addChecks x c (withItem x c)) (fitting have (render (withItem x c)))

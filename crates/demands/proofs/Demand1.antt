@@ -14,8 +14,8 @@ use Rattle.answer.specs.Numbers.{VALUE, ROOM, isNumber, isFault}
 use Rattle.answer.specs.Outcome.{Outcome, taken, refused, Faulty, Checks, checked, after, room, fitting}
 use Rattle.answer.specs.Calls.{verdict, answer, Writes}
 use Rattle.answer.proofs.Checks.{checked-after, checked-append}
-use Rattle.answer.proofs.Outcomes.{after-after}
-use Rattle.answer.proofs.Table.{number-some, fault-number, fault-no-room}
+use Rattle.answer.proofs.Outcomes.{taken-refused, after-after}
+use Rattle.answer.proofs.Table.{number-some, fault-number, fault-some, fault-no-room}
 use Rattle.answer.proofs.Once.{equal-once, writes-once}
 use Rattle.order.specs.Keyed.{Every, flat, sort}
 use Rattle.order.proofs.Folds.{every-append}
@@ -25,9 +25,9 @@ use Rattle.tables.specs.Tables.{rowsAt}
 use Rattle.aerosnap.specs.File.{fileOf}
 use Rattle.aerosnap.specs.Content.{Content, contentAt, render, canonical}
 use Rattle.aerosnap.specs.Tables.{placed, table}
-use Rattle.aerosnap.specs.Adding.{Item, device, disk, ownChecks, addChecks, put, addTo, addItem}
+use Rattle.aerosnap.specs.Adding.{Item, device, disk, ownChecks, addChecks, withItem, addTo, addItem}
 use Rattle.aerosnap.proofs.Refusals.{Refuses, checked-refuses, after-refuses, refuses-more}
-use Rattle.aerosnap.proofs.Named.{file-faulty, content-faulty}
+use Rattle.aerosnap.proofs.Named.{checked-faulty, after-faulty, file-faulty, content-faulty}
 use Rattle.dskc.specs.Wrapper as wrapped
 use Rattle.kinds.specs.declared.Message.{Message}
 use Rattle.kinds.specs.declared.Message.the-variants.{Nothing}
@@ -40,8 +40,9 @@ use Rattle.messages.specs.declared.Reading.{Reading}
 use Rattle.messages.specs.Reading.{Content as MessageContent, reading, readMessage}
 use Rattle.messages.specs.Writing.{valueChecks, dataChecks, writeChecks, written, writeMessage}
 use Rattle.numbers.specs.declared.Numbers.{Numbers}
-use Rattle.numbers.specs.Numbers.{kindIn, allWithin, messageOf, writeNumbers}
-use Rattle.demands.specs.Demands.{Taken, InTable, Answers, Fills, Demand1}
+use Rattle.numbers.specs.declared.Told.{Told}
+use Rattle.numbers.specs.Numbers.{numbersOf, kindIn, allWithin, messageOf, told, writeNumbers}
+use Rattle.demands.specs.Demand1.{Taken, InTable, Answers, Fills, ReadsMessage, TellsMessage, numbersIn, Demand1}
 use Rattle.demands.proofs.Faults.{wrapper-faulty, message-faulty}
 
 -- ---- numbers
@@ -74,18 +75,52 @@ unroomed-zero {A} (refused n p) h r e = (
 )
 
 answers : {A : Type 0} (o : Outcome A) → Faulty o → Answers o
-answers o h = record { faults = h; zero = unroomed-zero o (faulty-unroomed o h); once = λ r s e f. equal-once e f }
+answers o h = record {
+  faults = h;
+  zero = unroomed-zero o (faulty-unroomed o h);
+  takes = λ r e (a, t). ap (λ (x : Answer). x .place) (e ∙ ap verdict t);
+  refuses = λ r n p e t. let q : r ≡ record { number = n; place = p } = e ∙ ap verdict t in (ap (λ (x : Answer). x .number) q, ap (λ (x : Answer). x .place) q);
+  once = λ r s e f. equal-once e f;
+}
 
-reads-zero : (o : Outcome MessageContent) → Unroomed o → (r : Reading) → r ≡ reading o → (r .number ≡ 0) ↔ Taken o
-reads-zero (taken a) h r e = ((λ z. (a, refl)), λ t. ap (λ (x : Reading). x .number) e)
-reads-zero (refused n p) h r e = (
-  (λ z. absurd (omega (arith, ap (λ (x : Reading). x .number) e, number-some n (h .0)))),
-  λ (a, t). let z : _≡_ {A = ℕ} 0 1 = cc in absurd (omega arith),
+-- ---- readings
+
+-- taken and refused are told apart by the number, whatever else is answered
+reading-zero : {A : Type 0} (number : A → ℕ) (made : Outcome MessageContent → A) → ((c : MessageContent) → number (made (taken c)) ≡ 0) → ((n p : ℕ) → number (made (refused n p)) ≡ n)
+    → (o : Outcome MessageContent) → Faulty o → (r : A) → r ≡ made o → (number r ≡ 0) ↔ Taken o
+reading-zero number made t f (taken c) h r e = ((λ z. (c, refl)), λ _. ap number e ∙ t c)
+reading-zero number made t f (refused n p) h r e = (
+  (λ z. absurd (omega (arith, ap number e ∙ f n p, fault-some n h))),
+  λ (a, q). absurd (taken-refused (sym q)),
 )
 
-reads-nothing : (o : Outcome MessageContent) (r : Reading) → r ≡ reading o → r .number ≢ 0 → r .message ≡ Nothing
-reads-nothing (taken a) r e h = absurd (h (ap (λ (x : Reading). x .number) e))
-reads-nothing (refused n p) r e h = ap (λ (x : Reading). x .message) e
+reads : (o : Outcome MessageContent) → Faulty o → ReadsMessage o
+reads o h = record {
+  faults = h;
+  zero = reading-zero (λ r. r .number) reading (λ c. refl) (λ n p. refl) o h;
+  takes = λ r c e t. let q = e ∙ ap reading t in (ap (λ (x : Reading). x .place) q, ap (λ (x : Reading). x .message) q, ap (λ (x : Reading). x .start) q, ap (λ (x : Reading). x .len) q);
+  refuses = λ r n p e t. let q = e ∙ ap reading t in
+      (ap (λ (x : Reading). x .number) q, ap (λ (x : Reading). x .place) q, ap (λ (x : Reading). x .message) q, ap (λ (x : Reading). x .start) q, ap (λ (x : Reading). x .len) q);
+  once = λ r s e f. equal-once e f;
+}
+
+-- by tag and numbers
+abbrev toldOf : Outcome MessageContent → Told
+toldOf o = told (reading o)
+
+nothing-told : numbersOf Nothing ≡ record { tag = 0; a = 0; b = 0; c = 0; d = 0 }
+unfolding paper
+nothing-told = refl
+
+tells : (o : Outcome MessageContent) → Faulty o → TellsMessage o
+tells o h = record {
+  faults = h;
+  zero = reading-zero (λ r. r .number) toldOf (λ c. refl) (λ n p. refl) o h;
+  takes = λ r c e t. let q = e ∙ ap toldOf t in (ap (λ (x : Told). x .place) q, ap numbersIn q, ap (λ (x : Told). x .data_place) q, ap (λ (x : Told). x .data_length) q);
+  refuses = λ r n p e t. let q = e ∙ ap toldOf t in
+      (ap (λ (x : Told). x .number) q, ap (λ (x : Told). x .place) q, ap numbersIn q ∙ nothing-told, ap (λ (x : Told). x .data_place) q, ap (λ (x : Told). x .data_length) q);
+  once = λ r s e f. equal-once e f;
+}
 
 -- ---- calls that write
 
@@ -142,6 +177,7 @@ fills o k = record {
   table = λ have. rw (k .same have) (fitted-table have (k .core) (k .apart));
   stays = λ old new r w h. refused-stays (o (length old)) old new r w h;
   writes = λ old new r w z. rw (k .same (length old)) (fitted-writes (k .core) (k .apart) old new r (rw (k .same (length old)) at w) z);
+  refuses = λ old new r n p w e. let q : r ≡ record { number = n; place = p } = w .answers ∙ ap answer e in (ap (λ (x : Answer). x .number) q, ap (λ (x : Answer). x .place) q);
   room = λ old new r w z. rw (k .same (r .place)) (fitted-room (k .core) (k .apart) old new r (rw (k .same (length old)) at w) z);
   once = λ old new now r s a b. writes-once a b;
 }
@@ -163,23 +199,23 @@ own-rows : (x : Item) → Rows (ownChecks x)
 own-rows (device id v f p) = (plain 12 refl, tt)
 own-rows (disk id x y) = (plain 12 refl, (plain 14 refl, tt))
 
-add-rows : (x : Item) (c : Content) → Rows (ownChecks x ++ addChecks x c (put x c))
-add-rows x c = every-append _ (ownChecks x) (addChecks x c (put x c)) (own-rows x) ((refl, λ e. omega arith), (plain 12 refl, (plain 12 refl, (plain 8 refl, (plain 6 refl, tt)))))
+add-rows : (x : Item) (c : Content) → Rows (ownChecks x ++ addChecks x c (withItem x c))
+add-rows x c = every-append _ (ownChecks x) (addChecks x c (withItem x c)) (own-rows x) ((refl, λ e. omega arith), (plain 12 refl, (plain 12 refl, (plain 8 refl, (plain 6 refl, tt)))))
 
 add-core : (s : List ℕ) (x : Item) → Core (λ have. addItem have s x)
 unfolding addItem addTo
 add-core s x =
-    let rows : Content → Checks = λ c. ownChecks x ++ addChecks x c (put x c) in
-    let all : Content → Outcome (List ℕ) = λ c. checked (rows c) (taken (render (put x c))) in
+    let rows : Content → Checks = λ c. ownChecks x ++ addChecks x c (withItem x c) in
+    let all : Content → Outcome (List ℕ) = λ c. checked (rows c) (taken (render (withItem x c))) in
     record {
       core = after (contentAt s) all;
-      apart = after-refuses Plain (contentAt s) all (faulty-unroomed (contentAt s) (content-faulty s)) (λ c. checked-refuses Plain (rows c) (taken (render (put x c))) (add-rows x c) tt);
+      apart = after-refuses Plain (contentAt s) all (faulty-unroomed (contentAt s) (content-faulty s)) (λ c. checked-refuses Plain (rows c) (taken (render (withItem x c))) (add-rows x c) tt);
       same = λ have. by have (contentAt s);
     }
   where
     by : (have : ℕ) (r : Outcome Content)
-        → after r (λ c. checked (ownChecks x ++ addChecks x c (put x c)) (fitting have (render (put x c)))) ≡ after (after r (λ c. checked (ownChecks x ++ addChecks x c (put x c)) (taken (render (put x c))))) (fitting have)
-    by have (taken c) = sym (checked-after (ownChecks x ++ addChecks x c (put x c)) (taken (render (put x c))) (fitting have))
+        → after r (λ c. checked (ownChecks x ++ addChecks x c (withItem x c)) (fitting have (render (withItem x c)))) ≡ after (after r (λ c. checked (ownChecks x ++ addChecks x c (withItem x c)) (taken (render (withItem x c))))) (fitting have)
+    by have (taken c) = sym (checked-after (ownChecks x ++ addChecks x c (withItem x c)) (taken (render (withItem x c))) (fitting have))
     by have (refused n p) = refl
 
 value-rows : (ok : ℕ) (cs : List Cell) → Rows (valueChecks ok cs)
@@ -204,26 +240,26 @@ write-core k d = record {
   same = λ have. checked-append (writeChecks (paper k) d) (room have (length (written k d))) (taken (written k d)) ∙ sym (checked-after (writeChecks (paper k) d) (taken (written k d)) (fitting have));
 }
 
-kind-unroomed : (ks : List Kind) (t : ℕ) → Unroomed (kindIn ks t)
-kind-unroomed [] t = plain 18 refl
-kind-unroomed (k ∷ ks) t = go (eqb t (blank k .tag)) (kind-unroomed ks t)
+kind-faulty : (ks : List Kind) (t : ℕ) → Faulty (kindIn ks t)
+kind-faulty [] t = refl
+kind-faulty (k ∷ ks) t = go (eqb t (blank k .tag)) (kind-faulty ks t)
   where
-    go : (b : Bool) → Unroomed (kindIn ks t) → Unroomed (cond b (taken k) (kindIn ks t))
+    go : (b : Bool) → Faulty (kindIn ks t) → Faulty (cond b (taken k) (kindIn ks t))
     go true h = tt
     go false h = h
 
-message-unroomed : (n : Numbers) → Unroomed (messageOf n)
+made-faulty : (n : Numbers) → Faulty (messageOf n)
 unfolding messageOf
-message-unroomed n =
-    after-refuses Plain (kindIn kinds (n .tag)) (λ k. checked ((allWithin (blank k) n, VALUE, 0) ∷ []) (taken (k (n .a) (n .b) (n .c) (n .d)))) (kind-unroomed kinds (n .tag))
-    (λ k. checked-refuses Plain ((allWithin (blank k) n, VALUE, 0) ∷ []) (taken (k (n .a) (n .b) (n .c) (n .d))) (plain 15 refl, tt) tt)
+made-faulty n =
+    after-faulty (kindIn kinds (n .tag)) (λ k. checked ((allWithin (blank k) n, VALUE, 0) ∷ []) (taken (k (n .a) (n .b) (n .c) (n .d)))) (kind-faulty kinds (n .tag))
+    (λ k. checked-faulty ((allWithin (blank k) n, VALUE, 0) ∷ []) (taken (k (n .a) (n .b) (n .c) (n .d))) (refl, tt) tt)
 
 numbers-core : (n : Numbers) (d : List ℕ) → Core (writeNumbers n d)
 unfolding writeNumbers
 numbers-core n d =
     record {
       core = after (messageOf n) (λ k. write-core k d .core);
-      apart = after-refuses Plain (messageOf n) (λ k. write-core k d .core) (message-unroomed n) (λ k. write-core k d .apart);
+      apart = after-refuses Plain (messageOf n) (λ k. write-core k d .core) (faulty-unroomed (messageOf n) (made-faulty n)) (λ k. write-core k d .apart);
       same = λ have. by have (messageOf n);
     }
   where
@@ -245,12 +281,9 @@ demand1 = record {
   wrapper-check = λ wrapper. answers (wrapped.wrapperOf wrapper) (wrapper-faulty wrapper);
   controllers = λ wrapper. fills _ (read-core (wrapped.wrapperOf wrapper) (rowsAt Controllers 16 (drop 16 wrapper)) (wrapper-faulty wrapper));
   wrapper-canonical = λ wrapper. fills _ (read-core (wrapped.wrapperOf wrapper) (λ _. wrapped.wrapperBytes (sort (controllers .key) (wrapped.controllersOf wrapper))) (wrapper-faulty wrapper));
-  message-read = λ message. record {
-    faults = message-faulty message;
-    zero = reads-zero (readMessage message) (faulty-unroomed (readMessage message) (message-faulty message));
-    nothing = reads-nothing (readMessage message);
-    once = λ r s e f. equal-once e f;
-  };
+  message-read = λ message. reads (readMessage message) (message-faulty message);
   message-write = λ message bytes. fills _ (write-core message bytes);
-  by-numbers = λ n bytes. fills _ (numbers-core n bytes);
+  numbers-read = λ message. tells (readMessage message) (message-faulty message);
+  numbers-write = λ n bytes. fills _ (numbers-core n bytes);
+  message-of = made-faulty;
 }

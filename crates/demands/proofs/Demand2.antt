@@ -1,43 +1,51 @@
 -- Demand 2, from the theorems of the crates on files, wrappers and messages.
 -- Assumes nothing.
-use mathlib.Core.Path.{_≡_, refl, sym, ap, _∙_}
+use mathlib.Core.Path.{_≡_, refl, sym, ap, _∙_, subst}
 use mathlib.Core.Logic.{_↔_, _⊎_, inl, inr}
 use mathlib.Core.Bool.{Bool, true, false}
-use mathlib.Core.List.{List, [], _∷_, _++_}
-use Prim.Native.Nat.{ℕ, _≤_, _<_}
+use mathlib.Core.List.{List, [], _∷_, append-nil}
+use Prim.Native.Nat.{ℕ, _+_, _*_, _≤_, _<_}
+use native.Mathlib.Decide.{decLt}
 use native.Mathlib.Omega.{arith}
-use borrow.Author.Tests.{leb-false, lt-leb}
+use borrow.Author.Tests.{leb-true, leb-false, lt-leb}
 use lib.Dec.{leb}
 use lib.ListN.{length, drop}
 use Rattle.answer.specs.Numbers.{ROOM}
-use Rattle.answer.specs.Outcome.{Outcome, taken, refused, Checks, checked, after, room, fitting, First}
-use Rattle.answer.proofs.Checks.{checked-append}
+use Rattle.answer.specs.Outcome.{Outcome, taken, refused, checked, after, fitting}
 use Rattle.answer.proofs.Outcomes.{after-taken}
-use Rattle.wire.specs.Numbers.{Bytes}
-use Rattle.order.specs.Keyed.{flat}
-use Rattle.tables.specs.declared.Table.the-variants.{Controllers}
-use Rattle.tables.specs.Tables.{rowsAt}
-use Rattle.aerosnap.specs.File.{fileOf}
-use Rattle.aerosnap.specs.Content.{Content, contentOf, contentAt, render, canonical}
-use Rattle.aerosnap.specs.Tables.{placed, table}
-use Rattle.aerosnap.specs.Adding.{Item, ownChecks, addChecks, put, addTo, addItem}
-use Rattle.aerosnap.proofs.Taken.{taken-exactly, file-unique}
-use Rattle.aerosnap.proofs.Canonical.{fits-taken, taken-fits, canonical-is, same-canonical, same-content}
+use Rattle.wire.specs.Numbers.{Bytes, leAt}
+use Rattle.wire.proofs.Numbers.{leAt-bound, leAt-bytesOf}
+use Rattle.order.specs.Keyed.{Every, flat}
+use Rattle.order.specs.Entries.{join}
+use Rattle.entries.specs.Kinds.{devices, disks, address}
+use Rattle.tables.specs.declared.Table.the-variants.{Devices, Disks, Controllers}
+use Rattle.tables.specs.Tables.{framedRow, rowsAt}
+use Rattle.tables.specs.Named.{IsTable}
+use Rattle.tables.proofs.Named.{list-table}
+use Rattle.aerosnap.specs.Known.{DEVICES, DISKS}
+use Rattle.aerosnap.specs.File.{fileMost, fileOf}
+use Rattle.aerosnap.specs.Rules.{IsSection}
+use Rattle.aerosnap.specs.Content.{Content, contentOf, contentAt, render, entriesIn, canonical}
+use Rattle.aerosnap.specs.Tables.{placed, listRows, table}
+use Rattle.aerosnap.specs.Adding.{Item, withItem, addItem}
+use Rattle.aerosnap.proofs.Slots.{Once}
+use Rattle.aerosnap.proofs.Taken.{file-sound, taken-exactly, file-unique}
+use Rattle.aerosnap.proofs.Records.{section-rows, list-rows}
+use Rattle.aerosnap.proofs.Canonical.{fits-taken, taken-fits, canonical-is, same-canonical, same-content, any-saver}
 use Rattle.aerosnap.proofs.Added.{add-exactly}
 use Rattle.aerosnap.proofs.AnyOrder.{call-gives}
 use Rattle.dskc.specs.Wrapper as wrapped
-use Rattle.dskc.proofs.Taken.{wrapper-sound, wrapper-complete, controllers-back, wrapper-one, ordered-length, ordered-valid, ordered-again}
+use Rattle.dskc.proofs.Taken.{wrapper-sound, wrapper-complete, controllers-back, wrapper-one, ordered-length, ordered-valid, ordered-again, address-parts, parts-address}
+use Rattle.dskc.proofs.Reading.{whole}
 use Rattle.kinds.specs.declared.Message.{Message}
-use Rattle.kinds.specs.Kinds.{paper}
-use Rattle.messages.specs.Fields.{messageAt}
 use Rattle.messages.specs.Reading as messages
-use Rattle.messages.specs.Writing.{writeChecks, written, writeMessage}
 use Rattle.messages.proofs.Back.{told, read-written}
 use Rattle.messages.proofs.Exactly.{taken-writing, writing-unique, read-write}
 use Rattle.numbers.proofs.Back.{numbers-write}
-use Rattle.demands.specs.Demands.{Taken, Writing, Canonical, Files, Passed, Adds, ordered, Wrappers, Says, dataOf, Messages, Demand2}
-use Rattle.answer.proofs.Firsts.{checked-first}
+use Rattle.demands.specs.Demand1.{Taken}
+use Rattle.demands.specs.Demand2.{Writing, Canonical, Files, Tables, Keys, Addresses, Passed, Additions, ordered, Wrappers, Says, dataOf, Messages, Demand2}
 use Rattle.demands.proofs.Firsts.{after-refused}
+use Rattle.demands.proofs.FirstFaults.{faults}
 
 -- ---- what is written of what was read
 
@@ -90,44 +98,107 @@ files = record {
   is-canonical = is-canonical;
   same = same-canonical;
   only = same-content;
+  any-saver = any-saver;
   content = λ s l e. ap (λ (r : Outcome (List (List ℕ))). after r (λ l. taken (contentOf l))) e;
   no-content = λ s n p e. ap (λ (r : Outcome (List (List ℕ))). after r (λ l. taken (contentOf l))) e;
 }
 
+-- ---- tables
+
+-- a file that is taken, with its sections behind the header
+record Read (s : List ℕ) (l : List (List ℕ)) : Type 0 where
+  cut : drop 16 s ≡ join l
+  short : length s ≤ fileMost
+  are : Every IsSection l
+  once : Once l
+
+file-read : (s : List ℕ) (l : List (List ℕ)) → fileOf s ≡ taken l → Read s l
+file-read s l e =
+    let w = file-sound s e in
+    record { cut = ap (drop 16) (w .0); short = omega (arith, ap length (w .0), w .1 .short); are = w .1 .are; once = w .1 .once }
+
+-- the records of a table that is taken
+table-rows : (rows : ℕ × List ℕ → List ℕ) (have : ℕ) (s b : List ℕ) → table rows have s ≡ taken b → (l : List (List ℕ)) × (fileOf s ≡ taken l) × (flat rows (placed 16 l) ≡ b)
+table-rows rows have s b h =
+    let (l, e, q) = after-taken (fileOf s) (λ l. fitting have (flat rows (placed 16 l))) h in
+    (l, e, fits-taken have (flat rows (placed 16 l)) q .1)
+
+tables : Tables
+tables = record {
+  sections = λ have s b y h.
+      let (l, e, q) = table-rows (λ x. framedRow (x .0) (x .1)) have s b h in
+      let r = file-read s l e in
+      let v = section-rows s y (r .short) 16 l (r .cut) (r .are) in
+      (l, e, (v .rows, sym q ∙ v .bytes, v .names));
+  devices-are = λ have s b y h.
+      let (l, e, q) = table-rows (listRows Devices DEVICES) have s b h in
+      let r = file-read s l e in
+      (l, e, subst (IsTable Devices s (entriesIn DEVICES devices l)) q (list-rows s y (r .short) Devices DEVICES refl (λ v. refl) 16 l (r .cut) (r .are) (r .once)));
+  disks-are = λ have s b y h.
+      let (l, e, q) = table-rows (listRows Disks DISKS) have s b h in
+      let r = file-read s l e in
+      (l, e, subst (IsTable Disks s (entriesIn DISKS disks l)) q (list-rows s y (r .short) Disks DISKS refl (λ v. refl) 16 l (r .cut) (r .are) (r .once)));
+  controllers-are = λ have s b y h.
+      let (r, e, q) = after-taken (wrapped.wrapperOf s) (λ l. fitting have (rowsAt Controllers 16 (drop 16 s) l)) h in
+      let w = whole s e in
+      subst (IsTable Controllers s (wrapped.controllersOf s)) (fits-taken have (rowsAt Controllers 16 (drop 16 s) r) q .1)
+      (list-table Controllers s 16 (drop 16 s) [] (sym (append-nil (drop 16 s))) y (omega (arith, leb-true (length s) wrapped.wrapperMost (w .0 .0))) (w .1));
+}
+
+-- ---- keys and addresses
+
+-- three numbers as one, the second and the third below 65536
+module _ (a b c x y z : ℕ) (h : b < 65536) (i : c < 65536) (j : y < 65536) (k : z < 65536) where
+  lower : (a * 65536 + b) * 65536 + c < (x * 65536 + y) * 65536 + z → (a < x) ⊎ ((a ≡ x) × ((b < y) ⊎ ((b ≡ y) × (c < z))))
+  lower l = go (decLt a x) (decLt b y)
+    where
+      go : Dec (a < x) → Dec (b < y) → (a < x) ⊎ ((a ≡ x) × ((b < y) ⊎ ((b ≡ y) × (c < z))))
+      go (yes p) q = inl p
+      go (no p) (yes q) = inr (omega (arith, p), inl q)
+      go (no p) (no q) = inr (omega (arith, p), inr (omega (arith, p, q), omega (arith, p, q)))
+
+  below : (a < x) ⊎ ((a ≡ x) × ((b < y) ⊎ ((b ≡ y) × (c < z)))) → (a * 65536 + b) * 65536 + c < (x * 65536 + y) * 65536 + z
+  below (inl p) = omega arith
+  below (inr (p, inl q)) = omega arith
+  below (inr (p, inr (q, r))) = omega arith
+
+  alike : ((a * 65536 + b) * 65536 + c ≡ (x * 65536 + y) * 65536 + z) ↔ ((a ≡ x) × (b ≡ y) × (c ≡ z))
+  alike = ((λ e. (omega arith, omega arith, omega arith)), λ (p, q, r). omega arith)
+
+-- a u16 of an entry
+half : (e : List ℕ) (at : ℕ) → Bytes e → leAt 2 e at < 65536
+half e at y = leAt-bound 2 e at y
+
+keys : Keys
+keys = record {
+  order = λ e f y z. (
+    lower _ _ _ _ _ _ (half e 4 y) (half e 6 y) (half f 4 z) (half f 6 z),
+    below _ _ _ _ _ _ (half e 4 y) (half e 6 y) (half f 4 z) (half f 6 z),
+  );
+  same = λ e f y z. alike _ _ _ _ _ _ (half e 4 y) (half e 6 y) (half f 4 z) (half f 6 z);
+}
+
+addresses : Addresses
+addresses = record {
+  parts = address-parts;
+  stored = λ b d f rest h i j. leAt-bytesOf 2 (address b d f) rest (omega arith);
+  apart = parts-address;
+}
+
 -- ---- adds
 
-adds-exactly : (have : ℕ) (s : List ℕ) (x : Item) (b : List ℕ) → (addItem have s x ≡ taken b) ↔ ((c : Content) × (contentAt s ≡ taken c) × Passed have x c × (render (put x c) ≡ b))
+adds-exactly : (have : ℕ) (s : List ℕ) (x : Item) (b : List ℕ) → (addItem have s x ≡ taken b) ↔ ((c : Content) × (contentAt s ≡ taken c) × Passed have x c × (render (withItem x c) ≡ b))
 adds-exactly have s x b = (
   λ h. let (c, e, p, q) = add-exactly have s x b .0 h in (c, e, record { own = p .own; others = p .others; fits = p .room-is }, q),
   λ (c, e, p, q). add-exactly have s x b .1 (c, e, record { own = p .own; others = p .others; room-is = p .fits }, q),
 )
 
-adds-refuses : (have : ℕ) (s : List ℕ) (x : Item) (n p : ℕ)
-    → (addItem have s x ≡ refused n p)
-    ↔ ((contentAt s ≡ refused n p) ⊎ ((c : Content) × (contentAt s ≡ taken c) × First ((ownChecks x ++ addChecks x c (put x c)) ++ room have (length (render (put x c)))) n p))
-unfolding addItem addTo
-adds-refuses have s x n p = ((λ e. there (after-refused (contentAt s) (λ c. addTo have c x) n p e)), back)
-  where
-    rows : Content → Checks
-    rows c = (ownChecks x ++ addChecks x c (put x c)) ++ room have (length (render (put x c)))
-
-    joined : (c : Content) → addTo have c x ≡ checked (rows c) (taken (render (put x c)))
-    joined c = sym (checked-append (ownChecks x ++ addChecks x c (put x c)) (room have (length (render (put x c)))) (taken (render (put x c))))
-
-    there : ((contentAt s ≡ refused n p) ⊎ ((c : Content) × (contentAt s ≡ taken c) × (addTo have c x ≡ refused n p))) → (contentAt s ≡ refused n p) ⊎ ((c : Content) × (contentAt s ≡ taken c) × First (rows c) n p)
-    there (inl e) = inl e
-    there (inr (c, e, h)) = inr (c, e, checked-first (rows c) (render (put x c)) n p .0 (sym (joined c) ∙ h))
-
-    back : ((contentAt s ≡ refused n p) ⊎ ((c : Content) × (contentAt s ≡ taken c) × First (rows c) n p)) → after (contentAt s) (λ c. addTo have c x) ≡ refused n p
-    back (inl e) = ap (λ (r : Outcome Content). after r (λ c. addTo have c x)) e
-    back (inr (c, e, h)) = ap (λ (r : Outcome Content). after r (λ c. addTo have c x)) e ∙ joined c ∙ checked-first (rows c) (render (put x c)) n p .1 h
-
-adds : Adds
-adds = record { exactly = adds-exactly; refuses = adds-refuses; gives = λ have s x b k. let g = call-gives have s x b k in (g .old, g .read, g .content-is, g .canonical-is) }
+adds : Additions
+adds = record { exactly = adds-exactly; gives = λ have s x b k. let g = call-gives have s x b k in (g .old, g .read, g .content-is, g .canonical-is) }
 
 -- ---- wrappers
 
-wrapper-exactly : (s : List ℕ) → Bytes s → Taken (wrapped.wrapperOf s) ↔ ((l : List (List ℕ)) × (s ≡ wrapped.wrapperBytes l) × wrapped.Valid l)
+wrapper-exactly : (s : List ℕ) → Bytes s → Taken (wrapped.wrapperOf s) ↔ ((l : List (List ℕ)) × (s ≡ wrapped.wrapperBytes l) × wrapped.IsWrapper l)
 wrapper-exactly s y = (
   λ (r, e). let w = wrapper-sound s y e in (wrapped.controllersOf s, w .0, w .1),
   λ (l, e, v). (_, ap wrapped.wrapperOf e ∙ wrapper-complete l v),
@@ -160,16 +231,8 @@ message-unique : (m : List ℕ) (k k′ : Message) (d d′ : List ℕ) → Says 
 message-unique m k k′ d d′ v w =
     writing-unique m (record { message = k; content = d; typed = v .typed; passes = v .passes; bytes = v .bytes }) (record { message = k′; content = d′; typed = w .typed; passes = w .passes; bytes = w .bytes })
 
-reading-refuses : (m : List ℕ) (n p : ℕ) → (messages.readMessage m ≡ refused n p) ↔ First (messages.readChecks (paper (messageAt m)) m) n p
-unfolding messages.readMessage
-reading-refuses m n p = checked-first (messages.readChecks (paper (messageAt m)) m) _ n p
-
-writing-refuses : (k : Message) (d : List ℕ) (have n p : ℕ) → (writeMessage k d have ≡ refused n p) ↔ First (writeChecks (paper k) d ++ room have (length (written k d))) n p
-unfolding writeMessage
-writing-refuses k d have n p = checked-first (writeChecks (paper k) d ++ room have (length (written k d))) (written k d) n p
-
 messages-are : Messages
-messages-are = record { exactly = message-exactly; unique = message-unique; refuses = reading-refuses; refuses-writing = writing-refuses; reads = said; writes = read-write; by-numbers = numbers-write }
+messages-are = record { exactly = message-exactly; unique = message-unique; reads = said; writes = read-write; by-numbers = numbers-write }
 
 pub demand2 : Demand2
-demand2 = record { files = files; adds = adds; wrappers = wrappers; messages-are = messages-are }
+demand2 = record { files = files; tables = tables; keys = keys; addresses = addresses; adds = adds; wrappers = wrappers; messages-are = messages-are; faults = faults }

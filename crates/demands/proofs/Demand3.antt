@@ -2,7 +2,7 @@
 -- Assumes nothing.
 use mathlib.Core.Path.{sym}
 use Rattle.aerosnap.proofs.AnyOrder.{any-order, no-two-sets, final, call-made, made-call}
-use Rattle.demands.specs.Demands.{Demand3}
+use Rattle.demands.specs.Demand3.{Demand3}
 
 pub demand3 : Demand3
 demand3 = record {

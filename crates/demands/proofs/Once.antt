@@ -34,8 +34,8 @@ pub use Rattle.region.proofs.Once.{ahead-once, offset-of-once, ring-at-once, ch
 pub use Rattle.rings.proofs.Once.{reserve-once, fill-once, commit-once, take-once}
 -- payloads: index
 pub use Rattle.payloads.proofs.Once.{index-once as payloads-index-once}
--- sections: small; scan; is_list; find; count
-pub use Rattle.sections.proofs.Once.{small-once, scan-once, is-list-once, find-once as sections-find-once, count-once}
+-- sections: small; scan; is_list; check_and_find; count_entries
+pub use Rattle.sections.proofs.Once.{small-once, scan-once, is-list-once, check-and-find-once, count-entries-once}
 -- canon and snapshot: canonical; add_device; add_disk
 pub use Rattle.canon.proofs.Once.{canonical-once, add-device-once, add-disk-once}
 -- snapshot: check; sections; devices; disks

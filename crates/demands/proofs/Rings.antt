@@ -38,7 +38,7 @@ use Rattle.kinds.specs.declared.Message.{Message}
 use Rattle.kinds.specs.Kinds.{paper, cells}
 use Rattle.messages.specs.Reading as messages
 use Rattle.messages.specs.Writing.{writeChecks, written, writeMessage}
-use Rattle.demands.specs.Demands.{Within, dataOf, Says}
+use Rattle.demands.specs.Demand2.{Within, dataOf, Says}
 use Rattle.demands.specs.Rings.{Changes, Looks, RegionCalls, Exactly, ring, RegionRules, NoneOrAll, Handing, OtherQueues, takenBytes, Through, Rings}
 use Rattle.demands.proofs.Demand1.{demand1}
 use Rattle.demands.proofs.Demand2.{demand2}

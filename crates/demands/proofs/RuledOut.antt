@@ -1,38 +1,132 @@
--- The wrong answers of document 01's list are none: by P1, P5 and P9, by the length that an entry adds, and by the promise of a call that writes.
+-- The wrong answers of document 01's list are none: by examples that no such program can answer, and by the length that an entry adds.
 -- Assumes nothing.
-use mathlib.Core.Path.{_≡_, sym, ap, _∙_}
+use mathlib.Core.Path.{_≡_, refl, sym, ap, _∙_}
 use mathlib.Core.Logic.{_≢_}
-use mathlib.Core.List.{List, [], _∷_}
+use mathlib.Core.List.{List, [], _∷_, _++_}
 use Prim.Native.Nat.{ℕ, suc, _<_, _≤_}
 use native.Mathlib.Omega.{arith}
-use lib.ListN.{length}
+use lib.ListN.{length, drop, getD, replicate, length-replicate}
+use lib.Seq.{take-append-seam}
 use Rattle.answer.specs.declared.Answer.{Answer}
-use Rattle.answer.specs.Outcome.{taken}
-use Rattle.answer.specs.Calls.{verdict, answer}
+use Rattle.answer.specs.Outcome.{Outcome, taken}
+use Rattle.answer.specs.Calls.{verdict, answer, memory}
 use Rattle.answer.proofs.Outcomes.{taken-is}
-use Rattle.wire.specs.Numbers.{bytesOf}
-use Rattle.order.specs.Adding.{Chain}
-use Rattle.aerosnap.specs.Content.{Content, contentAt, render, InOrder}
-use Rattle.aerosnap.specs.Adding.{Item, device, disk, listIn, entryOf, put, Call}
+use Rattle.wire.specs.Numbers.{le, leAt, bytesOf}
+use Rattle.format.specs.Format.{read}
+use Rattle.order.specs.Keyed.{insert, has}
+use Rattle.order.specs.Entries.{split}
+use Rattle.lists.specs.Lists.{entryAt, walk, listAt}
+use Rattle.aerosnap.specs.Payloads.{payload}
+use Rattle.aerosnap.specs.File.{ruled, sectionOf, sections, fileOf}
+use Rattle.aerosnap.specs.Content.{Content, contentAt, render, IsCanonical}
+use Rattle.aerosnap.specs.Adding.{Item, device, disk, Wide, listIn, entryOf, withItem, addTo, addItem, Call}
 use Rattle.aerosnap.specs.Calls.{canonicalCall}
 use Rattle.aerosnap.proofs.Canonical.{canonical-exactly}
 use Rattle.aerosnap.proofs.Added.{add-exactly, grows}
-use Rattle.aerosnap.proofs.AnyOrder.{call-gives}
-use Rattle.aerosnap.proofs.Cases.{cases}
-use Rattle.demands.specs.Examples.{empty, fourteenThree, threeFourteen, noDevices}
-use Rattle.demands.specs.RuledOut.{RuledOut}
+use Rattle.aerosnap.proofs.AnyOrder.{call-gives, call-made}
+use Rattle.dskc.specs.Wrapper as wrapped
+use Rattle.dskc.proofs.Examples as wrapper
+use Rattle.kinds.specs.declared.Message.{Message}
+use Rattle.kinds.specs.declared.Message.the-variants.{Shutdown, PortReadResp}
+use Rattle.kinds.specs.Kinds.{paper}
+use Rattle.messages.specs.declared.Reading.{Reading}
+use Rattle.messages.specs.Writing.{fieldBytes, formBytes, valueChecks, writeChecks, written, writeMessage}
+use Rattle.numbers.specs.declared.Numbers.{Numbers}
+use Rattle.numbers.specs.Numbers.{messageOf, writeNumbers}
+use Rattle.demands.specs.Examples.{empty, u32, withDevices, oneByte, twoBytes, fourteenThree, threeFourteen, noDevices}
+use Rattle.demands.specs.RuledOut.{Program, Takes, output, Useful, addCall, Runs, RuledOut}
 use Rattle.demands.proofs.Examples.{examples}
 
--- two files of different lengths
-fixed : (b : List ℕ) → ((have : ℕ) (file d : List ℕ) → canonicalCall have file ≡ taken d → d ≡ b) → ⊥
-fixed b h =
-    let p = h 71 fourteenThree threeFourteen (examples .P5) in
-    let q = h 16 noDevices empty (examples .P9-canonical) in
-    let z : _≡_ {A = ℕ} 71 16 = ap length p ∙ sym (ap length q) in
-    omega arith
+-- ---- programs that meet a promise
 
-copies : ((have : ℕ) (file d : List ℕ) → canonicalCall have file ≡ taken d → d ≡ file) → ⊥
-copies h = let z : _≡_ {A = ℕ} 16 36 = ap length (h 16 noDevices empty (examples .P9-canonical)) in omega arith
+-- what is to be taken is taken, and what is to be written is written
+module _ {I : Type 0} {call : ℕ → I → Outcome (List ℕ)} (P : Program call) (i : I) (old : List ℕ) {b : List ℕ} (e : call (length old) i ≡ taken b) where
+  its-answer : P .answers i old ≡ record { number = 0; place = length b }
+  its-answer = P .meets i old .answers ∙ ap answer e
+
+  its-place : P .answers i old .place ≡ length b
+  its-place = ap (λ (a : Answer). a .place) its-answer
+
+  its-output : output P i old ≡ b
+  its-output =
+      let m : P .leaves i old ≡ b ++ drop (length b) old = P .meets i old .leaves ∙ ap (λ (o : Outcome (List ℕ)). memory o old) e in
+      rw (its-place, m) (take-append-seam b (drop (length b) old))
+
+  made : Takes P i old × (P .answers i old .place ≡ length b) × (output P i old ≡ b)
+  made = (ap (λ (a : Answer). a .number) its-answer, its-place, its-output)
+
+-- lent memory of a length
+abbrev lent : ℕ → List ℕ
+lent n = replicate n 0
+
+-- a call that writes b of i and d of j, where b is neither d nor the input
+module _ {I : Type 0} (call : ℕ → I → Outcome (List ℕ)) (input : I → List ℕ) (n : ℕ) (i : I) (b : List ℕ) (e : call n i ≡ taken b) (m : ℕ) (j : I) (d : List ℕ) (f : call m j ≡ taken d)
+    (differ : b ≢ d) (moves : b ≢ input i) where
+  one : (P : Program call) → Takes P i (lent n) × (P .answers i (lent n) .place ≡ length b) × (output P i (lent n) ≡ b)
+  one P = made P i (lent n) (ap (λ (k : ℕ). call k i) (length-replicate n 0) ∙ e)
+
+  other : (P : Program call) → Takes P j (lent m) × (P .answers j (lent m) .place ≡ length d) × (output P j (lent m) ≡ d)
+  other P = made P j (lent m) (ap (λ (k : ℕ). call k j) (length-replicate m 0) ∙ f)
+
+  useful : Useful call input
+  useful = record {
+    refuses-everything = λ P h. h i (lent n) (one P .0);
+    one-fixed-output = λ P c h. differ (sym (one P .2) ∙ h i (lent n) (one P .0) ∙ sym (h j (lent m) (other P .0)) ∙ other P .2);
+    copies-its-input = λ P h. moves (sym (one P .2) ∙ h i (lent n) (one P .0));
+    made-up-length = λ P k old c g. made P k old g;
+  }
+
+-- lists of different lengths
+longs : {b d : List ℕ} → length b ≢ length d → b ≢ d
+longs h e = h (ap length e)
+
+-- ---- writers
+
+file-useful : Useful canonicalCall (λ file. file)
+file-useful =
+    useful canonicalCall (λ file. file) 16 noDevices empty (examples .P9-canonical) 71 fourteenThree threeFourteen (examples .P5)
+    (longs (λ (z : _≡_ {A = ℕ} 16 71). omega arith)) (longs (λ (z : _≡_ {A = ℕ} 16 36). omega arith))
+
+abbrev noControllers : List ℕ
+noControllers = wrapped.header ++ (0 ∷ 0 ∷ 0 ∷ 0 ∷ [])
+
+-- bus 1 before bus 0, and in address order
+abbrev far : List ℕ
+far = 0 ∷ 1 ∷ 0 ∷ 0 ∷ 73 ∷ 68 ∷ 69 ∷ 48 ∷ 1 ∷ 0 ∷ 0 ∷ 0 ∷ 17 ∷ []
+
+abbrev near : List ℕ
+near = 250 ∷ 0 ∷ 0 ∷ 0 ∷ 65 ∷ 72 ∷ 67 ∷ 73 ∷ 2 ∷ 0 ∷ 0 ∷ 0 ∷ 171 ∷ 205 ∷ []
+
+abbrev two : List ℕ → List ℕ → List ℕ
+two e f = wrapped.header ++ (2 ∷ 0 ∷ 0 ∷ 0 ∷ (e ++ f))
+
+wrapper-useful : Useful wrapped.canonicalCall (λ wrapper. wrapper)
+wrapper-useful =
+    useful wrapped.canonicalCall (λ w. w) 47 (two far near) (two near far) (wrapper.examples .canonical) 20 noControllers noControllers (wrapper.examples .none)
+    (longs (λ (z : _≡_ {A = ℕ} 47 20). omega arith)) (λ e. let z : _≡_ {A = ℕ} 250 0 = ap (λ (l : List ℕ). getD l 20 0) e in omega arith)
+
+abbrev value15 : List ℕ
+value15 = 0x01 ∷ 0x11 ∷ 0x07 ∷ 0x00 ∷ 0x00 ∷ 0x00 ∷ 0x0F ∷ 0x00 ∷ 0x00 ∷ 0x00 ∷ []
+
+abbrev byKind : ℕ → Message × List ℕ → Outcome (List ℕ)
+byKind have i = writeMessage (i .0) (i .1) have
+
+message-useful : Useful byKind (λ i. i .1)
+unfolding writeMessage writeChecks written formBytes fieldBytes valueChecks bytesOf paper
+message-useful =
+    useful byKind (λ i. i .1) 10 (PortReadResp 7 15, []) value15 refl 2 (Shutdown, []) (1 ∷ 0 ∷ []) refl
+    (longs (λ (z : _≡_ {A = ℕ} 10 2). omega arith)) (longs (λ (z : _≡_ {A = ℕ} 10 0). omega arith))
+
+abbrev byNumbers : ℕ → Numbers × List ℕ → Outcome (List ℕ)
+byNumbers have i = writeNumbers (i .0) (i .1) have
+
+numbers-useful : Useful byNumbers (λ i. i .1)
+unfolding writeNumbers messageOf writeMessage writeChecks written formBytes fieldBytes valueChecks bytesOf paper
+numbers-useful =
+    useful byNumbers (λ i. i .1) 10 (record { tag = 0x1101; a = 7; b = 15; c = 0; d = 0 }, []) value15 refl 2 (record { tag = 1; a = 0; b = 0; c = 0; d = 0 }, []) (1 ∷ 0 ∷ []) refl
+    (longs (λ (z : _≡_ {A = ℕ} 10 2). omega arith)) (longs (λ (z : _≡_ {A = ℕ} 10 0). omega arith))
+
+-- ---- adds
 
 -- an entry is not empty, so a file with one more is longer
 entry-long : (x : Item) → 1 ≤ length (entryOf x)
@@ -40,43 +134,64 @@ unfolding bytesOf
 entry-long (device id v f p) = omega arith
 entry-long (disk id x y) = omega arith
 
-does-nothing : (have : ℕ) (s : List ℕ) (x : Item) (b : List ℕ) → Call have s x b → contentAt b ≢ contentAt s
-does-nothing have s x b k e =
+call-new : (have : ℕ) (s : List ℕ) (x : Item) (b : List ℕ) → Call have s x b → contentAt b ≢ contentAt s
+call-new have s x b k e =
     let g = call-gives have s x b k in
-    let q : put x (g .old) ≡ g .old = taken-is (sym (g .content-is) ∙ e ∙ g .read) in
+    let q : withItem x (g .old) ≡ g .old = taken-is (sym (g .content-is) ∙ e ∙ g .read) in
     let n : suc (length (listIn x (g .old))) ≡ length (listIn x (g .old)) = sym (grows x (g .old) .count) ∙ ap (λ (c : Content). length (listIn x c)) q in
     omega arith
 
-longer : (have : ℕ) (s : List ℕ) (x : Item) (b : List ℕ) → InOrder s → Call have s x b → length s < length b
-longer have s x b o k =
+call-longer : (have : ℕ) (s : List ℕ) (x : Item) (b : List ℕ) → IsCanonical s → Call have s x b → length s < length b
+call-longer have s x b o k =
     let (c, e, q, n) = canonical-exactly (length s) s s .0 o in
     let (d, f, p, r) = add-exactly have s x b .0 (k .accepts) in
     let w : d ≡ c = taken-is (sym f ∙ e) in
-    let z : length (render (put x d)) ≡ length b = ap length r in
+    let z : length (render (withItem x d)) ≡ length b = ap length r in
     let y : length (render d) ≡ length s = ap (λ (c : Content). length (render c)) w ∙ ap length q in
     omega (arith, grows x d .size, entry-long x)
 
--- along a chain files only grow
-chain-longer : (s b : List ℕ) (l : List (ℕ × Item)) → InOrder s → Chain Call s l b → length s ≤ length b
-chain-longer s b [] o h = omega (arith, ap length h)
-chain-longer s b (p ∷ l) o (u, k, h) =
-    let i = call-gives (p .0) s (p .1) u k .canonical-is in
-    omega (arith, longer (p .0) s (p .1) u o k, chain-longer u b l i h)
+module _ (P : Program addCall) where
+  -- what the program does is a call
+  called : (s : List ℕ) (x : Item) (old : List ℕ) → Wide x → Takes P (s, x) old → Call (length old) s x (output P (s, x) old)
+  called s x old w h = call-made s x old (P .leaves (s, x) old) (P .answers (s, x) old) w (P .meets (s, x) old) h
 
-passed-on : (s u b : List ℕ) (p q : ℕ × Item) (l : List (ℕ × Item)) → InOrder s → Call (p .0) s (p .1) u → Chain Call u (q ∷ l) b → u ≢ b
-passed-on s u b p q l o k (v, j, h) e =
-    let i = call-gives (p .0) s (p .1) u k .canonical-is in
-    let w = call-gives (q .0) u (q .1) v j .canonical-is in
-    omega (arith, longer (q .0) u (q .1) v i j, chain-longer v b l w h, ap length e)
+  -- along a chain files only grow
+  runs-longer : (s b : List ℕ) (l : List (List ℕ × Item)) → IsCanonical s → Runs P s l b → length s ≤ length b
+  runs-longer s b [] o h = omega (arith, ap length h)
+  runs-longer s b (q ∷ l) o (w, t, h) =
+      let k = called s (q .1) (q .0) w t in
+      let i = call-gives (length (q .0)) s (q .1) (output P (s, q .1) (q .0)) k .canonical-is in
+      omega (arith, call-longer (length (q .0)) s (q .1) (output P (s, q .1) (q .0)) o k, runs-longer (output P (s, q .1) (q .0)) b l i h)
+
+  passed-on : (s b : List ℕ) (p q : List ℕ × Item) (l : List (List ℕ × Item)) → IsCanonical s → Runs P s (p ∷ q ∷ l) b → output P (s, p .1) (p .0) ≢ b
+  passed-on s b p q l o (w, t, (v, u, h)) e =
+      let a : List ℕ = output P (s, p .1) (p .0) in
+      let i = call-gives (length (p .0)) s (p .1) a (called s (p .1) (p .0) w t) .canonical-is in
+      let k = called a (q .1) (q .0) v u in
+      let d : List ℕ = output P (a, q .1) (q .0) in
+      let j = call-gives (length (q .0)) a (q .1) d k .canonical-is in
+      omega (arith, call-longer (length (q .0)) a (q .1) d i k, runs-longer d b l j h, ap length e)
+
+-- the device (3,1,0) with two bytes, and (14,1,0) with one, added to the empty file
+add-useful : Useful addCall (λ i. i .0)
+unfolding leAt le bytesOf insert has read split entryAt walk listAt payload ruled sectionOf sections fileOf addTo addItem
+add-useful =
+    useful addCall (λ i. i .0) 54 (empty, device 3 1 0 (0xAB ∷ 0xCD ∷ [])) (withDevices 22 (u32 1 ++ twoBytes 3)) refl 53 (empty, device 14 1 0 (0x11 ∷ [])) (withDevices 21 (u32 1 ++ oneByte 14)) refl
+    (longs (λ (z : _≡_ {A = ℕ} 54 53). omega arith)) (longs (λ (z : _≡_ {A = ℕ} 54 16). omega arith))
+
+-- ---- all of it
 
 pub ruled-out : RuledOut
 ruled-out = record {
-  refuses-everything = λ read promise h. h empty (ap (λ (a : Answer). a .number) (promise empty ∙ ap verdict (examples .P1)));
-  one-fixed-file = fixed;
-  copies-its-input = copies;
-  does-nothing = does-nothing;
-  adds-nothing = λ h. h _ _ _ _ (cases .add-disk);
-  longer = longer;
+  reader = λ read promise h. h empty (ap (λ (a : Answer). a .number) (promise empty ∙ ap verdict (examples .P1)));
+  wrapper-reader = λ read promise h. h (two far near) (ap (λ (a : Answer). a .number) (promise (two far near) ∙ ap verdict (wrapper.examples .taken-so)));
+  message-reader = λ read promise h. h _ (ap (λ (a : Reading). a .number) (promise _ ∙ examples .P10));
+  canonical = file-useful;
+  wrapper-canonical = wrapper-useful;
+  message-write = message-useful;
+  numbers-write = numbers-useful;
+  add = add-useful;
+  does-nothing = λ P s x old w h. call-new (length old) s x (output P (s, x) old) (called P s x old w h);
+  longer = λ P s x old o w h. call-longer (length old) s x (output P (s, x) old) o (called P s x old w h);
   passed-on = passed-on;
-  made-up-length = λ have s b old new r e w. let i = w .answers ∙ ap answer e in (ap (λ (a : Answer). a .number) i, ap (λ (a : Answer). a .place) i);
 }

@@ -29,11 +29,11 @@ use Rattle.kinds.specs.declared.Body.the-variants.{Empty, Bytes, Text as TextBo
 use Rattle.kinds.specs.declared.Cell.{Cell}
 use Rattle.kinds.specs.declared.Form.{Form}
 use Rattle.kinds.specs.Kinds.{paper, cells, okOf}
-use Rattle.messages.specs.Fields.{widthOf, messageAt}
-use Rattle.messages.specs.Reading.{Content as MessageContent, most, contentOf, dataFits, dataLength, dataIn, fieldChecks, bodyChecks, numbersEnd, readChecks, readMessage}
+use Rattle.messages.specs.Fields.{fieldWidth, messageAt}
+use Rattle.messages.specs.Reading.{Content as MessageContent, most, messageContent, dataFits, dataLength, dataIn, fieldChecks, bodyChecks, numbersEnd, readChecks, readMessage}
 use Rattle.messages.specs.Writing.{valueChecks, dataChecks, formBytes, writeChecks, written, writeMessage}
 use Rattle.aerosnap.specs.Content.{Content, render, contentAt}
-use Rattle.aerosnap.specs.Adding.{Item, device, disk, ownChecks, addChecks, put, addTo, addItem}
+use Rattle.aerosnap.specs.Adding.{Item, device, disk, ownChecks, addChecks, withItem, addTo, addItem}
 use Rattle.demands.specs.Text.{Texts, Points, BrokenTexts}
 use Rattle.demands.proofs.Pointed.{file-pointed}
 
@@ -123,7 +123,7 @@ field-points most s at p h =
 field-others : (ok : ℕ) (cs : List Cell) (at : ℕ) (m : List ℕ) → Others TEXT (fieldChecks ok cs at m)
 unfolding fieldChecks
 field-others ok [] at m = tt
-field-others ok (c ∷ cs) at m = ((λ e. omega arith) also (λ e. omega arith) also field-others ok cs (at + widthOf ok (c .0)) m)
+field-others ok (c ∷ cs) at m = ((λ e. omega arith) also (λ e. omega arith) also field-others ok cs (at + fieldWidth ok (c .0)) m)
 
 body-points : {A : Type 0} (b : Body) (at : ℕ) (m : List ℕ) (a : A) (p : ℕ) → checked (bodyChecks b at m) (taken a) ≡ refused TEXT p → Points m (at + 4) (leAt 4 m at) p
 unfolding bodyChecks
@@ -144,7 +144,7 @@ message-points m p h =
     let f = paper (messageAt m) in
     let fields : Checks = fieldChecks (okOf f) (cells f) 2 m in
     let body : Checks = bodyChecks (f .body) (numbersEnd f) m in
-    let c : MessageContent = contentOf (messageAt m) (f .body) (numbersEnd f) m in
+    let c : MessageContent = messageContent (messageAt m) (f .body) (numbersEnd f) m in
     let head : Checks = (leb (length m) most, LIMIT, 0) ∷ (leb 2 (length m), SHAPE, 0) ∷ (f .known, TAG, 0) ∷ [] in
     let g : checked (fields ++ body) (taken c) ≡ refused TEXT p = passed-on head (checked (fields ++ body) (taken c)) ((λ e. omega arith) also (λ e. omega arith) also (λ e. omega arith) also tt) h in
     body-points (f .body) (numbersEnd f) m c p
@@ -159,12 +159,12 @@ add-zero have s x p h = go (contentAt s) refl h
     own (device id v f y) c u = ((λ _. refl) also (λ _. refl) also (λ _. refl) also (λ _. refl) also (λ _. refl) also (λ _. refl) also tt)
     own (disk id y z) c u = ((λ _. refl) also (λ _. refl) also (λ _. refl) also (λ _. refl) also (λ _. refl) also (λ _. refl) also (λ _. refl) also tt)
 
-    last : (c : Content) → (p ≡ 0) ⊎ (fitting have (render (put x c)) ≡ refused TEXT p) → p ≡ 0
+    last : (c : Content) → (p ≡ 0) ⊎ (fitting have (render (withItem x c)) ≡ refused TEXT p) → p ≡ 0
     last c (inl e) = e
-    last c (inr e) = absurd (taken-refused (passed-on (room have (length (render (put x c)))) (taken (render (put x c))) ((λ q. omega arith) also tt) e))
+    last c (inr e) = absurd (taken-refused (passed-on (room have (length (render (withItem x c)))) (taken (render (withItem x c))) ((λ q. omega arith) also tt) e))
 
     go : (o : Outcome Content) → contentAt s ≡ o → after o (λ c. addTo have c x) ≡ refused TEXT p → (contentAt s ≡ refused TEXT p) ⊎ (p ≡ 0)
-    go (taken c) e k = inr (last c (zeroed (ownChecks x ++ addChecks x c (put x c)) (fitting have (render (put x c))) (own x c (put x c)) k))
+    go (taken c) e k = inr (last c (zeroed (ownChecks x ++ addChecks x c (withItem x c)) (fitting have (render (withItem x c))) (own x c (withItem x c)) k))
     go (refused n q) e k = let i : n ≡ TEXT = cc in let j : q ≡ p = cc in inl (e ∙ ap (λ (m : ℕ). refused m q) i ∙ ap (refused TEXT) j)
 
 values-zeroed : (ok : ℕ) (cs : List Cell) → Zeroed TEXT (valueChecks ok cs)

@@ -1,5 +1,7 @@
--- Demands: the three demands. Examples: P1 to P13. RuledOut: wrong answers that no call can give. Rings: request 1. Text: requests 2 and 7. Card: request 5.
-pub mod Demands
+-- Demand1 to Demand3: the demands. Examples: P1 to P13. RuledOut: wrong answers that no call can give. Rings: request 1. Text: requests 2 and 7. Card: request 5.
+pub mod Demand1
+pub mod Demand2
+pub mod Demand3
 pub mod Examples
 pub mod RuledOut
 pub mod Rings

@@ -26,7 +26,7 @@ use Rattle.kinds.specs.declared.Message.{Message}
 use Rattle.kinds.specs.Kinds.{paper, cells}
 use Rattle.messages.specs.Reading as messages
 use Rattle.messages.specs.Writing.{writeMessage}
-use Rattle.demands.specs.Demands.{Within, dataOf}
+use Rattle.demands.specs.Demand2.{Within, dataOf}
 
 -- ---- demand 1: a call takes every region, and answers or refuses with one of its own numbers; a refusal leaves every byte of the region
 

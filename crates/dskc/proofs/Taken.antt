@@ -24,7 +24,7 @@ use Rattle.entries.proofs.Lawful.{Lawful, lawful}
 use Rattle.lists.specs.Lists.{keyAt, listAt, listBytes}
 use Rattle.lists.proofs.Taken.{list-sound}
 use Rattle.lists.proofs.Written.{Good, good-sort, good-entries, length-list, list-taken, entries-list, list-bytes}
-use Rattle.dskc.specs.Wrapper.{wrapperMost, aero, dskc, header, headerChecks, wrapperOf, wrapperBytes, Valid, controllersOf}
+use Rattle.dskc.specs.Wrapper.{wrapperMost, aero, dskc, header, headerChecks, wrapperOf, wrapperBytes, IsWrapper, controllersOf}
 use Rattle.dskc.proofs.Reading.{whole}
 
 abbrev K : Lawful controllers
@@ -53,7 +53,7 @@ header-complete t h = (le-leb _ _ h, (le-leb 16 (length (header ++ t)) (omega ar
 
 -- ---- taken exactly
 
-pub wrapper-sound : (s : List ℕ) {r : List ℕ} → Bytes s → wrapperOf s ≡ taken r → (s ≡ wrapperBytes (controllersOf s)) × Valid (controllersOf s)
+pub wrapper-sound : (s : List ℕ) {r : List ℕ} → Bytes s → wrapperOf s ≡ taken r → (s ≡ wrapperBytes (controllersOf s)) × IsWrapper (controllersOf s)
 wrapper-sound s b h =
     let w = whole s h in
     let g = good-entries controllers (drop 16 s) (list-sound K (drop 16 s) (w .1)) in
@@ -61,20 +61,20 @@ wrapper-sound s b h =
     let e : s ≡ wrapperBytes (controllersOf s) = header-sound s b (w .0) ∙ ap (λ (t : List ℕ). header ++ t) (list-bytes K (drop 16 s) (w .1) part) in
     (e, record { few = g .few; short = omega (arith, leb-true (length s) wrapperMost (w .0 .0), ap length e); are = g .are; apart = g .apart })
 
-good : (l : List (List ℕ)) → Valid l → Good controllers l
+good : (l : List (List ℕ)) → IsWrapper l → Good controllers l
 good l v = record { are = v .are; apart = v .apart; few = v .few }
 
-pub wrapper-complete : (l : List (List ℕ)) → Valid l → wrapperOf (wrapperBytes l) ≡ taken (sort (keyAt controllers (listBytes l)) (startsFrom 4 l))
+pub wrapper-complete : (l : List (List ℕ)) → IsWrapper l → wrapperOf (wrapperBytes l) ≡ taken (sort (keyAt controllers (listBytes l)) (startsFrom 4 l))
 unfolding wrapperOf
 wrapper-complete l v =
     pass-checked (headerChecks (wrapperBytes l)) (moved 16 (listAt controllers (listBytes l))) (header-complete (listBytes l) (v .short))
     ∙ ap (moved 16) (list-taken K l (good l v))
 
 -- the controllers of a rendering are those that were rendered, so two renderings are equal only of the same
-pub controllers-back : (l : List (List ℕ)) → Valid l → controllersOf (wrapperBytes l) ≡ l
+pub controllers-back : (l : List (List ℕ)) → IsWrapper l → controllersOf (wrapperBytes l) ≡ l
 controllers-back l v = entries-list K l (good l v)
 
-pub wrapper-one : (l m : List (List ℕ)) → Valid l → Valid m → wrapperBytes l ≡ wrapperBytes m → l ≡ m
+pub wrapper-one : (l m : List (List ℕ)) → IsWrapper l → IsWrapper m → wrapperBytes l ≡ wrapperBytes m → l ≡ m
 wrapper-one l m v w e = sym (controllers-back l v) ∙ ap controllersOf e ∙ controllers-back m w
 
 -- ---- the canonical form
@@ -87,7 +87,7 @@ pub ordered-length : (l : List (List ℕ)) → length (wrapperBytes (ordered l))
 ordered-length l = omega (arith, length-list (ordered l), length-list l, perm-weigh length (sort-perm (controllers .key) l))
 
 -- is valid too, so that it is taken
-pub ordered-valid : (l : List (List ℕ)) → Valid l → Valid (ordered l)
+pub ordered-valid : (l : List (List ℕ)) → IsWrapper l → IsWrapper (ordered l)
 ordered-valid l v =
     let g = good-sort controllers l (good l v) in
     record { few = g .few; short = rw (ordered-length l) (v .short); are = g .are; apart = g .apart }

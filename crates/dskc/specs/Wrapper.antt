@@ -55,7 +55,7 @@ abbrev pub wrapperBytes : List (List ℕ) → List ℕ
 wrapperBytes l = header ++ listBytes l
 
 -- what the controllers of a wrapper are, with no word of how they are read
-pub record Valid (l : List (List ℕ)) : Type 0 where
+pub record IsWrapper (l : List (List ℕ)) : Type 0 where
   pub few : length l ≤ controllers .most
   pub short : length (wrapperBytes l) ≤ wrapperMost
   pub are : Every (Is (controllers .form)) l

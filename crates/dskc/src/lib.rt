@@ -24,6 +24,9 @@ ghost use Rattle.wire.specs.Parts.{Wrote};
 ghost use Rattle.dskc.specs.Wrapper.{headerChecks, wrapperOf, controllersCall, canonicalCall};
 ghost use Rattle.dskc.specs.Wrapper as wrapper;
 
+// The bound of a wrapper.
+const WRAPPER_MOST: usize = 67108864;
+
 // The letters, as the number that they are in the file.
 const AERO: u32 = 0x4F524541;
 
@@ -43,7 +46,7 @@ fn pair_at(s: &[u8], at: usize) -> bool
 fn header(s: &[u8]) -> Test
     ensures { λ r. ⌜ testOf r ≡ asked (headerChecks (now (s .entry))) ⌝ }
 {
-    if 67108864 < s.len() {
+    if WRAPPER_MOST < s.len() {
         return Test::Fault(SIZE, 0);
     }
     if s.len() < 16 {

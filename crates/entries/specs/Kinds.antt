@@ -34,16 +34,26 @@ nothing e = []
 abbrev pub idKey : List ℕ → ℕ
 idKey e = leAt 4 e 0
 
+-- a device's payload and a CPU's blob have at most 64 MiB each, an image text 65,536 bytes
+abbrev pub payloadMost : ℕ
+payloadMost = 67108864
+
+abbrev pub blobMost : ℕ
+blobMost = 67108864
+
+abbrev pub imageMost : ℕ
+imageMost = 65536
+
 -- DEVICES: u32 id, u16 version, u16 flags, u64 length, payload
 abbrev pub deviceKey : List ℕ → ℕ
 deviceKey e = (leAt 4 e 0 * 65536 + leAt 2 e 4) * 65536 + leAt 2 e 6
 
 abbrev pub devices : Description
-devices = record { fixed = 16; most = 4096; early = nothing; key = deviceKey; form = pair (bytes 8) (blob 8 67108864) }
+devices = record { fixed = 16; most = 4096; early = nothing; key = deviceKey; form = pair (bytes 8) (blob 8 payloadMost) }
 
 -- DISKS: u32 disk id, base image, overlay image
 abbrev pub disks : Description
-disks = record { fixed = 4; most = 256; early = nothing; key = idKey; form = pair (bytes 4) (pair (text 65536) (text 65536)) }
+disks = record { fixed = 4; most = 256; early = nothing; key = idKey; form = pair (bytes 4) (pair (text imageMost) (text imageMost)) }
 
 -- CPUS: u32 APIC id, u32 state length, state, u64 length, internal blob
 abbrev pub cpus : ℕ → Description
@@ -52,7 +62,7 @@ cpus v = record {
   most = 256;
   early = nothing;
   key = idKey;
-  form = pair (bytes 4) (pair (sized 4 (cpuLengthChecks v) (cpuState v)) (blob 8 67108864));
+  form = pair (bytes 4) (pair (sized 4 (cpuLengthChecks v) (cpuState v)) (blob 8 blobMost));
 }
 
 -- MMUS: u32 APIC id, state; all of it is one field

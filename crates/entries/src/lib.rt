@@ -23,8 +23,19 @@ ghost use Rattle.answer.specs.Calls.{pieceOf, testOf, asked};
 ghost use Rattle.format.specs.Format.{any, sized, pair, blob, text, values, span};
 ghost use Rattle.format.specs.Places.{readAt};
 ghost use Rattle.entries.specs.States.{cpuLength, cpuLengthChecks, cpuState, cpuWhole, registers, extension, mmuLength};
-ghost use Rattle.entries.specs.Kinds.{leadChecks, controllerChecks, controllerHead, devices, disks, cpus, controllers};
+ghost use Rattle.entries.specs.Kinds.{blobMost, imageMost, leadChecks, controllerChecks, controllerHead, devices, disks, cpus, controllers};
 ghost use Rattle.entries.specs.Code.{describe};
+
+// The bound of a device's payload, of a CPU's blob and of an image text.
+pub const PAYLOAD_MOST: usize = 67108864;
+
+const PAYLOAD: u64 = PAYLOAD_MOST as u64;
+
+const BLOB_MOST: u64 = 67108864;
+
+pub const IMAGE_MOST: usize = 65536;
+
+const IMAGE: u32 = IMAGE_MOST as u32;
 
 // The kinds of entry; CPUs and MMUs by the version of their section.
 pub enum Kind {
@@ -230,16 +241,16 @@ fn device_at(s: &[u8], at: usize) -> Piece
 {
     match block_at(s, at, 8) {
         Piece::Stop(number, place) => Piece::Stop(number, place),
-        Piece::Ends(e) => blob_at(s, e, 67108864),
+        Piece::Ends(e) => blob_at(s, e, PAYLOAD),
     }
 }
 
 fn texts_at(s: &[u8], at: usize) -> Piece
-    ensures { λ r. ⌜ pieceOf r ≡ readAt (pair (text 65536) (text 65536)) (now (s .entry)) at ⌝ }
+    ensures { λ r. ⌜ pieceOf r ≡ readAt (pair (text imageMost) (text imageMost)) (now (s .entry)) at ⌝ }
 {
-    match text_at(s, at, 65536) {
+    match text_at(s, at, IMAGE) {
         Piece::Stop(number, place) => Piece::Stop(number, place),
-        Piece::Ends(e) => text_at(s, e, 65536),
+        Piece::Ends(e) => text_at(s, e, IMAGE),
     }
 }
 
@@ -286,11 +297,11 @@ fn state_at(version: u16, s: &[u8], at: usize) -> Piece
 }
 
 fn cpu_rest_at(version: u16, s: &[u8], at: usize) -> Piece
-    ensures { λ r. ⌜ pieceOf r ≡ readAt (pair (sized 4 (cpuLengthChecks version) (cpuState version)) (blob 8 67108864)) (now (s .entry)) at ⌝ }
+    ensures { λ r. ⌜ pieceOf r ≡ readAt (pair (sized 4 (cpuLengthChecks version) (cpuState version)) (blob 8 blobMost)) (now (s .entry)) at ⌝ }
 {
     match state_at(version, s, at) {
         Piece::Stop(number, place) => Piece::Stop(number, place),
-        Piece::Ends(e) => blob_at(s, e, 67108864),
+        Piece::Ends(e) => blob_at(s, e, BLOB_MOST),
     }
 }
 

@@ -12,21 +12,21 @@ use Rattle.format.specs.Format.{Format, option, text, values, read}
 abbrev label : Format
 label = option (text 3)
 
-abbrev Reads : List ℕ → Outcome ℕ → Type 0
-Reads b o = read label b ≡ o
+abbrev ReadsAs : List ℕ → Outcome ℕ → Type 0
+ReadsAs b o = read label b ≡ o
 
-pub labels : Reads (0 ∷ 7 ∷ []) (taken 1)
+pub labels : ReadsAs (0 ∷ 7 ∷ []) (taken 1)
     -- a label of length 0 is a label
-    × Reads (1 ∷ 0 ∷ 0 ∷ 0 ∷ 0 ∷ []) (taken 5)
-    × Reads (1 ∷ 2 ∷ 0 ∷ 0 ∷ 0 ∷ 195 ∷ 169 ∷ 9 ∷ []) (taken 7)
-    × Reads [] (refused SHAPE 0)
-    × Reads (2 ∷ []) (refused VALUE 0)
-    × Reads (1 ∷ 1 ∷ 0 ∷ 0 ∷ []) (refused SHAPE 1)
+    × ReadsAs (1 ∷ 0 ∷ 0 ∷ 0 ∷ 0 ∷ []) (taken 5)
+    × ReadsAs (1 ∷ 2 ∷ 0 ∷ 0 ∷ 0 ∷ 195 ∷ 169 ∷ 9 ∷ []) (taken 7)
+    × ReadsAs [] (refused SHAPE 0)
+    × ReadsAs (2 ∷ []) (refused VALUE 0)
+    × ReadsAs (1 ∷ 1 ∷ 0 ∷ 0 ∷ []) (refused SHAPE 1)
     -- the bound is asked before the bytes are looked for
-    × Reads (1 ∷ 4 ∷ 0 ∷ 0 ∷ 0 ∷ []) (refused LIMIT 1)
-    × Reads (1 ∷ 3 ∷ 0 ∷ 0 ∷ 0 ∷ 65 ∷ 66 ∷ []) (refused SHAPE 5)
+    × ReadsAs (1 ∷ 4 ∷ 0 ∷ 0 ∷ 0 ∷ []) (refused LIMIT 1)
+    × ReadsAs (1 ∷ 3 ∷ 0 ∷ 0 ∷ 0 ∷ 65 ∷ 66 ∷ []) (refused SHAPE 5)
     -- the text is asked once its bytes are there
-    × Reads (1 ∷ 2 ∷ 0 ∷ 0 ∷ 0 ∷ 65 ∷ 195 ∷ []) (refused TEXT 7)
+    × ReadsAs (1 ∷ 2 ∷ 0 ∷ 0 ∷ 0 ∷ 65 ∷ 195 ∷ []) (refused TEXT 7)
 unfolding read leAt le isText breakAt scan scanFrom afterOf leadOf
 labels = (refl, refl, refl, refl, refl, refl, refl, refl, refl)
 

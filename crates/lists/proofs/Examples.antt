@@ -16,8 +16,8 @@ use Rattle.lists.specs.declared.Found.the-variants.{There, Free}
 use Rattle.lists.specs.Lists.{keyAt, entryAt, walk, listAt, entries, listBytes, indexOf}
 use Rattle.lists.specs.Promises.{findIn}
 
-abbrev Reads : Description → List ℕ → Outcome (List ℕ) → Type 0
-Reads d s o = listAt d s ≡ o
+abbrev ReadsAs : Description → List ℕ → Outcome (List ℕ) → Type 0
+ReadsAs d s o = listAt d s ≡ o
 
 -- entry (14, 1, 0) with `11`
 abbrev fourteen : List ℕ
@@ -40,31 +40,31 @@ payload = two ++ fourteen ++ three
 
 -- P4: taken, the starts in the order of the keys. P6: with both keys (3, 1, 0), KEY at the second entry (at 53 of the file, whose payload starts at 32)
 pub device-lists : (length payload ≡ 39)
-    × Reads devices payload (taken (21 ∷ 4 ∷ []))
-    × Reads devices (two ++ again ++ three) (refused KEY 21)
+    × ReadsAs devices payload (taken (21 ∷ 4 ∷ []))
+    × ReadsAs devices (two ++ again ++ three) (refused KEY 21)
     -- a byte left over
-    × Reads devices (payload ++ (0 ∷ [])) (refused SHAPE 39)
+    × ReadsAs devices (payload ++ (0 ∷ [])) (refused SHAPE 39)
     -- no count; a count over its bound, with nothing behind it
-    × Reads devices (2 ∷ 0 ∷ 0 ∷ []) (refused SHAPE 0)
-    × Reads devices (1 ∷ 16 ∷ 0 ∷ 0 ∷ []) (refused LIMIT 0)
+    × ReadsAs devices (2 ∷ 0 ∷ 0 ∷ []) (refused SHAPE 0)
+    × ReadsAs devices (1 ∷ 16 ∷ 0 ∷ 0 ∷ []) (refused LIMIT 0)
     -- a fixed part that does not fit comes before KEY, though the key is there
-    × Reads devices (two ++ again ++ take 15 three) (refused SHAPE 21)
+    × ReadsAs devices (two ++ again ++ take 15 three) (refused SHAPE 21)
     -- a payload that does not fit
-    × Reads devices (two ++ fourteen ++ take 17 three) (refused SHAPE 37)
-    × Reads devices (0 ∷ 0 ∷ 0 ∷ 0 ∷ []) (taken [])
+    × ReadsAs devices (two ++ fourteen ++ take 17 three) (refused SHAPE 37)
+    × ReadsAs devices (0 ∷ 0 ∷ 0 ∷ 0 ∷ []) (taken [])
 unfolding listAt walk entryAt read leAt le insert has
 device-lists = (refl, refl, refl, refl, refl, refl, refl, refl, refl)
 
 -- P5: in the order of the keys (3, 1, 0) is first, and so it stays
 pub sorted-devices : (entries devices payload ≡ fourteen ∷ three ∷ [])
     × (listBytes (sort (devices .key) (entries devices payload)) ≡ two ++ three ++ fourteen)
-    × Reads devices (two ++ three ++ fourteen) (taken (4 ∷ 22 ∷ []))
+    × ReadsAs devices (two ++ three ++ fourteen) (taken (4 ∷ 22 ∷ []))
 unfolding listAt walk entryAt read leAt le bytesOf insert has split
 sorted-devices = (refl, refl, refl)
 
 -- keys are compared as numbers: 1 before 256, though the stored bytes of 256 begin with the lower one
-pub as-numbers : Reads disks (two ++ (0 ∷ 1 ∷ 0 ∷ 0 ∷ 0 ∷ 0 ∷ 0 ∷ 0 ∷ 0 ∷ 0 ∷ 0 ∷ 0 ∷ []) ++ (1 ∷ 0 ∷ 0 ∷ 0 ∷ 0 ∷ 0 ∷ 0 ∷ 0 ∷ 0 ∷ 0 ∷ 0 ∷ 0 ∷ [])) (taken (16 ∷ 4 ∷ []))
-    × Reads controllers (two ++ (0 ∷ 1 ∷ 0 ∷ 0 ∷ 9 ∷ 9 ∷ 9 ∷ 9 ∷ 0 ∷ 0 ∷ 0 ∷ 0 ∷ []) ++ (1 ∷ 0 ∷ 0 ∷ 0 ∷ 9 ∷ 9 ∷ 9 ∷ 9 ∷ 0 ∷ 0 ∷ 0 ∷ 0 ∷ [])) (taken (16 ∷ 4 ∷ []))
+pub as-numbers : ReadsAs disks (two ++ (0 ∷ 1 ∷ 0 ∷ 0 ∷ 0 ∷ 0 ∷ 0 ∷ 0 ∷ 0 ∷ 0 ∷ 0 ∷ 0 ∷ []) ++ (1 ∷ 0 ∷ 0 ∷ 0 ∷ 0 ∷ 0 ∷ 0 ∷ 0 ∷ 0 ∷ 0 ∷ 0 ∷ 0 ∷ [])) (taken (16 ∷ 4 ∷ []))
+    × ReadsAs controllers (two ++ (0 ∷ 1 ∷ 0 ∷ 0 ∷ 9 ∷ 9 ∷ 9 ∷ 9 ∷ 0 ∷ 0 ∷ 0 ∷ 0 ∷ []) ++ (1 ∷ 0 ∷ 0 ∷ 0 ∷ 9 ∷ 9 ∷ 9 ∷ 9 ∷ 0 ∷ 0 ∷ 0 ∷ 0 ∷ [])) (taken (16 ∷ 4 ∷ []))
 unfolding listAt walk entryAt read leAt le insert has isText scan scanFrom afterOf leadOf
 as-numbers = (refl, refl)
 

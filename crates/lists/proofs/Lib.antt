@@ -1,6 +1,7 @@
 pub mod Walks
 pub mod Taken
 pub mod Ordered
+pub mod Faults
 pub mod Finds
 pub mod Written
 pub mod Within

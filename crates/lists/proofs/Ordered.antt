@@ -28,13 +28,13 @@ abbrev pub pieceAt : Description → List ℕ → ℕ → List ℕ
 pieceAt d s y = first (widthOf d) (drop y s)
 
 -- keys that are the same are there alike
-same-test : (a b : Bool) → (a ≡ false → b ≡ false) → (b ≡ false → a ≡ false) → a ≡ b
+pub same-test : (a b : Bool) → (a ≡ false → b ≡ false) → (b ≡ false → a ≡ false) → a ≡ b
 same-test true true f g = refl
 same-test true false f g = g refl
 same-test false true f g = sym (f refl)
 same-test false false f g = refl
 
-fresh-same : {A B : Type 0} (f : A → ℕ) (g : B → ℕ) (k : ℕ) (l : List A) (m : List B) → map f l ≡ map g m → Fresh f k l → Fresh g k m
+pub fresh-same : {A B : Type 0} (f : A → ℕ) (g : B → ℕ) (k : ℕ) (l : List A) (m : List B) → map f l ≡ map g m → Fresh f k l → Fresh g k m
 fresh-same f g k l m e h = map-every (λ n. k ≢ n) g m (rw e at (every-map (λ n. k ≢ n) f l h))
 
 module _ {d : Description} (K : Lawful d) (s : List ℕ) {r : List ℕ} (h : listAt d s ≡ taken r) where

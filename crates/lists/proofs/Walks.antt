@@ -68,7 +68,7 @@ module _ {d : Description} (K : Lawful d) (s : List ℕ) where
   keys at l h a = map-starts s (d .key) (d .key) (key-local K) at l [] (h ∙ sym (append-nil (join l))) a
 
   -- one more start is seen
-  turn : (at : ℕ) (l seen : List ℕ) → List·Permᴰ (at ∷ (l ++ seen)) (l ++ insert (keyAt d s) at seen)
+  pub turn : (at : ℕ) (l seen : List ℕ) → List·Permᴰ (at ∷ (l ++ seen)) (l ++ insert (keyAt d s) at seen)
   turn at l seen = List·Permᴰ·trans (Permᴰ·symm (Permᴰ·middle at l seen)) (Permᴰ·append-left l (Permᴰ·symm (insert-perm (keyAt d s) at seen)))
 
   -- an entry with a new key is taken

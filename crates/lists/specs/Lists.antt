@@ -67,9 +67,13 @@ pub record IsList (d : Description) (s : List ℕ) : Type 0 where
   pub are : Every (Is (d .form)) items
   pub apart : Apart (d .key) items
 
+-- a file has at most 1024 MiB
+abbrev pub fileMost : ℕ
+fileMost = 1073741824
+
 -- a list's slice is at most as long as a file may be
 abbrev pub partChecks : List ℕ → Checks
-partChecks s = (leb (length s) 1073741824, SIZE, 0) ∷ []
+partChecks s = (leb (length s) fileMost, SIZE, 0) ∷ []
 
 -- the list that a slice is, if it is no longer than a file may be
 abbrev pub listOf : Description → List ℕ → Outcome (List ℕ)

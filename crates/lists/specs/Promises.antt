@@ -18,14 +18,14 @@ abbrev pub zeros : ℕ → List ℕ
 zeros n = replicate n 0
 
 -- the lent places after it: the starts, and behind them what was there; zeros after a refusal
-abbrev pub placed : Outcome (List ℕ) → List ℕ → List ℕ
-placed (taken l) old = l ++ drop (length l) old
-placed (refused n p) old = zeros (length old)
+abbrev pub lentAfter : Outcome (List ℕ) → List ℕ → List ℕ
+lentAfter (taken l) old = l ++ drop (length l) old
+lentAfter (refused n p) old = zeros (length old)
 
 -- the promise of the call that indexes a list: how many starts, and the starts in the lent places that held `old`
 pub record Indexed (o : Outcome (List ℕ)) (old : List ℕ) (r : Piece) (new : List ℕ) : Type 0 where
   pub answers : pieceOf r ≡ after o (λ l. taken (length l))
-  pub leaves : new ≡ placed o old
+  pub leaves : new ≡ lentAfter o old
 
 -- the same place, counted from i elements earlier
 abbrev pub later : ℕ → Found → Found

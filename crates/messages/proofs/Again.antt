@@ -21,8 +21,8 @@ use Rattle.kinds.specs.declared.Body.{Body}
 use Rattle.kinds.specs.declared.Body.the-variants.{Empty, Bytes, Text}
 use Rattle.kinds.specs.declared.Cell.{Cell}
 use Rattle.kinds.specs.Kinds.{paper, cells, okOf}
-use Rattle.messages.specs.Fields.{widthOf, sizeOf, numbersAt, messageAt}
-use Rattle.messages.specs.Reading.{most, fieldChecks, dataLength, dataFits, dataIn, leftOver, bodyChecks, numbersEnd, readChecks, Content, contentOf, readMessage}
+use Rattle.messages.specs.Fields.{fieldWidth, sizeOf, numbersAt, messageAt}
+use Rattle.messages.specs.Reading.{most, fieldChecks, dataLength, dataFits, dataIn, leftOver, bodyChecks, numbersEnd, readChecks, Content, messageContent, readMessage}
 use Rattle.messages.specs.Writing.{fieldBytes, withLength, bodyBytes, formBytes, valueChecks, dataChecks, writeChecks, written}
 use Rattle.messages.proofs.Cells.{fieldsIn, numbersIn, Fit, Typed, widths}
 use Rattle.messages.proofs.Table.{row}
@@ -34,7 +34,7 @@ pub stand-typed : (ok : ℕ) (cs : List Cell) (at : ℕ) (m : List ℕ) → AreB
 unfolding numbersAt
 stand-typed ok [] at m y e = tt
 stand-typed ok (c ∷ cs) at m y e =
-    let n = widthOf ok (c .0) in
+    let n = fieldWidth ok (c .0) in
     let v : c .1 ≡ leAt n m at = cc in
     (widths ok (c .0) (c .1) .typed (rw v (leAt-bound n m at y)), stand-typed ok cs (at + n) m y (cc))
 
@@ -47,7 +47,7 @@ pub stood : (ok : ℕ) (cs : List Cell) (at : ℕ) (m : List ℕ) → AreBytes m
 unfolding numbersAt fieldChecks fieldBytes sizeOf valueChecks
 stood ok [] at m y h e p = record { within = omega arith; bytes = refl; values = tt }
 stood ok (c ∷ cs) at m y h e p =
-    let n = widthOf ok (c .0) in
+    let n = fieldWidth ok (c .0) in
     let v : c .1 ≡ leAt n m at = cc in
     let l : at + n ≤ length m = leb-true (at + n) (length m) (p .0) in
     let k = stood ok cs (at + n) m y l (cc) (p .1 .1) in
@@ -60,8 +60,8 @@ stood ok (c ∷ cs) at m y h e p =
 -- ---- the data
 
 pub record Kept (b : Body) (k : Message) (at : ℕ) (m : List ℕ) : Type 0 where
-  pub bytes : bodyBytes b (take (contentOf k b at m .len) (drop (contentOf k b at m .start) m)) ≡ drop at m
-  pub contents : Pass (dataChecks b (take (contentOf k b at m .len) (drop (contentOf k b at m .start) m)))
+  pub bytes : bodyBytes b (take (messageContent k b at m .len) (drop (messageContent k b at m .start) m)) ≡ drop at m
+  pub contents : Pass (dataChecks b (take (messageContent k b at m .len) (drop (messageContent k b at m .start) m)))
 
 kept-sized : (at : ℕ) (m : List ℕ) → AreBytes m → Pass (dataFits at m) → Pass (leftOver m (at + 4 + dataLength at m)) → withLength (dataIn at m) ≡ drop at m
 kept-sized at m y p q =
@@ -85,7 +85,7 @@ kept Text k at m y p =
 
 -- ---- the whole
 
-content-message : (k : Message) (b : Body) (at : ℕ) (m : List ℕ) → contentOf k b at m .message ≡ k
+content-message : (k : Message) (b : Body) (at : ℕ) (m : List ℕ) → messageContent k b at m .message ≡ k
 content-message k Empty at m = refl
 content-message k Bytes at m = refl
 content-message k Text at m = refl
@@ -106,7 +106,7 @@ written-read m c y e =
     let f = paper k in
     let ok = okOf f in
     let at = numbersEnd f in
-    let C = contentOf k (f .body) at m in
+    let C = messageContent k (f .body) at m in
     let d = dataOf C m in
     let h = checked-pass (readChecks f m) (taken C) c e in
     let p = h .0 in

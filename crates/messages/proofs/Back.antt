@@ -21,8 +21,8 @@ use Rattle.kinds.specs.declared.Body.the-variants.{Empty, Bytes, Text}
 use Rattle.kinds.specs.declared.Cell.{Cell}
 use Rattle.kinds.specs.declared.Form.{Form}
 use Rattle.kinds.specs.Kinds.{paper, cells, okOf}
-use Rattle.messages.specs.Fields.{widthOf, numbersAt, messageAt}
-use Rattle.messages.specs.Reading.{most, fieldChecks, dataLength, dataFits, dataIn, leftOver, bodyChecks, numbersEnd, readChecks, Content, contentOf, readMessage}
+use Rattle.messages.specs.Fields.{fieldWidth, numbersAt, messageAt}
+use Rattle.messages.specs.Reading.{most, fieldChecks, dataLength, dataFits, dataIn, leftOver, bodyChecks, numbersEnd, readChecks, Content, messageContent, readMessage}
 use Rattle.messages.specs.Writing.{fieldBytes, withLength, bodyBytes, formBytes, valueChecks, dataChecks, writeChecks, written}
 use Rattle.messages.proofs.Cells.{fieldsIn, numbersIn, Fit, Allowed, Typed, widths}
 use Rattle.messages.proofs.Table.{found}
@@ -43,7 +43,7 @@ pub back : (ok : ℕ) (cs : List Cell) (p q m : List ℕ) (at : ℕ) → Fit ok 
 unfolding fieldChecks numbersAt fieldBytes
 back ok [] p q m at f h e a = record { passes = tt; numbers = refl }
 back ok (c ∷ cs) p q m at f h e a =
-    let n = widthOf ok (c .0) in
+    let n = fieldWidth ok (c .0) in
     let b = bytesOf n (c .1) in
     let r = fieldBytes ok cs ++ q in
     let e₁ : m ≡ p ++ (b ++ r) = e ∙ rw append-assoc in
@@ -94,7 +94,7 @@ sized-back d p m at e a h =
 
 pub record Behind (b : Body) (k : Message) (d : List ℕ) (at : ℕ) (m : List ℕ) : Type 0 where
   pub passes : Pass (bodyChecks b at m)
-  pub content : contentOf k b at m ≡ record { message = k; start = startOf b at; len = length d }
+  pub content : messageContent k b at m ≡ record { message = k; start = startOf b at; len = length d }
   pub bytes : take (length d) (drop (startOf b at) m) ≡ d
 
 pub body-back : (b : Body) (k : Message) (d p m : List ℕ) (at : ℕ) → Pass (dataChecks b d) → m ≡ p ++ bodyBytes b d → at ≡ length p → length d < 256 ^ 4 → Behind b k d at m

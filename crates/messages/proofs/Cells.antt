@@ -12,7 +12,7 @@ use Rattle.kinds.specs.declared.Field.{Field}
 use Rattle.kinds.specs.declared.Field.the-variants.{Absent, U8, U16, U32, U64, Flag, Level, Error}
 use Rattle.kinds.specs.declared.Cell.{Cell}
 use Rattle.kinds.specs.Kinds.{paper, cells}
-use Rattle.messages.specs.Fields.{widthOf, allowed}
+use Rattle.messages.specs.Fields.{fieldWidth, allowed}
 
 abbrev pub fieldsIn : List Cell → List Field
 fieldsIn [] = []
@@ -25,7 +25,7 @@ numbersIn (c ∷ cs) = c .1 ∷ numbersIn cs
 -- each number fits the bytes of its field
 abbrev pub Fit : ℕ → List Cell → Type 0
 Fit ok [] = Unit {0}
-Fit ok (c ∷ cs) = (c .1 < 256 ^ widthOf ok (c .0)) × Fit ok cs
+Fit ok (c ∷ cs) = (c .1 < 256 ^ fieldWidth ok (c .0)) × Fit ok cs
 
 -- each number is among the values of its field
 abbrev pub Allowed : ℕ → List Cell → Type 0
@@ -41,8 +41,8 @@ Typed k = Fit 0 (cells (paper k))
 -- the bytes of a field are those of its type, but for an error code beside an `ok` other than 0: what fits them is within the type, and what is
 -- within the type and among the values fits them
 pub record Widths (ok : ℕ) (f : Field) (v : ℕ) : Type 0 where
-  pub typed : v < 256 ^ widthOf ok f → v < 256 ^ widthOf 0 f
-  pub fits : allowed ok f v ≡ true → v < 256 ^ widthOf 0 f → v < 256 ^ widthOf ok f
+  pub typed : v < 256 ^ fieldWidth ok f → v < 256 ^ fieldWidth 0 f
+  pub fits : allowed ok f v ≡ true → v < 256 ^ fieldWidth 0 f → v < 256 ^ fieldWidth ok f
 
 pub widths : (ok : ℕ) (f : Field) (v : ℕ) → Widths ok f v
 widths ok Absent v = record { typed = λ h. h; fits = λ a h. h }

@@ -13,15 +13,15 @@ use Rattle.kinds.specs.declared.Cell.{Cell}
 use Rattle.kinds.specs.Kinds.{Kind, kinds, blank, fields, make}
 
 -- how many bytes a field has; the error code is there exactly if `ok` is 0
-abbrev pub widthOf : ℕ → Field → ℕ
-widthOf ok Absent = 0
-widthOf ok U8 = 1
-widthOf ok U16 = 2
-widthOf ok U32 = 4
-widthOf ok U64 = 8
-widthOf ok Flag = 1
-widthOf ok Level = 1
-widthOf ok Error = cond (eqb ok 0) 4 0
+abbrev pub fieldWidth : ℕ → Field → ℕ
+fieldWidth ok Absent = 0
+fieldWidth ok U8 = 1
+fieldWidth ok U16 = 2
+fieldWidth ok U32 = 4
+fieldWidth ok U64 = 8
+fieldWidth ok Flag = 1
+fieldWidth ok Level = 1
+fieldWidth ok Error = cond (eqb ok 0) 4 0
 
 -- `ok` and the A20 byte are 0 or 1, a log level is 0 to 4, an error code beside an `ok` other than 0 is 0; other numbers are free
 abbrev pub allowed : ℕ → Field → ℕ → Bool
@@ -37,12 +37,12 @@ allowed ok Error v = cond (eqb ok 0) true (leb v 0)
 -- how many bytes the fields have together
 unfoldable pub sizeOf : ℕ → List Cell → ℕ
 sizeOf ok [] = 0
-sizeOf ok (c ∷ cs) = widthOf ok (c .0) + sizeOf ok cs
+sizeOf ok (c ∷ cs) = fieldWidth ok (c .0) + sizeOf ok cs
 
 -- the numbers that stand in the fields from a place on, one field behind the other
 unfoldable pub numbersAt : ℕ → List Field → ℕ → List ℕ → List ℕ
 numbersAt ok [] at m = []
-numbersAt ok (f ∷ fs) at m = leAt (widthOf ok f) m at ∷ numbersAt ok fs (at + widthOf ok f) m
+numbersAt ok (f ∷ fs) at m = leAt (fieldWidth ok f) m at ∷ numbersAt ok fs (at + fieldWidth ok f) m
 
 -- the kind that has the tag, with the numbers that stand behind it (`ok` at 6); nothing if none has it
 abbrev pub messageIn : List Kind → ℕ → List ℕ → Message

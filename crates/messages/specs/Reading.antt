@@ -17,7 +17,7 @@ use Rattle.kinds.specs.declared.Cell.{Cell}
 use Rattle.kinds.specs.declared.Form.{Form}
 use Rattle.messages.specs.declared.Reading.{Reading}
 use Rattle.kinds.specs.Kinds.{paper, cells, okOf}
-use Rattle.messages.specs.Fields.{widthOf, allowed, sizeOf, messageAt}
+use Rattle.messages.specs.Fields.{fieldWidth, allowed, sizeOf, messageAt}
 
 -- the longest message
 abbrev pub most : ℕ
@@ -27,9 +27,9 @@ most = 65536
 unfoldable pub fieldChecks : ℕ → List Cell → ℕ → List ℕ → Checks
 fieldChecks ok [] at m = []
 fieldChecks ok (c ∷ cs) at m =
-    (leb (at + widthOf ok (c .0)) (length m), SHAPE, at)
+    (leb (at + fieldWidth ok (c .0)) (length m), SHAPE, at)
     ∷ (allowed ok (c .0) (c .1), VALUE, at)
-    ∷ fieldChecks ok cs (at + widthOf ok (c .0)) m
+    ∷ fieldChecks ok cs (at + fieldWidth ok (c .0)) m
 
 -- data at a place is a u32 length and as many bytes; this is the length
 abbrev pub dataLength : ℕ → List ℕ → ℕ
@@ -68,17 +68,17 @@ pub record Content : Type 0 where
   pub len : ℕ
 
 -- 0 and 0 for a kind that has no data; the real place for empty data
-abbrev pub contentOf : Message → Body → ℕ → List ℕ → Content
-contentOf k Empty at m = record { message = k; start = 0; len = 0 }
-contentOf k Bytes at m = record { message = k; start = at + 4; len = dataLength at m }
-contentOf k Text at m = record { message = k; start = at + 4; len = dataLength at m }
+abbrev pub messageContent : Message → Body → ℕ → List ℕ → Content
+messageContent k Empty at m = record { message = k; start = 0; len = 0 }
+messageContent k Bytes at m = record { message = k; start = at + 4; len = dataLength at m }
+messageContent k Text at m = record { message = k; start = at + 4; len = dataLength at m }
 
 -- a message as its kind with its numbers, or the first check that fails
 unfoldable pub readMessage : List ℕ → Outcome Content
 readMessage m =
     let k = messageAt m in
     let f = paper k in
-    checked (readChecks f m) (taken (contentOf k (f .body) (numbersEnd f) m))
+    checked (readChecks f m) (taken (messageContent k (f .body) (numbersEnd f) m))
 
 -- the answer: a refusal reads as the case for nothing
 abbrev pub reading : Outcome Content → Reading

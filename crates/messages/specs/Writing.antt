@@ -15,7 +15,7 @@ use Rattle.kinds.specs.declared.Body.the-variants.{Empty, Bytes, Text}
 use Rattle.kinds.specs.declared.Cell.{Cell}
 use Rattle.kinds.specs.declared.Form.{Form}
 use Rattle.kinds.specs.Kinds.{paper, cells, okOf}
-use Rattle.messages.specs.Fields.{widthOf, allowed}
+use Rattle.messages.specs.Fields.{fieldWidth, allowed}
 use Rattle.messages.specs.Reading.{most}
 
 -- ---- the bytes: tag, fields in order, and for data its length and itself
@@ -23,7 +23,7 @@ use Rattle.messages.specs.Reading.{most}
 -- each number in the bytes of its field
 unfoldable pub fieldBytes : ℕ → List Cell → List ℕ
 fieldBytes ok [] = []
-fieldBytes ok (c ∷ cs) = bytesOf (widthOf ok (c .0)) (c .1) ++ fieldBytes ok cs
+fieldBytes ok (c ∷ cs) = bytesOf (fieldWidth ok (c .0)) (c .1) ++ fieldBytes ok cs
 
 -- what stands behind the numbers
 abbrev pub bodyBytes : Body → List ℕ → List ℕ

@@ -2,7 +2,7 @@
 // here is what they share, a reading and what the bytes of a message say.
 ghost use mathlib.Core.Path.{_≡_};
 ghost use Rattle.wire.specs.Numbers.{leAt};
-ghost use Rattle.messages.specs.Fields.{widthOf, messageAt};
+ghost use Rattle.messages.specs.Fields.{fieldWidth, messageAt};
 ghost use Rattle.kinds.specs.declared.Field.the-variants.{Error};
 use kinds::Message;
 use wire::u8_at;
@@ -21,7 +21,7 @@ pub struct Reading {
 
 // The error code, which is there exactly if `ok`, at 6, is 0.
 fn error_at(m: &[u8]) -> u32
-    ensures { λ r. ⌜ r ≡ leAt (widthOf (leAt 1 (now (m .entry)) 6) Error) (now (m .entry)) 11 ⌝ }
+    ensures { λ r. ⌜ r ≡ leAt (fieldWidth (leAt 1 (now (m .entry)) 6) Error) (now (m .entry)) 11 ⌝ }
 {
     if u8_at(m, 6) == 0 {
         return u32_at(m, 11);

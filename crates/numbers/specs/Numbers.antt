@@ -11,7 +11,7 @@ use Rattle.kinds.specs.declared.Field.{Field}
 use Rattle.kinds.specs.declared.Form.{Form}
 use Rattle.kinds.specs.Kinds.{Kind, kinds, blank, paper}
 use Rattle.messages.specs.declared.Reading.{Reading}
-use Rattle.messages.specs.Fields.{widthOf}
+use Rattle.messages.specs.Fields.{fieldWidth}
 use Rattle.messages.specs.Writing.{writeMessage}
 use Rattle.numbers.specs.declared.Numbers.{Numbers}
 use Rattle.numbers.specs.declared.Told.{Told}
@@ -36,7 +36,7 @@ kindIn (k ∷ ks) t = cond (eqb t (blank k .tag)) (taken k) (kindIn ks t)
 
 -- a number fits the bytes that its field has where it is there; beside no field it is 0
 abbrev pub within : Field → ℕ → Bool
-within f v = ltb v (256 ^ widthOf 0 f)
+within f v = ltb v (256 ^ fieldWidth 0 f)
 
 -- each number is within its field
 abbrev pub allWithin : Form → Numbers → Bool

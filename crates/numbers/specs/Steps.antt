@@ -9,12 +9,12 @@ use Rattle.kinds.specs.declared.Message.the-variants.{Nothing}
 use Rattle.kinds.specs.declared.Field.{Field}
 use Rattle.kinds.specs.declared.Form.{Form}
 use Rattle.kinds.specs.Kinds.{Kind, blank}
-use Rattle.messages.specs.Fields.{widthOf}
+use Rattle.messages.specs.Fields.{fieldWidth}
 use Rattle.numbers.specs.declared.Numbers.{Numbers}
 
 -- the low bytes of a number, as many as its field has
 abbrev pub low : Field → ℕ → ℕ
-low f v = v % 256 ^ widthOf 0 f
+low f v = v % 256 ^ fieldWidth 0 f
 
 -- a kind with the low bytes of its numbers
 abbrev pub narrow : Kind → ℕ → ℕ → ℕ → ℕ → Message

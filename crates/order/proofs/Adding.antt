@@ -5,7 +5,7 @@ use mathlib.Core.List.{List, [], _∷_, _++_, List·Permᴰ, List·Permᴰ·nil,
 use Prim.Native.Nat.{ℕ, _≤_}
 use native.Mathlib.Omega.{arith}
 use Rattle.order.specs.Keyed.{puts}
-use Rattle.order.specs.Adding.{Chain, items, Roomy, Adds}
+use Rattle.order.specs.Adding.{Chain, items, Roomy, AddLaws}
 use Rattle.order.proofs.Perms.{perm-cancel}
 
 module _ {S X : Type 0} (put : X → S → S) (May : X → S → Type 0) (Fits : S → Type 0) where
@@ -21,7 +21,7 @@ module _ {S X : Type 0} (put : X → S → S) (May : X → S → Type 0) (Fits :
   puts-perm held p s (x ∷ l) h = List·Permᴰ·trans (puts-perm held p (put x s) l (h .1)) (List·Permᴰ·trans (Permᴰ·append-left l (p x s (h .0))) (Permᴰ·middle x l (held s)))
 
 module _ {S X : Type 0} {Step : ℕ → S → X → S → Type 0} {put : X → S → S} {May : X → S → Type 0} {Apart : X → X → Type 0}
-    {Fits : S → Type 0} {size : S → ℕ} {held : S → List X} (A : Adds Step put May Apart Fits size held) where
+    {Fits : S → Type 0} {size : S → ℕ} {held : S → List X} (A : AddLaws Step put May Apart Fits size held) where
   ready-fits : (s : S) (l : List X) → Ready put May Fits s l → Fits s
   ready-fits s [] h = h
   ready-fits s (x ∷ l) h = A .fits-down x s (ready-fits (put x s) l (h .1))

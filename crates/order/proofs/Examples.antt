@@ -9,7 +9,7 @@ use native.Mathlib.Omega.{arith}
 use lib.ListN.{length, getD}
 use Rattle.order.specs.Keyed.{insert, inserts, sort, has, Fresh}
 use Rattle.order.specs.Entries.{join, startsFrom, split, parts}
-use Rattle.order.specs.Adding.{Chain, Adds}
+use Rattle.order.specs.Adding.{Chain, AddLaws}
 use Rattle.order.proofs.Inserts.{insert-perm, insert-comm, length-insert, every-insert, insert-every}
 use Rattle.order.proofs.Adding.{any-order}
 
@@ -98,7 +98,7 @@ module _ (most : ℕ) where
   abbrev Step : ℕ → List Entry → Entry → List Entry → Type 0
   Step r s x u = (u ≡ insert key x s) × Fresh key (key x) s × (length u ≤ most) × (length u ≤ r)
 
-  adds : Adds Step (insert key) (λ x s. Fresh key (key x) s) (λ x y. key y ≢ key x) (λ s. length s ≤ most) length (λ s. s)
+  adds : AddLaws Step (insert key) (λ x s. Fresh key (key x) s) (λ x y. key y ≢ key x) (λ s. length s ≤ most) length (λ s. s)
   adds = record {
     checks = λ r s x u h. (h .0, h .1, rw (h .0) at (h .2));
     accepts = λ r s x m f q. (refl, m, f, q);

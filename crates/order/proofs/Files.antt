@@ -5,7 +5,7 @@ use mathlib.Core.List.{List, [], _∷_, _++_, List·Permᴰ, Perm}
 use Prim.Native.Nat.{ℕ}
 use lib.ListN.{length}
 use Rattle.order.specs.Keyed.{puts}
-use Rattle.order.specs.Adding.{Chain, items, Roomy, Adds}
+use Rattle.order.specs.Adding.{Chain, items, Roomy, AddLaws}
 use Rattle.order.proofs.Adding.{any-order, no-two-sets, holds}
 
 -- What writing is: `Canon s` says that `render s` is a file that is taken and in order; `FileStep r b x d`, that with room `r`
@@ -23,7 +23,7 @@ pub record Files {S X : Type 0} (Step : ℕ → S → X → S → Type 0) (put :
   pub step-up : (r : ℕ) (s : S) (x : X) (u : S) → Canon s → Step r s x u → FileStep r (render s) x (render u)
 
 module _ {S X : Type 0} {Step : ℕ → S → X → S → Type 0} {put : X → S → S} {May : X → S → Type 0} {Apart : X → X → Type 0}
-    {Fits : S → Type 0} {size : S → ℕ} {held : S → List X} (A : Adds Step put May Apart Fits size held)
+    {Fits : S → Type 0} {size : S → ℕ} {held : S → List X} (A : AddLaws Step put May Apart Fits size held)
     {Canon : S → Type 0} {render : S → List ℕ} {FileStep : ℕ → List ℕ → X → List ℕ → Type 0} (F : Files Step put May Fits size Canon render FileStep) where
   -- a chain on files that leads to `b` is one on states, and `b` is the file of its end
   pub record Below (s : S) (l : List (ℕ × X)) (b : List ℕ) : Type 0 where

@@ -24,7 +24,7 @@ Roomy n = Every (λ p. n ≤ p .0)
 -- What an add is: `put` puts the item in, `May x s` says that nothing but a bound or the room can refuse `x` at `s`,
 -- `Apart x y` that neither stands in the other's way, `Fits s` that `s` is within its bounds; `size s` is the room that
 -- `s` takes and `held s` the items in it.
-pub record Adds {S X : Type 0} (Step : ℕ → S → X → S → Type 0) (put : X → S → S) (May : X → S → Type 0) (Apart : X → X → Type 0)
+pub record AddLaws {S X : Type 0} (Step : ℕ → S → X → S → Type 0) (put : X → S → S) (May : X → S → Type 0) (Apart : X → X → Type 0)
     (Fits : S → Type 0) (size : S → ℕ) (held : S → List X) : Type 0 where
   -- when an add is accepted, and what it gives
   pub checks : (r : ℕ) (s : S) (x : X) (u : S) → Step r s x u → (u ≡ put x s) × May x s × Fits (put x s)

@@ -8,6 +8,7 @@ use format::Flag;
 use format::block_at;
 use format::flag_at;
 use format::text_at;
+use lists::FILE_MOST;
 ghost use mathlib.Core.Path.{_≡_};
 ghost use mathlib.Core.List.{[]};
 ghost use Prim.Native.Nat.{_≤_};
@@ -18,6 +19,7 @@ ghost use Rattle.format.specs.Format.{option, pair, bytes, text};
 ghost use Rattle.format.specs.Places.{readAt};
 ghost use Rattle.lists.specs.Promises.{Indexed};
 ghost use Rattle.aerosnap.specs.Payloads.{metaForm, meta, mmu, payload};
+ghost use Rattle.aerosnap.specs.File.{fileMost};
 ghost use Rattle.payloads.specs.Starts.{keptOf};
 
 // ---- META
@@ -113,7 +115,7 @@ fn plain(t: Test, starts: &mut [u32]) -> Piece
 
 // Each payload by its own reader.
 fn body(id: u32, version: u16, p: &[u8], starts: &mut [u32]) -> Piece
-    requires { ⌜ length (now p) ≤ 1073741824 ⌝ }
+    requires { ⌜ length (now p) ≤ fileMost ⌝ }
     ensures { λ r. ⌜ Indexed (keptOf (length (now (starts .entry))) id version (now (p .entry))) (now (starts .entry)) r (now (starts .exit)) ⌝ }
 {
     match id {
@@ -133,7 +135,7 @@ fn body(id: u32, version: u16, p: &[u8], starts: &mut [u32]) -> Piece
 pub fn index(id: u32, version: u16, p: &[u8], starts: &mut [u32]) -> Piece
     ensures { λ r. ⌜ Indexed (keptOf (length (now (starts .entry))) id version (now (p .entry))) (now (starts .entry)) r (now (starts .exit)) ⌝ }
 {
-    if 1073741824 < p.len() {
+    if FILE_MOST < p.len() {
         return plain(Test::Fault(SIZE, 0), starts);
     }
     body(id, version, p, starts)

@@ -35,7 +35,7 @@ use Rattle.aerosnap.proofs.Standing.{Stand, stand-start, stand-next, ends-at, e
 use Rattle.sections.specs.declared.Spot.{Spot}
 use Rattle.sections.specs.declared.Spot.the-variants.{Fault}
 use Rattle.sections.specs.Walks.{sectionsIn, Read, placeOf}
-use Rattle.sections.specs.Index.{startsOf, firstOf, entriesIn, spotIn, Scanned, spotOf, Spotted}
+use Rattle.sections.specs.Index.{startsOf, firstOf, countIn, spotIn, Scanned, spotOf, Spotted}
 use Rattle.sections.proofs.Kept.{starts-count, entries-front, starts-bound, first-most}
 
 -- the sections of a file that is taken
@@ -95,10 +95,10 @@ module _ {i : ℕ} {s : List ℕ} {l : List (List ℕ)} {at n : ℕ} (v : Seekin
         cc (p, q)
 
     -- how many entries the section there has
-    seeking-many : {k : ℕ} → k ≡ entriesIn (drop at s) → k ≡ length (startsOf (seeking-turn .e))
-    seeking-many z = let x = seeking-turn in z ∙ ap entriesIn (v .stand .cut ∙ ap join (x .split)) ∙ entries-front (x .e) (x .is) (join (x .more)) ∙ sym (starts-count (x .e) (x .is))
+    seeking-many : {k : ℕ} → k ≡ countIn (drop at s) → k ≡ length (startsOf (seeking-turn .e))
+    seeking-many z = let x = seeking-turn in z ∙ ap countIn (v .stand .cut ∙ ap join (x .split)) ∙ entries-front (x .e) (x .is) (join (x .more)) ∙ sym (starts-count (x .e) (x .is))
 
-    module _ (e : id ≢ i) {k : ℕ} (z : k ≡ entriesIn (drop at s)) where
+    module _ (e : id ≢ i) {k : ℕ} (z : k ≡ countIn (drop at s)) where
       seeking-first : firstOf i l ≡ n + k + firstOf i (seeking-turn .more)
       seeking-first = omega (arith, first-turn (ne-eqb id i e), seeking-many z)
 

@@ -34,7 +34,7 @@ use Rattle.aerosnap.proofs.Slots.{Once, first-once, rest-once}
 use Rattle.aerosnap.proofs.Standing.{stand-start}
 use Rattle.aerosnap.proofs.Taken.{file-sound}
 use Rattle.payloads.specs.Starts.{starts}
-use Rattle.sections.specs.Index.{startsOf, kept, firstOf, isListId, entriesIn, counts}
+use Rattle.sections.specs.Index.{startsOf, kept, firstOf, isListId, countIn, counts}
 
 -- ---- those that are kept
 
@@ -129,14 +129,14 @@ module _ (e : List ℕ) (h : IsSection e) where
   pub its-payload : payloadOf e ≡ drop 16 e
   its-payload = take-all (lengthOf e) (drop 16 e) (omega (arith, length-drop 16 e, h .whole))
 
-  pub starts-count : length (startsOf e) ≡ entriesIn e
+  pub starts-count : length (startsOf e) ≡ countIn e
   starts-count =
       ap (λ (p : List ℕ). length (starts (bodyOf (idOf e) (versionOf e)) p)) its-payload
       ∙ body-count (bodyOf (idOf e) (versionOf e)) (lawful-body (idOf e) (versionOf e)) (drop 16 e) (its-body (known (idOf e)) refl)
       ∙ cc (listed-id (idOf e) (versionOf e), leAt-here 4 e 16)
 
   -- what is asked of the section that begins some bytes, is asked of the section
-  pub entries-front : (more : List ℕ) → entriesIn (e ++ more) ≡ entriesIn e
+  pub entries-front : (more : List ℕ) → countIn (e ++ more) ≡ countIn e
   entries-front more = ap (λ (i : ℕ). cond (isListId i) (leAt 4 (e ++ more) 16) 0) (id-front e more (h .whole)) ∙ go (isListId (idOf e)) refl
     where
       go : (b : Bool) → isListId (idOf e) ≡ b → cond b (leAt 4 (e ++ more) 16) 0 ≡ cond b (leAt 4 e 16) 0

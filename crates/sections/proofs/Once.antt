@@ -10,12 +10,13 @@ use lib.ListN.{drop}
 use Rattle.answer.specs.declared.Piece.{Piece}
 use Rattle.answer.specs.Outcome.{Outcome}
 use Rattle.answer.proofs.Outcomes.{taken-is}
+use Rattle.aerosnap.specs.File.{devicesMost}
 use Rattle.answer.proofs.Once.{equal-once, piece-once}
 use Rattle.sections.specs.declared.Spot.{Spot}
 use Rattle.sections.specs.declared.Spot.the-variants.{Fault, At}
 use Rattle.sections.specs.Index.{isListId, counts, Scanned, spotOf, Spotted}
 
-pub small-once : (id n : ℕ) {r p : Bool} → r ≡ (not (eqb id 4) || leb n 268435456) → p ≡ (not (eqb id 4) || leb n 268435456) → r ≡ p
+pub small-once : (id n : ℕ) {r p : Bool} → r ≡ (not (eqb id 4) || leb n devicesMost) → p ≡ (not (eqb id 4) || leb n devicesMost) → r ≡ p
 small-once id n e f = equal-once e f
 
 pub scan-once : {o : Outcome (List (List ℕ))} {old : List ℕ} (r p : Piece) {new now : List ℕ} → Scanned o old r new → Scanned o old p now → (r ≡ p) × (new ≡ now)
@@ -34,8 +35,8 @@ spot-once (At p n) (At q m) e =
     let j : n ≡ m = ap (λ (x : ℕ × ℕ). x .1) t in
     cc
 
-pub find-once : (i : ℕ) {o : Outcome (List (List ℕ))} {old : List ℕ} (r p : Spot) {new now : List ℕ} → Spotted i o old r new → Spotted i o old p now → (r ≡ p) × (new ≡ now)
-find-once i r p a b = (spot-once r p (equal-once (a .answers) (b .answers)), equal-once (a .leaves) (b .leaves))
+pub check-and-find-once : (i : ℕ) {o : Outcome (List (List ℕ))} {old : List ℕ} (r p : Spot) {new now : List ℕ} → Spotted i o old r new → Spotted i o old p now → (r ≡ p) × (new ≡ now)
+check-and-find-once i r p a b = (spot-once r p (equal-once (a .answers) (b .answers)), equal-once (a .leaves) (b .leaves))
 
-pub count-once : (s : List ℕ) {r p : ℕ} → r ≡ counts 64 (drop 16 s) → p ≡ counts 64 (drop 16 s) → r ≡ p
-count-once s e f = equal-once e f
+pub count-entries-once : (s : List ℕ) {r p : ℕ} → r ≡ counts 64 (drop 16 s) → p ≡ counts 64 (drop 16 s) → r ≡ p
+count-entries-once s e f = equal-once e f

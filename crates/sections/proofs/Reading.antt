@@ -22,12 +22,12 @@ use Rattle.aerosnap.proofs.Bodies.{Lawfully, lawful-body}
 use Rattle.payloads.specs.Starts.{starts}
 use Rattle.aerosnap.specs.Known.{known}
 use Rattle.aerosnap.proofs.Copies.{isList}
-use Rattle.lists.specs.Promises.{placed}
+use Rattle.lists.specs.Promises.{lentAfter}
 use Rattle.aerosnap.specs.File.{fileOf}
 use Rattle.sections.specs.declared.Spot.{Spot}
 use Rattle.sections.specs.declared.Spot.the-variants.{At}
 use Rattle.sections.specs.Walks.{sectionsIn, Read}
-use Rattle.sections.specs.Index.{kept, keptIn, counts, Roomy, startsOf, Reading, firstOf, spotOf, Spotted}
+use Rattle.sections.specs.Index.{kept, keptIn, counts, HoldsStarts, startsOf, Reading, firstOf, spotOf, Spotted}
 use Rattle.sections.proofs.Found.{Sited, spot-taken, Here}
 use Rattle.sections.proofs.Kept.{kept-all, counts-all, starts-bound, its-payload, its-body, listed-id, starts-count}
 
@@ -48,19 +48,19 @@ module _ (e : List ℕ) (w : IsSection e) {d : Description} (q : bodyOf (idOf e)
 
 -- ---- an index that holds all starts of a file
 
-pub roomy-few : (s : List ℕ) (m : ℕ) → counts 64 (drop 16 s) ≤ m → Roomy s m
+pub roomy-few : (s : List ℕ) (m : ℕ) → counts 64 (drop 16 s) ≤ m → HoldsStarts s m
 roomy-few s m h l c = omega (arith, counts-all s c)
 
-pub roomy-all : (s : List ℕ) → Roomy s 4864
+pub roomy-all : (s : List ℕ) → HoldsStarts s 4864
 roomy-all s l c = starts-bound s c
 
 -- as the calls leave it that read a file
-pub index-reading : (s old : List ℕ) {new : List ℕ} → Read s → Roomy s (length old) → new ≡ placed (keptIn (length old) (fileOf s)) old → Reading (sectionsIn s) new 0
+pub index-reading : (s old : List ℕ) {new : List ℕ} → Read s → HoldsStarts s (length old) → new ≡ lentAfter (keptIn (length old) (fileOf s)) old → Reading (sectionsIn s) new 0
 index-reading s old {new} h r e =
     let l : List (List ℕ) = sectionsIn s in
     let k : kept (length old) l ≡ flat startsOf l = kept-all (length old) l (r l h) in
     let n : new ≡ flat startsOf l ++ drop (length (flat startsOf l)) old =
-    e ∙ ap (λ (o : Outcome (List (List ℕ))). placed (keptIn (length old) o) old) h ∙ ap (λ (m : List ℕ). m ++ drop (length m) old) k in
+    e ∙ ap (λ (o : Outcome (List (List ℕ))). lentAfter (keptIn (length old) o) old) h ∙ ap (λ (m : List ℕ). m ++ drop (length m) old) k in
     record { rest = drop (length (flat startsOf l)) old; inside = omega arith; same = n }
 
 -- the section with an id was looked for: the file is taken, where the section stands, and the starts of all lists in the index
@@ -68,7 +68,7 @@ pub record Opened (i : ℕ) (s index : List ℕ) (p n : ℕ) : Type 0 where
   pub site : Sited i s p n
   pub starts : Reading (sectionsIn s) index 0
 
-pub spot-opened : (i : ℕ) (s old : List ℕ) → Roomy s (length old) → {r : Spot} {new : List ℕ} → Spotted i (fileOf s) old r new → {p n : ℕ} → r ≡ At p n → Opened i s new p n
+pub spot-opened : (i : ℕ) (s old : List ℕ) → HoldsStarts s (length old) → {r : Spot} {new : List ℕ} → Spotted i (fileOf s) old r new → {p n : ℕ} → r ≡ At p n → Opened i s new p n
 spot-opened i s old room w q =
     let y = spot-taken i s (sym (ap spotOf q) ∙ w .answers) in
     record { site = y; starts = index-reading s old (y .read) room (w .leaves) }

@@ -16,7 +16,7 @@ use Rattle.aerosnap.specs.Payloads.{bodyOf}
 use Rattle.aerosnap.specs.File.{idOf, versionOf, lengthOf, payloadOf, fileOf}
 use Rattle.aerosnap.specs.Content.{isId}
 use Rattle.lists.specs.Lists.{whole}
-use Rattle.lists.specs.Promises.{placed}
+use Rattle.lists.specs.Promises.{lentAfter}
 use Rattle.payloads.specs.Starts.{starts}
 use Rattle.sections.specs.declared.Spot.{Spot}
 use Rattle.sections.specs.declared.Spot.the-variants.{Fault, At}
@@ -49,8 +49,8 @@ abbrev pub isListId : ℕ → Bool
 isListId id = eqb id DEVICES || eqb id DISKS || eqb id CPUS || eqb id MMUS
 
 -- how many entries the section that begins b says that it has: none where it is no list
-abbrev pub entriesIn : List ℕ → ℕ
-entriesIn b = cond (isListId (idOf b)) (leAt 4 b 16) 0
+abbrev pub countIn : List ℕ → ℕ
+countIn b = cond (isListId (idOf b)) (leAt 4 b 16) 0
 
 -- from a place on the index holds the starts of the sections l
 pub record Reading (l : List (List ℕ)) (index : List ℕ) (used : ℕ) : Type 0 where
@@ -59,8 +59,8 @@ pub record Reading (l : List (List ℕ)) (index : List ℕ) (used : ℕ) : Type 
   pub same : drop used index ≡ flat startsOf l ++ rest
 
 -- so many places hold all starts of s, where it is a file that is taken
-abbrev pub Roomy : List ℕ → ℕ → Type 0
-Roomy s n = (l : List (List ℕ)) → fileOf s ≡ taken l → length (flat startsOf l) ≤ n
+abbrev pub HoldsStarts : List ℕ → ℕ → Type 0
+HoldsStarts s n = (l : List (List ℕ)) → fileOf s ≡ taken l → length (flat startsOf l) ≤ n
 
 -- the section that begins b is there whole
 abbrev pub fitsIn : List ℕ → Bool
@@ -69,7 +69,7 @@ fitsIn b = leb 16 (length b) && leb (lengthOf b) (length b - 16)
 -- how many entries the at most n sections of b say that they have, up to one that does not fit
 unfoldable pub counts : ℕ → List ℕ → ℕ
 counts zero b = 0
-counts (suc n) b = cond (fitsIn b) (entriesIn b + counts n (drop (16 + lengthOf b) b)) 0
+counts (suc n) b = cond (fitsIn b) (countIn b + counts n (drop (16 + lengthOf b) b)) 0
 
 -- a section read, of which the outcome is o, and its starts k kept: how many, or the fault; and unless there is one, they stand first in the lent places that held `old`
 pub record Keeps {A : Type 0} (o : Outcome A) (k old : List ℕ) (r : Piece) (new : List ℕ) : Type 0 where
@@ -79,7 +79,7 @@ pub record Keeps {A : Type 0} (o : Outcome A) (k old : List ℕ) (r : Piece) (ne
 -- the promise of the call that reads sections: how many there are, and their starts in the lent places that held `old`
 pub record Scanned (o : Outcome (List (List ℕ))) (old : List ℕ) (r : Piece) (new : List ℕ) : Type 0 where
   pub answers : pieceOf r ≡ counted o
-  pub leaves : new ≡ placed (keptIn (length old) o) old
+  pub leaves : new ≡ lentAfter (keptIn (length old) o) old
 
 -- the outcome that an answer with a place and a number stands for
 abbrev pub spotOf : Spot → Outcome (ℕ × ℕ)
@@ -89,4 +89,4 @@ spotOf (At p n) = taken (p, n)
 -- the promise of the call that looks for the section with an id: where it starts and how many starts stand before its own, and all starts in the lent places that held `old`
 pub record Spotted (i : ℕ) (o : Outcome (List (List ℕ))) (old : List ℕ) (r : Spot) (new : List ℕ) : Type 0 where
   pub answers : spotOf r ≡ spotIn i o
-  pub leaves : new ≡ placed (keptIn (length old) o) old
+  pub leaves : new ≡ lentAfter (keptIn (length old) o) old

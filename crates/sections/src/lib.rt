@@ -13,6 +13,7 @@ use answer::SIZE;
 use answer::TWICE;
 use answer::Test;
 use answer::VERSION;
+use lists::FILE_MOST;
 use wire::u8_at;
 use wire::u16_at;
 use wire::u32_at;
@@ -29,17 +30,20 @@ ghost use Rattle.wire.specs.Numbers.{leAt};
 ghost use Rattle.lists.specs.Lists.{whole};
 ghost use Rattle.aerosnap.specs.Known as known;
 ghost use Rattle.aerosnap.specs.Payloads.{bodyOf};
-ghost use Rattle.aerosnap.specs.File.{headerChecks, idOf, fileOf};
+ghost use Rattle.aerosnap.specs.File.{fileMost, devicesMost, headerChecks, idOf, fileOf};
 ghost use Rattle.aerosnap.specs.File as file;
 ghost use Rattle.payloads.specs.Starts.{starts};
 ghost use Rattle.sections.specs.Walks.{Marks, walkedFrom, sectionsIn, Read, placeOf};
-ghost use Rattle.sections.specs.Index.{startsOf, firstOf, isListId, entriesIn, fitsIn, counts, Keeps, Scanned, spotOf, Spotted};
+ghost use Rattle.sections.specs.Index.{startsOf, firstOf, isListId, countIn, fitsIn, counts, Keeps, Scanned, spotOf, Spotted};
 
 // A place and a number of starts, or a fault.
 pub enum Spot {
     Fault(u32, usize),
     At(usize, usize),
 }
+
+// The bound of the payload of DEVICES.
+const DEVICES_MOST: usize = 268435456;
 
 // `AEROSNAP`, as the number that the letters are in the file.
 const LETTERS: u64 = 0x50414E534F524541;
@@ -97,10 +101,10 @@ fn slot(id: u32) -> usize
 
 // The bound of a section's payload: only DEVICES has one.
 pub fn small(id: u32, n: usize) -> bool
-    ensures { λ r. ⌜ r ≡ (not (eqb id 4) || leb n 268435456) ⌝ }
+    ensures { λ r. ⌜ r ≡ (not (eqb id 4) || leb n devicesMost) ⌝ }
 {
     if id == 4 {
-        return n <= 268435456;
+        return n <= DEVICES_MOST;
     }
     true
 }
@@ -115,7 +119,7 @@ fn ruled(
     p: &[u8],
     index: &mut [u32],
 ) -> Piece
-    requires { ⌜ (known.known id ≡ true) × (at + 16 + length (now p) ≤ 1073741824) ⌝ }
+    requires { ⌜ (known.known id ≡ true) × (at + 16 + length (now p) ≤ fileMost) ⌝ }
     ensures { λ r. ⌜ ((l : List (List ℕ)) (n : ℕ) → Marks (now (seen .entry)) l n
         → Keeps (file.ruled l at id version flags (now (p .entry))) (whole (length (now (index .entry))) (starts (bodyOf id version) (now (p .entry)))) (now (index .entry)) r (now (index .exit))) ⌝ }
 {
@@ -140,7 +144,7 @@ fn ruled(
 
 // The section at a place, whose payload has m bytes and is there.
 fn judged(s: &[u8], at: usize, m: usize, seen: &[u8; 9], index: &mut [u32]) -> Piece
-    requires { ⌜ (at + 16 + m ≤ length (now s)) × (length (now s) ≤ 1073741824) ⌝ }
+    requires { ⌜ (at + 16 + m ≤ length (now s)) × (length (now s) ≤ fileMost) ⌝ }
     ensures { λ r. ⌜ ((l : List (List ℕ)) (n : ℕ) → Marks (now (seen .entry)) l n
         → Keeps (file.ruled l at (leAt 4 (now (s .entry)) at) (leAt 2 (now (s .entry)) (at + 4)) (leAt 2 (now (s .entry)) (at + 6)) (take m (drop (at + 16) (now (s .entry)))))
         (whole (length (now (index .entry))) (starts (bodyOf (leAt 4 (now (s .entry)) at) (leAt 2 (now (s .entry)) (at + 4))) (take m (drop (at + 16) (now (s .entry)))))) (now (index .entry)) r (now (index .exit))) ⌝ }
@@ -158,7 +162,7 @@ fn judged(s: &[u8], at: usize, m: usize, seen: &[u8; 9], index: &mut [u32]) -> P
 
 // The section at a place, after n others: how many starts were kept, or its first fault.
 fn section_at(s: &[u8], at: usize, n: usize, seen: &[u8; 9], index: &mut [u32]) -> Piece
-    requires { ⌜ (at ≤ length (now s)) × (length (now s) ≤ 1073741824) ⌝ }
+    requires { ⌜ (at ≤ length (now s)) × (length (now s) ≤ fileMost) ⌝ }
     ensures { λ r. ⌜ ((l : List (List ℕ)) → Marks (now (seen .entry)) l n
         → Keeps (file.sectionOf l at (drop at (now (s .entry)))) (whole (length (now (index .entry))) (startsOf (drop at (now (s .entry))))) (now (index .entry)) r (now (index .exit))) ⌝ }
 {
@@ -188,7 +192,7 @@ fn note(seen: &mut [u8; 9], id: u32)
 
 // How many sections there are behind the header, or the first fault. The starts of each list go into the tail of the index from where the last ended.
 fn walk(s: &[u8], index: &mut [u32]) -> Piece
-    requires { ⌜ (16 ≤ length (now s)) × (length (now s) ≤ 1073741824) ⌝ }
+    requires { ⌜ (16 ≤ length (now s)) × (length (now s) ≤ fileMost) ⌝ }
     ensures { λ r. ⌜ Scanned (walkedFrom (now (s .entry))) (now (index .entry)) r (now (index .exit)) ⌝ }
 {
     let mut seen = [0u8; 9];
@@ -215,7 +219,7 @@ fn walk(s: &[u8], index: &mut [u32]) -> Piece
 fn header(s: &[u8]) -> Test
     ensures { λ r. ⌜ testOf r ≡ asked (headerChecks (now (s .entry))) ⌝ }
 {
-    if 1073741824 < s.len() {
+    if FILE_MOST < s.len() {
         return Test::Fault(SIZE, 0);
     }
     if s.len() < 16 {
@@ -273,7 +277,7 @@ pub fn is_list(id: u32) -> bool
 // How many entries the section at a place says that it has.
 fn entries_at(s: &[u8], at: usize) -> usize
     requires { ⌜ at ≤ length (now s) ⌝ }
-    ensures { λ r. ⌜ (r ≡ entriesIn (drop at (now (s .entry)))) × (r < 4294967296) ⌝ }
+    ensures { λ r. ⌜ (r ≡ countIn (drop at (now (s .entry)))) × (r < 4294967296) ⌝ }
 {
     if is_list(u32_at(s, at)) {
         return u32_at(s, at + 16) as usize;
@@ -299,7 +303,7 @@ fn seek(file: &[u8], id: u32) -> Spot
 }
 
 // The whole file: where the section with an id starts and how many starts stand before its own, or the file's first fault. The index is left as by `scan`.
-pub fn find(file: &[u8], id: u32, index: &mut [u32]) -> Spot
+pub fn check_and_find(file: &[u8], id: u32, index: &mut [u32]) -> Spot
     ensures { λ r. ⌜ Spotted id (fileOf (now (file .entry))) (now (index .entry)) r (now (index .exit)) ⌝ }
 {
     match scan(&file[..], index) {
@@ -321,7 +325,7 @@ fn fits(s: &[u8], at: usize) -> bool
 }
 
 // How many entries the lists of a file have, by its section headers and its counts alone: nothing is checked.
-pub fn count(file: &[u8]) -> usize
+pub fn count_entries(file: &[u8]) -> usize
     ensures { λ r. ⌜ r ≡ counts 64 (drop 16 (now (file .entry))) ⌝ }
 {
     if file.len() < 16 {

@@ -20,10 +20,10 @@ ghost use Rattle.wire.specs.Parts.{Wrote};
 ghost use Rattle.tables.specs.Tables.{ROW, described};
 ghost use Rattle.aerosnap.specs.Known.{known};
 ghost use Rattle.aerosnap.specs.Payloads.{list, bodyOf};
-ghost use Rattle.aerosnap.specs.File.{fileOf};
+ghost use Rattle.aerosnap.specs.File.{fileMost, fileOf};
 ghost use Rattle.aerosnap.specs.Tables as file_tables;
 ghost use Rattle.aerosnap.specs.Calls.{checkCall, sectionsCall, devicesCall, disksCall, canonicalCall, addDeviceCall, addDiskCall};
-ghost use Rattle.sections.specs.Index.{Roomy};
+ghost use Rattle.sections.specs.Index.{HoldsStarts};
 ghost use Rattle.snapshot.specs.Walks.{sectionRows, Lists};
 
 // A file that is no longer than its header has no section, and its tables are empty.
@@ -54,7 +54,7 @@ pub fn check(file: &[u8]) -> Answer
 
 // Where the section at a place ends.
 fn end_at(file: &[u8], at: usize) -> usize
-    requires { ⌜ at + (16 + leAt 8 (now file) (at + 8)) ≤ 1073741824 ⌝ }
+    requires { ⌜ at + (16 + leAt 8 (now file) (at + 8)) ≤ fileMost ⌝ }
     ensures { λ r. ⌜ r ≡ at + (16 + leAt 8 (now (file .entry)) (at + 8)) ⌝ }
 {
     at + (16 + (wire::u64_at(file, at + 8) as usize))
@@ -102,7 +102,7 @@ pub fn sections(file: &[u8], table: &mut [u8]) -> Answer
 }
 
 // The records of the list whose section is at a place, from its starts in the index, where there is room for them.
-fn put_list(
+fn put_table(
     t: Table,
     id: u32,
     file: &[u8],
@@ -134,10 +134,10 @@ fn put_list(
 
 // The table of the list with an id, with room for the file's index.
 fn list_table_in(t: Table, id: u32, file: &[u8], index: &mut [u32], table: &mut [u8]) -> Answer
-    requires { ⌜ (known id ≡ true) × ((v : ℕ) → bodyOf id v ≡ list (described t)) × Roomy (now file) (length (now index)) ⌝ }
+    requires { ⌜ (known id ≡ true) × ((v : ℕ) → bodyOf id v ≡ list (described t)) × HoldsStarts (now file) (length (now index)) ⌝ }
     ensures { λ r. ⌜ Writes (file_tables.table (file_tables.listRows t id) (length (now (table .entry))) (now (file .entry))) (now (table .entry)) r (now (table .exit)) ⌝ }
 {
-    match sections::find(&file[..], id, index) {
+    match sections::check_and_find(&file[..], id, index) {
         Spot::Fault(number, place) => Answer {
             number,
             place: place as u64,
@@ -149,7 +149,7 @@ fn list_table_in(t: Table, id: u32, file: &[u8], index: &mut [u32], table: &mut 
                     place: 0,
                 };
             }
-            put_list(t, id, &file[..], at, index, first, table)
+            put_table(t, id, &file[..], at, index, first, table)
         }
     }
 }
@@ -159,7 +159,7 @@ fn list_table(t: Table, id: u32, file: &[u8], table: &mut [u8]) -> Answer
     requires { ⌜ (known id ≡ true) × ((v : ℕ) → bodyOf id v ≡ list (described t)) ⌝ }
     ensures { λ r. ⌜ Writes (file_tables.table (file_tables.listRows t id) (length (now (table .entry))) (now (file .entry))) (now (table .entry)) r (now (table .exit)) ⌝ }
 {
-    let n = sections::count(&file[..]);
+    let n = sections::count_entries(&file[..]);
     if n <= 32 {
         let mut index = [0u32; 32];
         return list_table_in(t, id, &file[..], &mut index, table);

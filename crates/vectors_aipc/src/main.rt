@@ -89,7 +89,7 @@ fn filled(tag: u16, s: u8) -> Message {
 }
 
 // A message with the first n bytes of a text as its data: written, and what was written read.
-fn written(message: Message, n: usize) {
+fn trial(message: Message, n: usize) {
     let text = [0x7F, 0xC3, 0xA9];
     let mut out = [0u8; 64];
     if n <= 3 {
@@ -104,10 +104,10 @@ fn written(message: Message, n: usize) {
 }
 
 fn kind(tag: u16) {
-    written(filled(tag, 0), 0);
-    written(filled(tag, 1), 0);
-    written(filled(tag, 1), 3);
-    written(filled(tag, 2), 3);
+    trial(filled(tag, 0), 0);
+    trial(filled(tag, 1), 0);
+    trial(filled(tag, 1), 3);
+    trial(filled(tag, 2), 3);
 }
 
 // Whether two bytes that say the tag are refused as an unknown one.

@@ -7,7 +7,7 @@ use lib.ListN.{length, drop}
 use Rattle.answer.specs.Outcome.{taken}
 use Rattle.order.specs.Entries.{join, first}
 use Rattle.entries.specs.Kinds.{Description}
-use Rattle.lists.specs.Lists.{listAt, widthOf}
+use Rattle.lists.specs.Lists.{listAt, widthOf, fileMost}
 
 -- the entry that starts at a place
 abbrev pub entryFrom : Description → List ℕ → ℕ → List ℕ
@@ -19,5 +19,5 @@ run d s l = join (map (entryFrom d s) l)
 
 -- s is a list, and l where its entries start, in the order of their keys
 pub record Listed (d : Description) (s l : List ℕ) : Type 0 where
-  pub short : length s ≤ 1073741824
+  pub short : length s ≤ fileMost
   pub list : listAt d s ≡ taken l

@@ -2,7 +2,7 @@
 use Rattle.aipc.proofs.Going.{test-stops, test-goes}
 use Rattle.aipc.specs.Steps.{behind}
 use Rattle.answer.specs.Outcome.{taken}
-use Rattle.messages.specs.Reading.{bodyChecks, contentOf, reading}
+use Rattle.messages.specs.Reading.{bodyChecks, messageContent, reading}
 use mathlib.Core.Path.{_∙_, ap}
 use borrow.Author.Needs.{needs}
 use Rattle.aipc.proofs.finish.Statement.{statement}
@@ -10,11 +10,11 @@ use Rattle.aipc.proofs.finish.Tie as tie
 
 returns : tie.Need-returns
 unfolding behind
-returns c = let a = c .before .before .before .before .before .before .args in c .refused .ensures ∙ ap reading (test-stops _ (bodyChecks (a .body) (a .at) (a .m .now)) (c .before .before .before .before .body-test .ensures) (taken (contentOf (a .message) (a .body) (a .at) (a .m .now))) (c .before .before .number .given .1))
+returns c = let a = c .before .before .before .before .before .before .args in c .refused .ensures ∙ ap reading (test-stops _ (bodyChecks (a .body) (a .at) (a .m .now)) (c .before .before .before .before .body-test .ensures) (taken (messageContent (a .message) (a .body) (a .at) (a .m .now))) (c .before .before .number .given .1))
 
 returns-2 : tie.Need-returns-2
 unfolding behind
-returns-2 c = let a = c .before .before .before .before .before .args in c .content .ensures ∙ ap reading (test-goes _ (bodyChecks (a .body) (a .at) (a .m .now)) (c .before .before .before .body-test .ensures) (taken (contentOf (a .message) (a .body) (a .at) (a .m .now))) (c .before .enum-told .given .1))
+returns-2 c = let a = c .before .before .before .before .before .args in c .content .ensures ∙ ap reading (test-goes _ (bodyChecks (a .body) (a .at) (a .m .now)) (c .before .before .before .body-test .ensures) (taken (messageContent (a .message) (a .body) (a .at) (a .m .now))) (c .before .enum-told .given .1))
 
 pub finish-spec : {M : Type 1} → statement M
 finish-spec =

@@ -16,13 +16,13 @@ abbrev μ-loop : tie.MeasureT-loop
 μ-loop s index₀ seen₀ at₀ i₀ used₀ index seen at i used = length s - at
 
 -- a turn of the loop, and what the call said that read its section
-abbrev Turn : Type 0
-Turn = tie.In-loop Inv-loop μ-loop
+abbrev InTurn : Type 0
+InTurn = tie.In-loop Inv-loop μ-loop
 
-abbrev start : Turn → tie.Start Inv-loop μ-loop
+abbrev start : InTurn → tie.Start Inv-loop μ-loop
 start c = c .before .before .before .before
 
-abbrev turn : tie.After-section-at Inv-loop μ-loop → Turn
+abbrev turn : tie.After-section-at Inv-loop μ-loop → InTurn
 turn c = c .before .before .before
 
 told : (c : tie.After-section-at Inv-loop μ-loop) {r : Piece} → c .section-at .result ≡ r → Told (turn c .before .loop .inv) r (c .section-at .last .1 .1 .1 .1 .0)

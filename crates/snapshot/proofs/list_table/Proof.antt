@@ -5,10 +5,10 @@ use Rattle.snapshot.proofs.list_table.Statement.{statement}
 use Rattle.snapshot.proofs.list_table.Tie as tie
 
 list-table-in-requires : tie.Need-list-table-in-requires
-list-table-in-requires c κs = let t = c .before .before .before .before .before .before in (t .pre .0, t .pre .1, roomy-few (t .args .file .now) 32 (omega (arith, c .before .before .before .count .ensures, c .before .before .if1 .taken)))
+list-table-in-requires c κs = let t = c .before .before .before .before .before .before in (t .pre .0, t .pre .1, roomy-few (t .args .file .now) 32 (omega (arith, c .before .before .before .count-entries .ensures, c .before .before .if1 .taken)))
 
 list-table-in-requires-2 : tie.Need-list-table-in-requires-2
-list-table-in-requires-2 c κs = let t = c .before .before .before .before .before .before .before in (t .pre .0, t .pre .1, roomy-few (t .args .file .now) 256 (omega (arith, c .before .before .before .before .count .ensures, c .before .before .if2 .taken)))
+list-table-in-requires-2 c κs = let t = c .before .before .before .before .before .before .before in (t .pre .0, t .pre .1, roomy-few (t .args .file .now) 256 (omega (arith, c .before .before .before .before .count-entries .ensures, c .before .before .if2 .taken)))
 
 list-table-in-requires-3 : tie.Need-list-table-in-requires-3
 list-table-in-requires-3 c κs = let t = c .before .before .before .before .before .before .before in (t .pre .0, t .pre .1, roomy-all (t .args .file .now))

@@ -20,19 +20,19 @@ abbrev μ-loop : tie.MeasureT-loop
 μ-loop file out₀ at₀ t₀ out at t = length file - at
 
 -- a turn of the loop: what it keeps, room for one record, and a place before the end
-abbrev Turn : Type 0
-Turn = tie.In-loop Inv-loop μ-loop
+abbrev InTurn : Type 0
+InTurn = tie.In-loop Inv-loop μ-loop
 
-abbrev start : Turn → tie.Start Inv-loop μ-loop
+abbrev start : InTurn → tie.Start Inv-loop μ-loop
 start c = c .before .before .before .before
 
-rows : (c : Turn) → let t = start c in let l = c .before .loop in Rowing (t .args .file .now) (t .pre .0) (l .at) (l .t) (t .args .out .now) (l .out)
+rows : (c : InTurn) → let t = start c in let l = c .before .loop in Rowing (t .args .file .now) (t .pre .0) (l .at) (l .t) (t .args .out .now) (l .out)
 rows c = c .before .loop .inv (start c .pre .0) (start c .pre .1)
 
-room : (c : Turn) → let l = c .before .loop in l .t + ROW ≤ length (l .out)
+room : (c : InTurn) → let l = c .before .loop in l .t + ROW ≤ length (l .out)
 room c = rowing-room (rows c) (c .loop-test .taken)
 
-on : (c : Turn) → let s = start c .args .file .now in let at = c .before .loop .at in (at < endAt s at) × (endAt s at ≤ length s) × (length s ≤ 1073741824)
+on : (c : InTurn) → let s = start c .args .file .now in let at = c .before .loop .at in (at < endAt s at) × (endAt s at ≤ length s) × (length s ≤ 1073741824)
 on c = goes (rows c .left) (rows c .stand) (c .loop-test .taken)
 
 loop-holds : tie.Need-loop-holds Inv-loop μ-loop

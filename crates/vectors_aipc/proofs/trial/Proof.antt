@@ -1,15 +1,15 @@
--- `vectors_aipc::written` meets its contract. Assumes nothing.
+-- `vectors_aipc::trial` meets its contract. Assumes nothing.
 use lib.ListN.{length-take}
 use native.Mathlib.Omega.{arith}
 use borrow.Author.Needs.{needs}
-use Rattle.vectors_aipc.proofs.written.Statement.{statement}
-use Rattle.vectors_aipc.proofs.written.Tie as tie
+use Rattle.vectors_aipc.proofs.trial.Statement.{statement}
+use Rattle.vectors_aipc.proofs.trial.Tie as tie
 
 slice-aggregate-write : tie.Need-slice-aggregate-write
 slice-aggregate-write c = simp length-take (omega arith)
 
-pub written-spec : {M : Type 1} → statement M
-written-spec =
+pub trial-spec : {M : Type 1} → statement M
+trial-spec =
     tie.close
     (tie.spec
     (λ c. search needs)

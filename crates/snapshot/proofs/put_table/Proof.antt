@@ -4,8 +4,8 @@ use lib.ListN.{length}
 use Prim.Native.Nat.{_+_, _≤_}
 use native.Mathlib.Omega.{arith}
 use borrow.Author.Needs.{needs}
-use Rattle.snapshot.proofs.put_list.Statement.{statement}
-use Rattle.snapshot.proofs.put_list.Tie as tie
+use Rattle.snapshot.proofs.put_table.Statement.{statement}
+use Rattle.snapshot.proofs.put_table.Tie as tie
 
 -- the list lies within the file, and its starts within the index
 within : (t : tie.Start) → let a = t .args in (endAt (a .file .now) (a .at) ≤ length (a .file .now)) × (length (a .file .now) ≤ 1073741824)
@@ -47,8 +47,8 @@ returns-2 c =
     let k = room .before in
     list-done (start k .pre) (k .u32-at .ensures) (k .before .end-at .ensures) (room .if1 .left) (c .before .before .put-rows .ensures)
 
-pub put-list-spec : {M : Type 1} → statement M
-put-list-spec =
+pub put-table-spec : {M : Type 1} → statement M
+put-table-spec =
     tie.close
     (tie.spec
     (λ c. search needs)

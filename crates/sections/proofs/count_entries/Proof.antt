@@ -8,8 +8,8 @@ use Rattle.sections.proofs.Counts.{Counting, counting-start, counting-n
 use Prim.Native.Nat.{_+_, _-_, _≤_}
 use native.Mathlib.Omega.{arith}
 use borrow.Author.Needs.{needs}
-use Rattle.sections.proofs.count.Statement.{statement}
-use Rattle.sections.proofs.count.Tie as tie
+use Rattle.sections.proofs.count_entries.Statement.{statement}
+use Rattle.sections.proofs.count_entries.Tie as tie
 
 abbrev Inv-loop : tie.InvT-loop
 Inv-loop file at₀ i₀ n₀ at i n = Counting file at i n
@@ -18,19 +18,19 @@ abbrev μ-loop : tie.MeasureT-loop
 μ-loop file at₀ i₀ n₀ at i n = 64 - i
 
 -- a turn of the loop: the section at the place fits
-abbrev Turn : Type 0
-Turn = tie.Else2 Inv-loop μ-loop
+abbrev InTurn : Type 0
+InTurn = tie.Else2 Inv-loop μ-loop
 
-abbrev start : Turn → tie.Start Inv-loop μ-loop
+abbrev start : InTurn → tie.Start Inv-loop μ-loop
 start c = c .before .before .before .before .before .before
 
-kept : (c : Turn) → let l = c .before .before .before .loop in Counting (start c .args .file .now) (l .at) (l .i) (l .n)
+kept : (c : InTurn) → let l = c .before .before .before .loop in Counting (start c .args .file .now) (l .at) (l .i) (l .n)
 kept c = c .before .before .before .loop .inv
 
-fit : (c : Turn) → fitsIn (drop (c .before .before .before .loop .at) (start c .args .file .now)) ≡ true
+fit : (c : InTurn) → fitsIn (drop (c .before .before .before .loop .at) (start c .args .file .now)) ≡ true
 fit c = sym (c .before .fits2 .ensures) ∙ not-false _ (c .if2 .left)
 
-within : (c : Turn) → let s = start c .args .file .now in let at = c .before .before .before .loop .at in at + (16 + leAt 8 s (at + 8)) ≤ length s
+within : (c : InTurn) → let s = start c .args .file .now in let at = c .before .before .before .loop .at in at + (16 + leAt 8 s (at + 8)) ≤ length s
 within c = counting-goes (kept c) (c .before .before .loop-test .taken) (fit c)
 
 returns : tie.Need-returns Inv-loop μ-loop
@@ -68,8 +68,8 @@ loop-again c =
 returns-3 : tie.Need-returns-3 Inv-loop μ-loop
 returns-3 c = counting-done (c .before .loop .inv) (c .loop-test .left)
 
-pub count-spec : {M : Type 1} → statement M
-count-spec =
+pub count-entries-spec : {M : Type 1} → statement M
+count-entries-spec =
     tie.close
     (tie.spec
     Inv-loop

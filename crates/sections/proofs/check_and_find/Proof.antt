@@ -1,8 +1,8 @@
 use Rattle.sections.proofs.Found.{made-read, found-stop, found-at}
 use lib.ListN.{length}
 use borrow.Author.Needs.{needs}
-use Rattle.sections.proofs.find.Statement.{statement}
-use Rattle.sections.proofs.find.Tie as tie
+use Rattle.sections.proofs.check_and_find.Statement.{statement}
+use Rattle.sections.proofs.check_and_find.Tie as tie
 
 enum-told : tie.Need-enum-told
 enum-told c = search needs
@@ -16,8 +16,8 @@ returns c = let a = c .before .before .before .before .before .before .before .b
 returns-2 : tie.Need-returns-2
 returns-2 c = let a = c .before .before .before .before .before .before .before .before .before .args in found-at (a .id) (a .file .now) (rw (c .before .enum-told .given .1) at (c .before .before .before .before .before .scan .ensures)) (c .seek .ensures)
 
-pub find-spec : {M : Type 1} → statement M
-find-spec =
+pub check-and-find-spec : {M : Type 1} → statement M
+check-and-find-spec =
     tie.close
     (tie.spec
     (λ c κs. search needs)

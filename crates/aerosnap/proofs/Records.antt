@@ -1,0 +1,75 @@
+-- The tables of a file that is taken: each record names its section, its device or its disk.
+-- Assumes nothing.
+use mathlib.Core.Path.{_≡_, refl, sym, _∙_, ap}
+use mathlib.Core.List.{List, [], _∷_, _++_, append-nil, Permᴰ·refl}
+use mathlib.Core.Bool.{Bool, true, false, cond}
+use Prim.Native.Nat.{ℕ, _+_, _≤_}
+use native.Mathlib.Omega.{arith}
+use lib.ListN.{length, drop}
+use lib.Seq.{drop-drop, drop-append-le}
+use borrow.Author.Tests.{eqb-true, ne-eqb}
+use Rattle.wire.specs.Numbers.{Bytes}
+use Rattle.order.specs.Keyed.{Every, flat, keep}
+use Rattle.order.specs.Entries.{join}
+use Rattle.order.proofs.Folds.{every-imp}
+use Rattle.order.proofs.Keeps.{keep-none}
+use Rattle.order.proofs.Starts.{drop-past}
+use Rattle.lists.specs.Lists.{entries, IsList}
+use Rattle.lists.proofs.Taken.{list-complete}
+use Rattle.tables.specs.Tables.{described, framedRow}
+use Rattle.tables.specs.declared.Table.{Table}
+use Rattle.tables.specs.Named.{NamesFramed, Each, IsTable}
+use Rattle.tables.proofs.Named.{framed-names, table-lawful, list-table}
+use Rattle.aerosnap.specs.Known.{known, slot}
+use Rattle.aerosnap.specs.Payloads.{list, bodyOf}
+use Rattle.aerosnap.specs.File.{fileMost, idOf, versionOf}
+use Rattle.aerosnap.specs.Rules.{IsSection}
+use Rattle.aerosnap.specs.Content.{isId, entriesIn}
+use Rattle.aerosnap.specs.Tables.{placed, listRows}
+use Rattle.aerosnap.proofs.Rows.{rows-skip, rows-here}
+use Rattle.aerosnap.proofs.Slots.{Once, first-once, rest-once}
+
+-- the table of sections, one by one
+pub record SectionRows (s : List ℕ) (l : List (List ℕ)) (b : List ℕ) : Type 0 where
+  pub rows : List (List ℕ)
+  pub bytes : b ≡ join rows
+  pub names : Each (NamesFramed s) rows l
+
+module _ (s : List ℕ) (y : Bytes s) (z : length s ≤ fileMost) where
+  pub section-rows : (at : ℕ) (l : List (List ℕ)) → drop at s ≡ join l → Every IsSection l → SectionRows s l (flat (λ q. framedRow (q .0) (q .1)) (placed at l))
+  unfolding placed
+  section-rows at [] c a = record { rows = []; bytes = refl; names = tt }
+  section-rows at (e ∷ l) c a =
+      let v = section-rows (at + length e) l (drop-past s at e (join l) c) (a .1) in
+      record {
+        rows = framedRow at e ∷ v .rows;
+        bytes = ap (λ (m : List ℕ). framedRow at e ++ m) (v .bytes);
+        names = (rw (append-nil e) at (framed-names s at e (join l) [] c y z (a .0 .whole)), v .names);
+      }
+
+  -- the table of the list with an id
+  module _ (t : Table) (i : ℕ) (k : known i ≡ true) (m : (v : ℕ) → bodyOf i v ≡ list (described t)) where
+    none : IsTable t s [] []
+    none = record { rows = []; order = []; bytes = refl; names = tt; once = Permᴰ·refl []; ascend = tt }
+
+    -- no other section has the id
+    alone : (e : List ℕ) (l : List (List ℕ)) → Once (e ∷ l) → idOf e ≡ i → Every (λ x. isId i x ≡ false) l
+    alone e l d w = every-imp (λ x n. ne-eqb (idOf x) i (λ q. n (ap slot (w ∙ sym q)))) l (first-once e l d (rw w k))
+
+    its-list : (e : List ℕ) → IsSection e → idOf e ≡ i → IsList (described t) (drop 16 e)
+    its-list e a w = rw (m (versionOf e)) at (rw w at (a .rules (rw w k) .body))
+
+    pub list-rows : (at : ℕ) (l : List (List ℕ)) → drop at s ≡ join l → Every IsSection l → Once l → IsTable t s (entriesIn i (described t) l) (flat (listRows t i) (placed at l))
+    unfolding placed
+    list-rows at [] c a d = none
+    list-rows at (e ∷ l) c a d = go (isId i e) refl (list-rows (at + length e) l (drop-past s at e (join l) c) (a .1) (rest-once e l d))
+      where
+        go : (b : Bool) → isId i e ≡ b → IsTable t s (entriesIn i (described t) l) (flat (listRows t i) (placed (at + length e) l))
+            → IsTable t s (flat (λ x. entries (described t) (drop 16 x)) (cond b (e ∷ keep (isId i) l) (keep (isId i) l))) (flat (listRows t i) (placed at (e ∷ l)))
+        go false q r = rw (rows-skip t i at e l q) r
+        go true q r =
+            let w : idOf e ≡ i = eqb-true (idOf e) i q in
+            let o = alone e l d w in
+            let f = list-complete (table-lawful t) (drop 16 e) (its-list e (a .0) w) in
+            let j : drop (at + 16) s ≡ drop 16 e ++ join l = sym (drop-drop 16 at s) ∙ ap (drop 16) c ∙ drop-append-le 16 e (join l) (omega (arith, a .0 .whole)) in
+            rw (rows-here t i at e l q o f, keep-none (isId i) l o, append-nil) (list-table t s (at + 16) (drop 16 e) (join l) j y z f)

@@ -1,0 +1,64 @@
+-- What a record says of the entry that it stands for, e, in the input s: the entry's own numbers, and by offset and length where its payload stands.
+-- Assumes nothing.
+use mathlib.Core.Path.{_≡_}
+use mathlib.Core.List.{List, [], _∷_, List·Permᴰ}
+use Prim.Native.Nat.{ℕ, _+_}
+use lib.ListN.{length, take, drop}
+use Rattle.wire.specs.Numbers.{leAt}
+use Rattle.order.specs.Keyed.{Asc}
+use Rattle.order.specs.Entries.{join}
+use Rattle.tables.specs.declared.Table.{Table}
+use Rattle.tables.specs.declared.Table.the-variants.{Devices, Disks, Controllers}
+use Rattle.tables.specs.Tables.{ROW, described}
+
+-- of a section or a device: u32 id, u16 version, u16 flags, u64 payload offset, u64 length
+pub record NamesFramed (s row e : List ℕ) : Type 0 where
+  pub long : length row ≡ ROW
+  pub id : leAt 4 row 0 ≡ leAt 4 e 0
+  pub version : leAt 2 row 4 ≡ leAt 2 e 4
+  pub flags : leAt 2 row 6 ≡ leAt 2 e 6
+  pub payload : take (leAt 8 row 16) (drop (leAt 8 row 8) s) ≡ drop 16 e
+
+-- the images of a disk: each the bytes behind its u32 length, the overlay behind the base
+abbrev pub baseOf : List ℕ → List ℕ
+baseOf e = take (leAt 4 e 4) (drop 8 e)
+
+abbrev pub overlayOf : List ℕ → List ℕ
+overlayOf e = take (leAt 4 e (8 + leAt 4 e 4)) (drop (8 + leAt 4 e 4 + 4) e)
+
+-- of a disk: u32 id, u32 base length, u64 base offset, u32 overlay length, u32 0
+pub record NamesDisk (s row e : List ℕ) : Type 0 where
+  pub long : length row ≡ ROW
+  pub id : leAt 4 row 0 ≡ leAt 4 e 0
+  pub base : take (leAt 4 row 4) (drop (leAt 8 row 8) s) ≡ baseOf e
+  pub overlay : take (leAt 4 row 16) (drop (leAt 8 row 8 + (leAt 4 row 4 + 4)) s) ≡ overlayOf e
+  pub nothing : leAt 4 row 20 ≡ 0
+
+-- of a controller: u16 address, u16 0, four tag bytes, u64 payload offset, u64 length
+pub record NamesController (s row e : List ℕ) : Type 0 where
+  pub long : length row ≡ ROW
+  pub address : leAt 2 row 0 ≡ leAt 2 e 0
+  pub nothing : leAt 2 row 2 ≡ 0
+  pub tag : leAt 4 row 4 ≡ leAt 4 e 4
+  pub payload : take (leAt 8 row 16) (drop (leAt 8 row 8) s) ≡ drop 12 e
+
+abbrev pub Names : Table → List ℕ → List ℕ → List ℕ → Type 0
+Names Devices = NamesFramed
+Names Disks = NamesDisk
+Names Controllers = NamesController
+
+-- one by one: the first of l and of m, the second of each, and so on; l is as long as m
+abbrev pub Each : {A B : Type 0} → (A → B → Type 0) → List A → List B → Type 0
+Each R [] [] = Unit {0}
+Each R [] (y ∷ m) = ⊥
+Each R (x ∷ l) [] = ⊥
+Each R (x ∷ l) (y ∷ m) = R x y × Each R l m
+
+-- b is the table of some entries of the input s: each entry has one record, which names it, and the records ascend by key
+pub record IsTable (t : Table) (s : List ℕ) (entries : List (List ℕ)) (b : List ℕ) : Type 0 where
+  pub rows : List (List ℕ)
+  pub order : List (List ℕ)
+  pub bytes : b ≡ join rows
+  pub names : Each (Names t s) rows order
+  pub once : List·Permᴰ order entries
+  pub ascend : Asc (described t .key) 0 order
