@@ -22,7 +22,7 @@ use Rattle.aerosnap.proofs.Bodies.{Lawfully, lawful-body}
 use Rattle.payloads.specs.Starts.{starts}
 use Rattle.aerosnap.specs.Known.{known}
 use Rattle.aerosnap.proofs.Copies.{isList}
-use Rattle.lists.specs.Promises.{placed}
+use Rattle.lists.specs.Promises.{indexAfter}
 use Rattle.aerosnap.specs.File.{fileOf}
 use Rattle.sections.specs.declared.Spot.{Spot}
 use Rattle.sections.specs.declared.Spot.the-variants.{At}
@@ -55,12 +55,12 @@ pub roomy-all : (s : List ℕ) → Roomy s 4864
 roomy-all s l c = starts-bound s c
 
 -- as the calls leave it that read a file
-pub index-reading : (s old : List ℕ) {new : List ℕ} → Read s → Roomy s (length old) → new ≡ placed (keptIn (length old) (fileOf s)) old → Reading (sectionsIn s) new 0
+pub index-reading : (s old : List ℕ) {new : List ℕ} → Read s → Roomy s (length old) → new ≡ indexAfter (keptIn (length old) (fileOf s)) old → Reading (sectionsIn s) new 0
 index-reading s old {new} h r e =
     let l : List (List ℕ) = sectionsIn s in
     let k : kept (length old) l ≡ flat startsOf l = kept-all (length old) l (r l h) in
     let n : new ≡ flat startsOf l ++ drop (length (flat startsOf l)) old =
-    e ∙ ap (λ (o : Outcome (List (List ℕ))). placed (keptIn (length old) o) old) h ∙ ap (λ (m : List ℕ). m ++ drop (length m) old) k in
+    e ∙ ap (λ (o : Outcome (List (List ℕ))). indexAfter (keptIn (length old) o) old) h ∙ ap (λ (m : List ℕ). m ++ drop (length m) old) k in
     record { rest = drop (length (flat startsOf l)) old; inside = omega arith; same = n }
 
 -- the section with an id was looked for: the file is taken, where the section stands, and the starts of all lists in the index

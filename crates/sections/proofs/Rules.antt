@@ -21,7 +21,7 @@ use Rattle.wire.specs.Numbers.{leAt}
 use Rattle.wire.proofs.Numbers.{leAt-drop, leAt-here}
 use Rattle.order.specs.Keyed.{has}
 use Rattle.lists.specs.Lists.{partChecks, whole}
-use Rattle.lists.specs.Promises.{placed, Indexed}
+use Rattle.lists.specs.Promises.{indexAfter, Indexed}
 use Rattle.aerosnap.specs.Known.{known, slot}
 use Rattle.aerosnap.specs.Payloads.{bodyOf, payload}
 use Rattle.aerosnap.specs.File.{sectionsMost, slotOf, knownChecks, ruled, sectionOf}
@@ -97,7 +97,7 @@ module _ (id v : ℕ) (p old : List ℕ) where
         record {
           fine = sym (pass-checked (partChecks p) (payload (bodyOf id v) p) (c .0) ∙ d .1);
           count = a .2 ∙ ap length (sym e);
-          kept = w .leaves ∙ ap (λ (o : Outcome (List ℕ)). placed o old) (a .1 ∙ ap taken (sym e));
+          kept = w .leaves ∙ ap (λ (o : Outcome (List ℕ)). indexAfter o old) (a .1 ∙ ap taken (sym e));
         }
 
 -- a fault in a payload lies within it

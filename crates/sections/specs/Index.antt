@@ -16,7 +16,7 @@ use Rattle.aerosnap.specs.Payloads.{bodyOf}
 use Rattle.aerosnap.specs.File.{idOf, versionOf, lengthOf, payloadOf, fileOf}
 use Rattle.aerosnap.specs.Content.{isId}
 use Rattle.lists.specs.Lists.{whole}
-use Rattle.lists.specs.Promises.{placed}
+use Rattle.lists.specs.Promises.{indexAfter}
 use Rattle.payloads.specs.Starts.{starts}
 use Rattle.sections.specs.declared.Spot.{Spot}
 use Rattle.sections.specs.declared.Spot.the-variants.{Fault, At}
@@ -79,7 +79,7 @@ pub record Keeps {A : Type 0} (o : Outcome A) (k old : List ℕ) (r : Piece) (ne
 -- the promise of the call that reads sections: how many there are, and their starts in the lent places that held `old`
 pub record Scanned (o : Outcome (List (List ℕ))) (old : List ℕ) (r : Piece) (new : List ℕ) : Type 0 where
   pub answers : pieceOf r ≡ counted o
-  pub leaves : new ≡ placed (keptIn (length old) o) old
+  pub leaves : new ≡ indexAfter (keptIn (length old) o) old
 
 -- the outcome that an answer with a place and a number stands for
 abbrev pub spotOf : Spot → Outcome (ℕ × ℕ)
@@ -89,4 +89,4 @@ spotOf (At p n) = taken (p, n)
 -- the promise of the call that looks for the section with an id: where it starts and how many starts stand before its own, and all starts in the lent places that held `old`
 pub record Spotted (i : ℕ) (o : Outcome (List (List ℕ))) (old : List ℕ) (r : Spot) (new : List ℕ) : Type 0 where
   pub answers : spotOf r ≡ spotIn i o
-  pub leaves : new ≡ placed (keptIn (length old) o) old
+  pub leaves : new ≡ indexAfter (keptIn (length old) o) old
