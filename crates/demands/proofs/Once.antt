@@ -13,7 +13,7 @@ pub use Rattle.format.proofs.Once.{read-once as format-once, flag-once}
 -- entries: most_of; cpu_state; mmu_length; lead_of; lead_at; key_of, key_at; entry_at; length_at
 pub use Rattle.entries.proofs.Once.{most-once, cpu-state-once, mmu-length-once, lead-once, lead-at-once, key-once, entry-once, length-once}
 -- lists: few; check; index; forget; find
-pub use Rattle.lists.proofs.Once.{few-once, check-once as lists-check-once, index-once, forget-once, find-once}
+pub use Rattle.lists.proofs.Once.{few-once, check-once as lists-check-once, index-once, forget-once, find-once, blank-once}
 -- tables: put_rows; write; put_section
 pub use Rattle.tables.proofs.Once.{rows-once, write-once as tables-write-once, section-once}
 -- writer: put_run; in_order; write

@@ -9,7 +9,7 @@ use lib.Dec.{leb}
 use lib.ListN.{length}
 use Rattle.answer.specs.declared.Answer.{Answer}
 use Rattle.answer.specs.Numbers.{isNumber}
-use Rattle.answer.specs.Outcome.{Outcome, Checks, checked}
+use Rattle.answer.specs.Outcome.{Outcome, Checks, checked, Pass}
 use Rattle.answer.specs.Calls.{asked, verdict, Writes}
 use Rattle.entries.specs.Kinds.{deviceOf, functionOf}
 use Rattle.aerosnap.specs.Calls.{checkCall, sectionsCall, devicesCall, disksCall, canonicalCall, addDeviceCall, addDiskCall}
@@ -39,12 +39,13 @@ addressCheck a = (leb (deviceOf a) 31 && leb (functionOf a) 7, withdrawn, 0) ∷
 abbrev pub WritesNever : (ℕ → Outcome (List ℕ)) → Type 0
 WritesNever o = (old new : List ℕ) (r : Answer) → Writes (o (length old)) old r new → r .number ≢ withdrawn
 
-pub record Card : Type 1 where
+pub record Card : Type 0 where
   -- five bits don't exceed 31, nor three bits 7
   pub device : (a : ℕ) → deviceOf a < 32
   pub function : (a : ℕ) → functionOf a < 8
-  -- so no address failed the check, and without it every answer stays
-  pub never : {A : Type 0} (a : ℕ) (o : Outcome A) → checked (addressCheck a) o ≡ o
+  -- so no address failed the check, and without it every answer of a wrapper stays
+  pub never : (a : ℕ) → Pass (addressCheck a)
+  pub stays : (a : ℕ) (behind : Outcome (List ℕ)) → checked (addressCheck a) behind ≡ behind
   -- it is none of the numbers that are taken, and no call answers it
   pub gone : isNumber withdrawn ≡ false
   pub check : (file : List ℕ) (r : Answer) → r ≡ verdict (checkCall file) → r .number ≢ withdrawn

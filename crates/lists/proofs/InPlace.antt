@@ -1,23 +1,28 @@
--- The ends of the calls on lists: starts gathered in the lent places, or the list judged and none kept; zeros after a refusal.
+-- The ends of the calls on lists: starts gathered in the lent places, or the list judged and none kept; a refusal leaves the places as they were.
 -- Assumes nothing.
 use mathlib.Core.Path.{_≡_, refl, sym, _∙_, ap, subst}
+use mathlib.Core.Logic.{_⊎_, inr, ⊎-elim, _↔_}
 use mathlib.Core.List.{List, [], _++_, append-nil}
-use Prim.Native.Nat.{ℕ, _≤_, _<_}
+use Prim.Native.Nat.{ℕ, _+_, _≤_, _<_}
+use native.Mathlib.Decide.{decLt}
 use native.Mathlib.Omega.{arith}
-use lib.ListN.{length, take, drop, replicate, length-take, drop-of-length-le}
-use lib.Seq.{take-all}
+use lib.ListN.{length, take, drop, getD, replicate, length-take, length-replicate, getD-replicate, take-append-drop, drop-of-length-le}
+use lib.Seq.{take-all, ext-getD}
 use borrow.Author.Tests.{le-leb, lt-leb}
 use Rattle.answer.specs.declared.Piece.{Piece}
 use Rattle.answer.specs.declared.Piece.the-variants.{Stop, Ends}
+use Rattle.answer.specs.declared.Test.{Test}
+use Rattle.answer.specs.declared.Test.the-variants.{Fault, Fine}
 use Rattle.answer.specs.Outcome.{Outcome, taken, refused, checked, after, done}
+use Rattle.answer.specs.Calls.{testOf}
 use Rattle.answer.proofs.Checks.{checked-pass}
-use Rattle.answer.proofs.Outcomes.{done-stop, done-taken}
+use Rattle.answer.proofs.Outcomes.{done-stop, done-taken, taken-refused}
 use Rattle.wire.specs.Numbers.{leAt}
 use Rattle.entries.specs.Kinds.{Description}
 use Rattle.entries.proofs.Lawful.{Lawful}
 use Rattle.lists.specs.Lists.{listAt, partChecks, listOf, whole, indexOf}
-use Rattle.lists.specs.Promises.{zeros, Indexed}
-use Rattle.lists.specs.Steps.{Gathered, Kept}
+use Rattle.lists.specs.Promises.{zeros, MayWrite, Indexed}
+use Rattle.lists.specs.Steps.{Gathered, Restored}
 use Rattle.lists.proofs.Exits.{part-fine}
 use Rattle.lists.proofs.Ordered.{index-length}
 use Rattle.lists.proofs.Callers.{list-then}
@@ -42,8 +47,8 @@ module _ {d : Description} (K : Lawful d) (s : List ℕ) where
   indexed have h = list-then d s (λ l. taken (whole have l)) ∙ ap (λ (o : Outcome (List ℕ)). after o (λ l. taken (whole have l))) h
 
   -- as many places lent as there are starts: they are all of them, and behind them stands what was there
-  pub kept-whole : {n : ℕ} (l old : List ℕ) → n ≡ leAt 4 s 0 → n ≤ length old → length l ≡ n → (r : Piece) → Gathered (listOf d s) r l → Kept (indexOf d (length old) s) old r (l ++ drop n old)
-  kept-whole l old e h k (Stop a b) g = indexed (length old) g
+  pub kept-whole : {n : ℕ} (l old : List ℕ) → n ≡ leAt 4 s 0 → n ≤ length old → length l ≡ n → (r : Piece) → Restored (listOf d s) (take n old) r l → Indexed (indexOf d (length old) s) old r (l ++ drop n old)
+  kept-whole {n} l old e h k (Stop a b) g = rw (indexed (length old) (g .0)) (record { answers = refl; leaves = rw (g .1) (take-append-drop n old) })
   kept-whole {n} l old e h k (Ends c) g =
       let q : length (take c l) ≡ leAt 4 s 0 = found (g .0) in
       let t : take c l ≡ l = take-all c l (omega (arith, length-take c l)) in
@@ -52,8 +57,8 @@ module _ {d : Description} (K : Lawful d) (s : List ℕ) where
       rw o (record { answers = ap taken z; leaves = rw k })
 
   module _ (old : List ℕ) where
-    pub kept-fault : {a b : ℕ} → refused a b ≡ checked (partChecks s) (done (listAt d s)) → indexOf d (length old) s ≡ refused a b
-    kept-fault h = indexed (length old) (done-stop (listOf d s) (h ∙ sym (list-done d s)))
+    pub kept-fault : {a b : ℕ} → refused a b ≡ checked (partChecks s) (done (listAt d s)) → Indexed (indexOf d (length old) s) old (Stop a b) old
+    kept-fault h = rw (indexed (length old) (done-stop (listOf d s) (h ∙ sym (list-done d s)))) (record { answers = refl; leaves = refl })
 
     pub kept-none : length old < leAt 4 s 0 → taken tt ≡ checked (partChecks s) (done (listAt d s)) → Indexed (indexOf d (length old) s) old (Ends 0) old
     kept-none h e =
@@ -61,11 +66,44 @@ module _ {d : Description} (K : Lawful d) (s : List ℕ) where
         let o : indexOf d (length old) s ≡ taken [] = indexed (length old) (w .1) ∙ rw (lt-leb (length (w .0)) (length old) (omega (arith, found (w .1)))) in
         rw o (record { answers = refl; leaves = refl })
 
--- ---- a refusal leaves zeros
+-- ---- places that hold nothing
 
 -- all of old written over
 pub all-zeros : (i : ℕ) (old : List ℕ) {new : List ℕ} → i ≡ length old → new ≡ replicate i 0 ++ drop i old → new ≡ zeros (length old)
 all-zeros i old e h = let d : drop i old ≡ [] = drop-of-length-le old {i = i} (omega arith) in h ∙ rw (d, e) (append-nil (zeros (length old)))
 
-pub forgotten : {o : Outcome (List ℕ)} (old : List ℕ) {new : List ℕ} {a b : ℕ} → o ≡ refused a b → new ≡ zeros (length old) → Indexed o old (Stop a b) new
-forgotten old h e = rw h (record { answers = refl; leaves = e })
+-- none is above 0
+pub none-above : (l : List ℕ) → ((j : ℕ) → j < length l → getD l j 0 ≤ 0) → l ≡ zeros (length l)
+none-above l h =
+    ext-getD 0 l (zeros (length l)) (sym (length-replicate (length l) 0))
+    (λ j g. let k = h j g in let z : getD (zeros (length l)) j 0 ≡ 0 = getD-replicate (length l) j 0 0 g in omega arith)
+
+-- each is 0
+zeros-at : (l : List ℕ) → l ≡ zeros (length l) → (j : ℕ) → j < length l → getD l j 0 ≡ 0
+zeros-at l e j h = ap (λ (m : List ℕ). getD m j 0) e ∙ getD-replicate (length l) j 0 0 h
+
+-- the highest of the first i places
+pub record Topped (l : List ℕ) (i top : ℕ) : Type 0 where
+  pub within : i ≤ length l
+  pub most : (j : ℕ) → j < i → getD l j 0 ≤ top
+  pub least : l ≡ zeros (length l) → top ≡ 0
+
+-- one place more: it or the highest before it is the highest now
+pub topped-more : {l : List ℕ} {i top up : ℕ} → Topped l i top → i < length l → top ≤ up → getD l i 0 ≤ up → (up ≡ top) ⊎ (up ≡ getD l i 0) → Topped l (i + 1) up
+topped-more {l} {i} {top} {up} w h g k e = record { within = omega arith; most = λ j f. go j f (decLt j i); least = λ z. ⊎-elim (λ a. a ∙ w .least z) (λ a. a ∙ zeros-at l z i h) e }
+  where
+    go : (j : ℕ) → j < i + 1 → Dec (j < i) → getD l j 0 ≤ up
+    go j f (yes m) = omega (arith, w .most j m)
+    go j f (no m) = let z : j ≡ i = omega (arith, m) in rw z k
+
+pub topped-all : {l : List ℕ} {i top : ℕ} → Topped l i top → length l ≤ i → (top ≡ 0) ↔ (l ≡ zeros (length l))
+topped-all {l} {i} {top} w h = (λ z. none-above l (λ j g. omega (arith, w .most j (omega arith))), w .least)
+
+-- they are cleared after a refusal
+pub cleared : {A : Type 0} {o : Outcome A} {old new : List ℕ} {a b : ℕ} → o ≡ refused a b → (old ≡ zeros (length old)) ⊎ ((x : A) × (o ≡ taken x)) → new ≡ zeros (length old) → new ≡ old
+cleared h w z = ⊎-elim (λ e. z ∙ sym e) (λ t. absurd (taken-refused (sym (t .1) ∙ h))) w
+
+-- what is asked before they are written over, of a list that was judged
+pub judged-first : (d : Description) (s old : List ℕ) (r : Test) → testOf r ≡ checked (partChecks s) (done (listAt d s)) → MayWrite (listOf d s) old r
+judged-first d s old (Fault a b) h = done-stop (listOf d s) (h ∙ sym (list-done d s))
+judged-first d s old Fine h = inr (done-taken (listOf d s) (list-done d s ∙ sym h))

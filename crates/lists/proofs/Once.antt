@@ -1,7 +1,8 @@
 -- Each promise fixes its answer and all of the lent memory: any two that it allows are equal.
 -- Assumes nothing.
-use mathlib.Core.Path.{_≡_}
-use mathlib.Core.Bool.{Bool}
+use mathlib.Core.Path.{_≡_, refl, sym}
+use mathlib.Core.Logic.{_↔_}
+use mathlib.Core.Bool.{Bool, true, false}
 use mathlib.Core.List.{List}
 use Prim.Native.Nat.{ℕ}
 use lib.Dec.{leb}
@@ -33,3 +34,9 @@ few-once s e f = equal-once e f
 
 pub find-once : (key : ℕ → ℕ) (k : ℕ) (starts : List ℕ) (r q : Found) → freeOf r ≡ freeOf (findIn key k starts) → freeOf q ≡ freeOf (findIn key k starts) → r ≡ q
 find-once key k starts r q e f = free-once r q (equal-once e f)
+
+pub blank-once : (places : List ℕ) (r q : Bool) → (r ≡ true) ↔ (places ≡ zeros (length places)) → (q ≡ true) ↔ (places ≡ zeros (length places)) → r ≡ q
+blank-once places true true e f = refl
+blank-once places true false e f = sym (f .1 (e .0 refl))
+blank-once places false true e f = e .1 (f .0 refl)
+blank-once places false false e f = refl

@@ -1,6 +1,7 @@
 -- What the calls promise: a list indexed, and a place found in an index.
 -- Assumes nothing.
 use mathlib.Core.Path.{_≡_}
+use mathlib.Core.Logic.{_⊎_}
 use mathlib.Core.Bool.{true, false}
 use mathlib.Core.List.{List, [], _∷_, _++_}
 use Prim.Native.Nat.{ℕ, _+_}
@@ -8,6 +9,8 @@ use lib.Dec.{leb, eqb}
 use lib.ListN.{length, drop, replicate}
 use Rattle.answer.specs.declared.Piece.{Piece}
 use Rattle.answer.specs.Numbers.{HAVE}
+use Rattle.answer.specs.declared.Test.{Test}
+use Rattle.answer.specs.declared.Test.the-variants.{Fault, Fine}
 use Rattle.answer.specs.Outcome.{Outcome, taken, refused, after}
 use Rattle.answer.specs.Calls.{pieceOf}
 use Rattle.lists.specs.declared.Found.{Found}
@@ -17,10 +20,15 @@ use Rattle.lists.specs.declared.Found.the-variants.{There, Free}
 abbrev pub zeros : ℕ → List ℕ
 zeros n = replicate n 0
 
--- the lent places after it: the starts, and behind them what was there; zeros after a refusal
+-- the lent places after it: the starts, and behind them what was there; a refusal leaves all as it was
 abbrev pub lentAfter : Outcome (List ℕ) → List ℕ → List ℕ
 lentAfter (taken l) old = l ++ drop (length l) old
-lentAfter (refused n p) old = zeros (length old)
+lentAfter (refused n p) old = old
+
+-- places may be written over before it is known what the outcome is: they hold nothing, so that clearing them is to leave them as they were, or it is no refusal
+abbrev pub MayWrite : {A : Type 0} → Outcome A → List ℕ → Test → Type 0
+MayWrite o old (Fault n p) = o ≡ refused n p
+MayWrite {A} o old Fine = (old ≡ zeros (length old)) ⊎ ((a : A) × (o ≡ taken a))
 
 -- the promise of the call that indexes a list: how many starts, and the starts in the lent places that held `old`
 pub record Indexed (o : Outcome (List ℕ)) (old : List ℕ) (r : Piece) (new : List ℕ) : Type 0 where

@@ -11,7 +11,7 @@ use borrow.Author.Tests.{le-leb, lt-leb, eq-eqb, ne-eqb}
 use Rattle.answer.specs.declared.Piece.{Piece}
 use Rattle.answer.specs.Numbers.{SHAPE, SIZE}
 use Rattle.answer.specs.Outcome.{Outcome, taken, refused, checked, after, done}
-use Rattle.answer.specs.Calls.{asked}
+use Rattle.answer.specs.Calls.{asked, pieceOf}
 use Rattle.format.specs.Places.{readAt}
 use Rattle.format.proofs.Placed.{at-zero}
 use Rattle.entries.specs.States.{mmuLength}
@@ -58,10 +58,6 @@ abbrev keptBy : ℕ → Body → List ℕ → Outcome (List ℕ)
 keptBy have k p = checked (partChecks p) (after (payload k p) (λ _. taken (whole have (starts k p))))
 
 module _ {old new : List ℕ} {r : Piece} where
-  -- a payload that is too long
-  pub kept-long : (id v : ℕ) (p : List ℕ) → 1073741824 < length p → Indexed (refused SIZE 0) old r new → Indexed (keptOf (length old) id v p) old r new
-  kept-long id v p h i = rw (← part-long p (after (payload (bodyOf id v) p) (λ _. taken (whole (length old) (starts (bodyOf id v) p)))) h) i
-
   -- one whose body is told by its id
   module _ (v : ℕ) (p : List ℕ) {id n : ℕ} (e : id ≡ n) where
     pub kept-list : (d : Description) → bodyOf n v ≡ list d → Indexed (indexOf d (length old) p) old r new → Indexed (keptOf (length old) id v p) old r new
@@ -72,12 +68,24 @@ module _ {old new : List ℕ} {r : Piece} where
         go (taken l) = refl
         go (refused n q) = refl
 
-    pub kept-plain : (k : Body) → bodyOf n v ≡ k → starts k p ≡ [] → length p ≤ 1073741824 → {o : Outcome (Unit {0})} → o ≡ payload k p → Indexed (after o (λ _. taken [])) old r new → Indexed (keptOf (length old) id v p) old r new
-    kept-plain k b s h q i =
-        let z : whole (length old) (starts k p) ≡ [] = rw (s, le-leb 0 (length old) (omega arith)) in
-        subst (λ (o : Outcome (List ℕ)). Indexed o old r new)
-        (part-fine p h (ap (λ (o : Outcome (Unit {0})). after o (λ _. taken [])) q ∙ ap (λ (l : List ℕ). after (payload k p) (λ _. taken l)) (sym z)) ∙ ap (λ (k : Body). keptBy (length old) k p) (sym (ap (λ (j : ℕ). bodyOf j v) e ∙ b)))
-        i
+-- what is no list leaves the places as they were
+none-kept : (o : Outcome (Unit {0})) {old : List ℕ} {r : Piece} → pieceOf r ≡ after o (λ _. taken 0) → Indexed (after o (λ _. taken [])) old r old
+none-kept (taken tt) e = record { answers = e; leaves = refl }
+none-kept (refused a b) e = record { answers = e; leaves = refl }
+
+module _ {old : List ℕ} {r : Piece} where
+  -- a payload that is too long
+  pub kept-long : (id v : ℕ) (p : List ℕ) → 1073741824 < length p → pieceOf r ≡ refused SIZE 0 → Indexed (keptOf (length old) id v p) old r old
+  kept-long id v p h i =
+      rw (← part-long p (after (payload (bodyOf id v) p) (λ _. taken (whole (length old) (starts (bodyOf id v) p)))) h) (none-kept (refused SIZE 0) i)
+
+  pub kept-plain : (v : ℕ) (p : List ℕ) {id n : ℕ} → id ≡ n → (k : Body) → bodyOf n v ≡ k → starts k p ≡ [] → length p ≤ 1073741824
+      → {o : Outcome (Unit {0})} → o ≡ payload k p → pieceOf r ≡ after o (λ _. taken 0) → Indexed (keptOf (length old) id v p) old r old
+  kept-plain v p e k b s h {o} q i =
+      let z : whole (length old) (starts k p) ≡ [] = rw (s, le-leb 0 (length old) (omega arith)) in
+      subst (λ (o : Outcome (List ℕ)). Indexed o old r old)
+      (part-fine p h (ap (λ (o : Outcome (Unit {0})). after o (λ _. taken [])) q ∙ ap (λ (l : List ℕ). after (payload k p) (λ _. taken l)) (sym z)) ∙ ap (λ (k : Body). keptBy (length old) k p) (sym (ap (λ (j : ℕ). bodyOf j v) e ∙ b)))
+      (none-kept o i)
 
 -- of other ids nothing is asked
 pub other-id : (id v : ℕ) → id ≢ 1 → id ≢ 2 → id ≢ 3 → id ≢ 4 → id ≢ 5 → id ≢ 7 → id ≢ 8 → bodyOf id v ≡ opaque

@@ -100,15 +100,12 @@ fn mmu_state(version: u16, p: &[u8]) -> Test
 
 // ---- any payload
 
-// What is no list has no starts; after a fault the lent places are cleared.
-fn plain(t: Test, starts: &mut [u32]) -> Piece
-    ensures { λ r. ⌜ Indexed (after (testOf t) (λ _. taken [])) (now (starts .entry)) r (now (starts .exit)) ⌝ }
+// What is no list has no starts.
+fn plain(t: Test) -> Piece
+    ensures { λ r. ⌜ pieceOf r ≡ after (testOf t) (λ _. taken 0) ⌝ }
 {
     match t {
-        Test::Fault(number, place) => {
-            lists::forget(starts);
-            Piece::Stop(number, place)
-        }
+        Test::Fault(number, place) => Piece::Stop(number, place),
         Test::Fine => Piece::Ends(0),
     }
 }
@@ -119,24 +116,24 @@ fn body(id: u32, version: u16, p: &[u8], starts: &mut [u32]) -> Piece
     ensures { λ r. ⌜ Indexed (keptOf (length (now (starts .entry))) id version (now (p .entry))) (now (starts .entry)) r (now (starts .exit)) ⌝ }
 {
     match id {
-        1 => plain(snapshot_meta(p), starts),
-        2 => plain(entries::cpu_state(version, p), starts),
-        3 => plain(mmu_state(version, p), starts),
+        1 => plain(snapshot_meta(p)),
+        2 => plain(entries::cpu_state(version, p)),
+        3 => plain(mmu_state(version, p)),
         4 => lists::index(Kind::Devices, p, starts),
         5 => lists::index(Kind::Disks, p, starts),
         7 => lists::index(Kind::Cpus(version), p, starts),
         8 => lists::index(Kind::Mmus(version), p, starts),
-        _ => plain(Test::Fine, starts),
+        _ => plain(Test::Fine),
     }
 }
 
 // The first fault of the payload of a section with that id and version, or how many starts are kept of it: those of all entries of a list, the first of `starts` in the order of their keys, or none where `starts` holds fewer or it is no list.
-// What stands behind them is left as it was; a refusal leaves zeros. A part longer than a file may be is SIZE.
+// What stands behind them is left as it was, and so is all of it after a refusal. A part longer than a file may be is SIZE.
 pub fn index(id: u32, version: u16, p: &[u8], starts: &mut [u32]) -> Piece
     ensures { λ r. ⌜ Indexed (keptOf (length (now (starts .entry))) id version (now (p .entry))) (now (starts .entry)) r (now (starts .exit)) ⌝ }
 {
     if FILE_MOST < p.len() {
-        return plain(Test::Fault(SIZE, 0), starts);
+        return plain(Test::Fault(SIZE, 0));
     }
     body(id, version, p, starts)
 }

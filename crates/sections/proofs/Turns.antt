@@ -25,7 +25,9 @@ use Rattle.aerosnap.specs.Rules.{IsSection}
 use Rattle.aerosnap.proofs.Sections.{id-front, length-front, section-sound}
 use Rattle.aerosnap.proofs.Turns.{sectionsAt, walk-end, walk-stop, walk-next}
 use Rattle.lists.specs.Lists.{whole}
-use Rattle.lists.specs.Promises.{zeros, lentAfter}
+use Rattle.answer.specs.declared.Test.the-variants.{Fine}
+use Rattle.lists.specs.Promises.{zeros, lentAfter, MayWrite}
+use Rattle.lists.proofs.InPlace.{cleared}
 use Rattle.sections.specs.Walks.{Marks, counted, walkedFrom}
 use Rattle.sections.specs.Index.{startsOf, kept, keptIn, Keeps, Scanned}
 use Rattle.sections.proofs.Kept.{whole-fits, kept-fits, kept-last, starts-front}
@@ -134,10 +136,10 @@ module _ {s : List ℕ} {i at t : ℕ} {m old new : List ℕ} (v : Walks s i at 
   pub walks-back : (last : List ℕ) → length last ≡ length tail → length (take t new ++ (last ++ drop (length new - t) (drop t new))) ≡ length old
   walks-back last h = rw (length-append, length-append, length-take, length-drop, length-drop) (omega (arith, h, length-tail t new, walks-at, walks-long))
 
-  pub walks-stop : at < length s → {a b : ℕ} {last now : List ℕ} → Told (Stop a b) last → now ≡ zeros (length old) → Scanned (walkedFrom s) old (Stop a b) now
-  walks-stop h {a} {b} k z =
+  pub walks-stop : at < length s → {a b : ℕ} {last now : List ℕ} → Told (Stop a b) last → MayWrite (walkedFrom s) old Fine → now ≡ zeros (length old) → Scanned (walkedFrom s) old (Stop a b) now
+  walks-stop h {a} {b} k m z =
       let e : walkedFrom s ≡ refused a b = v .same ∙ walk-stop (v .before) s at (64 - i) h (made-stop (sectionOf (v .before) at (drop at s)) _ (k .answers)) in
-      record { answers = sym (ap counted e); leaves = z ∙ sym (ap (λ (o : Outcome (List (List ℕ))). lentAfter (keptIn (length old) o) old) e) }
+      record { answers = sym (ap counted e); leaves = cleared e m z ∙ sym (ap (λ (o : Outcome (List (List ℕ))). lentAfter (keptIn (length old) o) old) e) }
 
   pub walks-done : length s ≤ at → Scanned (walkedFrom s) old (Ends i) new
   walks-done h =

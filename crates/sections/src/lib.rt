@@ -27,7 +27,9 @@ ghost use lib.ListN.{length, take, drop};
 ghost use Rattle.answer.specs.Outcome.{taken};
 ghost use Rattle.answer.specs.Calls.{testOf, asked};
 ghost use Rattle.wire.specs.Numbers.{leAt};
+ghost use Rattle.answer.specs.declared.Test.the-variants.{Fine};
 ghost use Rattle.lists.specs.Lists.{whole};
+ghost use Rattle.lists.specs.Promises.{MayWrite};
 ghost use Rattle.aerosnap.specs.Known as known;
 ghost use Rattle.aerosnap.specs.Payloads.{bodyOf};
 ghost use Rattle.aerosnap.specs.File.{fileMost, devicesMost, headerChecks, idOf, fileOf};
@@ -192,7 +194,7 @@ fn note(seen: &mut [u8; 9], id: u32)
 
 // How many sections there are behind the header, or the first fault. The starts of each list go into the tail of the index from where the last ended.
 fn walk(s: &[u8], index: &mut [u32]) -> Piece
-    requires { ⌜ (16 ≤ length (now s)) × (length (now s) ≤ fileMost) ⌝ }
+    requires { ⌜ (16 ≤ length (now s)) × (length (now s) ≤ fileMost) × MayWrite (walkedFrom (now s)) (now index) Fine ⌝ }
     ensures { λ r. ⌜ Scanned (walkedFrom (now (s .entry))) (now (index .entry)) r (now (index .exit)) ⌝ }
 {
     let mut seen = [0u8; 9];
@@ -243,16 +245,39 @@ fn header(s: &[u8]) -> Test
     Test::Fine
 }
 
-// The whole file: how many sections it has, or its first fault. The starts of its lists stand in the index then, as far as there is room for whole lists; it is cleared after a refusal.
+// Whether the index may be written over before the whole file is judged: one that holds nothing is cleared after a refusal, and another is lent to a file that has no fault.
+fn may_write(s: &[u8], index: &[u32]) -> Test
+    requires { ⌜ (16 ≤ length (now s)) × (length (now s) ≤ fileMost) ⌝ }
+    ensures { λ r. ⌜ MayWrite (walkedFrom (now (s .entry))) (now (index .entry)) r ⌝ }
+{
+    if lists::blank(index) {
+        return Test::Fine;
+    }
+    let mut none = [0u32; 1];
+    match walk(s, &mut none[..0]) {
+        Piece::Stop(number, place) => Test::Fault(number, place),
+        Piece::Ends(_) => Test::Fine,
+    }
+}
+
+// The sections behind a header that is as it should be.
+fn behind_header(s: &[u8], index: &mut [u32]) -> Piece
+    requires { ⌜ (16 ≤ length (now s)) × (length (now s) ≤ fileMost) ⌝ }
+    ensures { λ r. ⌜ Scanned (walkedFrom (now (s .entry))) (now (index .entry)) r (now (index .exit)) ⌝ }
+{
+    match may_write(&s[..], index) {
+        Test::Fault(number, place) => Piece::Stop(number, place),
+        Test::Fine => walk(&s[..], index),
+    }
+}
+
+// The whole file: how many sections it has, or its first fault. The starts of its lists stand in the index then, as far as there is room for whole lists; a refusal leaves it as it was.
 pub fn scan(file: &[u8], index: &mut [u32]) -> Piece
     ensures { λ r. ⌜ Scanned (fileOf (now (file .entry))) (now (index .entry)) r (now (index .exit)) ⌝ }
 {
     match header(&file[..]) {
-        Test::Fault(number, place) => {
-            lists::forget(index);
-            Piece::Stop(number, place)
-        }
-        Test::Fine => walk(&file[..], index),
+        Test::Fault(number, place) => Piece::Stop(number, place),
+        Test::Fine => behind_header(&file[..], index),
     }
 }
 

@@ -63,7 +63,7 @@ returns c =
     let v = turn k .before .loop .inv in
     let stop = told k (c .before .before .before .before .before .number .given .1) in
     let long = walks-back v (k .section-at .last .1 .1 .1 .1 .0) (k .section-at .kept .1 .1 .1 .1 .0) in
-    walks-stop v (turn k .loop-test .taken) stop (c .before .before .forget .ensures ∙ ap zeros long)
+    walks-stop v (turn k .loop-test .taken) stop (start (turn k) .pre .2) (c .before .before .forget .ensures ∙ ap zeros long)
 
 add-u64-at : tie.Need-add-u64-at Inv-loop μ-loop
 add-u64-at c =
