@@ -50,7 +50,6 @@ enum {
     CIMBROLAU_ROOM = 16,     /* output shorter than needed; the place is the length needed */
     CIMBROLAU_HAVE = 17,     /* added key is there; at 0 */
     CIMBROLAU_TAG = 18,      /* unknown tag; at 0 */
-    CIMBROLAU_ADDRESS = 19,  /* controller's device above 31 or function above 7; at the entry's start */
     CIMBROLAU_REGION = 20,   /* broken region; at its first wrong field */
     CIMBROLAU_BIG = 21,      /* record above half the capacity; at 0 */
     CIMBROLAU_FULL = 22,     /* bytes in use and those needed exceed the capacity; at 0 */

@@ -77,9 +77,7 @@ HAVE = 17
 abbrev pub TAG : ℕ
 TAG = 18
 
--- controller's device above 31 or function above 7
-abbrev pub ADDRESS : ℕ
-ADDRESS = 19
+-- 19 was ADDRESS, which no input gave (request 5 of document 02): nobody gives it any more, and it is not given to another.
 
 -- The rings' own, of document 02's request 1.
 
@@ -111,7 +109,7 @@ TURN = 29
 
 -- a fault of an input: of a file, a wrapper or a message
 abbrev pub faults : List ℕ
-faults = SHORT ∷ MAGIC ∷ VERSION ∷ ENDIAN ∷ RESERVED ∷ SIZE ∷ CUT ∷ MANY ∷ TWICE ∷ SECVER ∷ SHAPE ∷ LIMIT ∷ KEY ∷ TEXT ∷ VALUE ∷ TAG ∷ ADDRESS ∷ []
+faults = SHORT ∷ MAGIC ∷ VERSION ∷ ENDIAN ∷ RESERVED ∷ SIZE ∷ CUT ∷ MANY ∷ TWICE ∷ SECVER ∷ SHAPE ∷ LIMIT ∷ KEY ∷ TEXT ∷ VALUE ∷ TAG ∷ []
 
 -- what only a call that writes gives
 abbrev pub ofWriting : List ℕ

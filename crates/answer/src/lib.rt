@@ -43,8 +43,6 @@ pub const HAVE: u32 = 17;
 
 pub const TAG: u32 = 18;
 
-pub const ADDRESS: u32 = 19;
-
 // The rings' own (request 1 of document 02).
 pub const REGION: u32 = 20;
 

@@ -21,8 +21,8 @@ use Rattle.messages.specs.Reading.{fieldChecks, bodyChecks, numbersEnd, content
 
 controller-faults : EntryFaults controllers
 controller-faults = record {
-  early = λ b. (refl, (refl, tt));
-  form = ((λ e. checked-faulty (controllers .early e) (taken tt) (refl, (refl, tt)) tt), ((λ n. tt), λ e. tt));
+  early = λ b. (refl, tt);
+  form = ((λ e. checked-faulty (controllers .early e) (taken tt) (refl, tt) tt), ((λ n. tt), λ e. tt));
 }
 
 pub wrapper-faulty : (s : List ℕ) → Faulty (wrapped.wrapperOf s)

@@ -1,4 +1,4 @@
--- Faults: the numbers of faults. Firsts: refusals after a reading. Demand1 to Demand3: the demands. Examples: P1 to P13. RuledOut: wrong answers. Rings: request 1. Text: requests 2 and 7.
+-- Faults: the numbers of faults. Firsts: refusals after a reading. Demand1 to Demand3: the demands. Examples: P1 to P13. RuledOut: wrong answers. Rings: request 1. Text: requests 2 and 7. Card: request 5.
 -- Once: the proofs that promises fix their answers, of every public function.
 pub mod Faults
 pub mod Firsts
@@ -10,4 +10,5 @@ pub mod RuledOut
 pub mod Rings
 pub mod Pointed
 pub mod Text
+pub mod Card
 pub mod Once

@@ -1,6 +1,7 @@
--- Demands: the three demands. Examples: P1 to P13. RuledOut: wrong answers that no call can give. Rings: request 1. Text: requests 2 and 7.
+-- Demands: the three demands. Examples: P1 to P13. RuledOut: wrong answers that no call can give. Rings: request 1. Text: requests 2 and 7. Card: request 5.
 pub mod Demands
 pub mod Examples
 pub mod RuledOut
 pub mod Rings
 pub mod Text
+pub mod Card

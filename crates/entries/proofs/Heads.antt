@@ -2,34 +2,27 @@
 -- Assumes nothing.
 use mathlib.Core.Path.{_≡_}
 use mathlib.Core.List.{List}
-use Prim.Native.Nat.{ℕ, _-_, _/_, _%_, _≤_, _<_}
+use Prim.Native.Nat.{ℕ, _≤_, _<_}
 use native.Mathlib.Omega.{arith}
 use lib.ListN.{length, drop}
 use borrow.Author.Tests.{le-leb, lt-leb, eq-eqb, ne-eqb}
-use Rattle.answer.specs.Numbers.{SHAPE, RESERVED, ADDRESS}
+use Rattle.answer.specs.Numbers.{SHAPE, RESERVED}
 use Rattle.answer.specs.Outcome.{Outcome, taken, refused}
 use Rattle.answer.specs.Calls.{asked}
 use Rattle.wire.specs.Numbers.{Bytes, leAt}
 use Rattle.wire.proofs.Numbers.{leAt-here, leAt-bound}
 use Rattle.format.specs.Format.{any, sized, blob, read}
 use Rattle.format.specs.Places.{readAt}
-use Rattle.entries.specs.Kinds.{Description, leadChecks, deviceOf, functionOf, controllerChecks, unbounded}
+use Rattle.entries.specs.Kinds.{Description, leadChecks, controllerChecks, unbounded}
 
--- ---- a controller's address and reserved number, by the exits of the code
+-- ---- a controller's reserved number, by the exits of the code
 
-module _ (b : List ℕ) {a : ℕ} (p : a ≡ leAt 2 b 0) where
-  pub head-device : 31 < a / 8 % 32 → refused ADDRESS 0 ≡ asked (controllerChecks b)
-  head-device h = rw (← p, lt-leb (deviceOf a) 31 h)
+module _ (b : List ℕ) {r : ℕ} (q : r ≡ leAt 2 b 2) where
+  pub head-reserved : (r ≡ 0 → ⊥) → refused RESERVED 2 ≡ asked (controllerChecks b)
+  head-reserved l = rw (← q, ne-eqb r 0 l)
 
-  pub head-function : a / 8 % 32 ≤ 31 → 7 < a % 8 → refused ADDRESS 0 ≡ asked (controllerChecks b)
-  head-function h k = rw (← p, le-leb (deviceOf a) 31 h, lt-leb (functionOf a) 7 k)
-
-  module _ (h : a / 8 % 32 ≤ 31) (k : a % 8 ≤ 7) {r : ℕ} (q : r ≡ leAt 2 b 2) where
-    pub head-reserved : (r ≡ 0 → ⊥) → refused RESERVED 2 ≡ asked (controllerChecks b)
-    head-reserved l = rw (← p, ← q, le-leb (deviceOf a) 31 h, le-leb (functionOf a) 7 k, ne-eqb r 0 l)
-
-    pub head-fine : r ≡ 0 → taken tt ≡ asked (controllerChecks b)
-    head-fine l = rw (← p, ← q, le-leb (deviceOf a) 31 h, le-leb (functionOf a) 7 k, eq-eqb r 0 l)
+  pub head-fine : r ≡ 0 → taken tt ≡ asked (controllerChecks b)
+  head-fine l = rw (← q, eq-eqb r 0 l)
 
 -- ---- a length without a bound is one with the greatest that it can say
 

@@ -92,7 +92,7 @@ mmus-lawful v = record {
 }
 
 controller-in : (b : List ℕ) → 2 ≤ length b → Within (asked (controllerChecks b)) (length b)
-controller-in b h = checked-within (controllerChecks b) (taken tt) (length b) (zero-le, λ _. (h, λ _. tt))
+controller-in b h = checked-within (controllerChecks b) (taken tt) (length b) (h, λ _. tt)
 
 -- a fault in the head of the controller at a place lies before the end
 pub head-place : (s : List ℕ) (at : ℕ) {e n p : ℕ} → taken e ≡ readAt (bytes 8) s at → refused n p ≡ asked (controllerChecks (take (e - at) (drop at s))) → at + p ≤ length s
@@ -115,7 +115,7 @@ controllers-lawful = record {
     passes : (e rest : List ℕ) → Is (controllers .form) e → Pass (controllerChecks (e ++ rest))
     passes e rest (x, y, q, h, k) =
         let l : 8 ≤ length x = omega (arith, h .0) in
-        rw (q, append-assoc, leAt-append 2 x (y ++ rest) 0 (omega arith), leAt-append 2 x (y ++ rest) 2 (omega arith))
+        rw (q, append-assoc, leAt-append 2 x (y ++ rest) 2 (omega arith))
         (checked-pass (controllerChecks x) (taken tt) tt (h .1) .0)
 
 pub lawful : (k : Kind) → Lawful (describe k)

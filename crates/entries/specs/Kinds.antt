@@ -1,11 +1,10 @@
 -- The kinds of entry, each by its description. Everything else that is said of lists is said of any description.
 -- Assumes nothing.
 use mathlib.Core.List.{List, [], _∷_}
-use mathlib.Core.Bool.{_&&_}
 use Prim.Native.Nat.{ℕ, _+_, _*_, _/_, _%_}
 use lib.Dec.{leb, eqb}
 use lib.ListN.{length}
-use Rattle.answer.specs.Numbers.{RESERVED, SHAPE, ADDRESS}
+use Rattle.answer.specs.Numbers.{RESERVED, SHAPE}
 use Rattle.answer.specs.Outcome.{Checks}
 use Rattle.answer.specs.Calls.{asked}
 use Rattle.wire.specs.Numbers.{leAt}
@@ -77,9 +76,9 @@ functionOf a = a % 8
 abbrev pub addressKey : List ℕ → ℕ
 addressKey e = leAt 2 e 0
 
--- ADDRESS, then RESERVED
+-- RESERVED; every address is one
 abbrev pub controllerChecks : List ℕ → Checks
-controllerChecks e = (leb (deviceOf (addressKey e)) 31 && leb (functionOf (addressKey e)) 7, ADDRESS, 0) ∷ (eqb (leAt 2 e 2) 0, RESERVED, 2) ∷ []
+controllerChecks e = (eqb (leAt 2 e 2) 0, RESERVED, 2) ∷ []
 
 -- u16 address, u16 reserved 0, four tag bytes
 abbrev pub controllerHead : Format

@@ -1,7 +1,6 @@
 // The entries of lists: the kinds, and for each kind the readers of an entry at a place.
 // Each takes every slice and every place. Bytes past the end read as 0, and an entry that is not whole is refused.
 // Slices that are handed on as `&s[..]` go in registers (decision 38).
-use answer::ADDRESS;
 use answer::Piece;
 use answer::RESERVED;
 use answer::SHAPE;
@@ -148,17 +147,10 @@ fn fixed_of(kind: Kind) -> usize
     }
 }
 
-// ADDRESS, then RESERVED, of the controller that begins the bytes.
+// RESERVED of the controller that begins the bytes; every address is one.
 fn controller_lead(b: &[u8]) -> Test
     ensures { λ r. ⌜ testOf r ≡ asked (controllerChecks (now (b .entry))) ⌝ }
 {
-    let address = u16_at(b, 0);
-    if 31 < address / 8 % 32 {
-        return Test::Fault(ADDRESS, 0);
-    }
-    if 7 < address % 8 {
-        return Test::Fault(ADDRESS, 0);
-    }
     if u16_at(b, 2) != 0 {
         return Test::Fault(RESERVED, 2);
     }

@@ -45,8 +45,6 @@ pub enum Kind {
     Have = 17,
     /// The message's tag is unknown.
     Tag = 18,
-    /// A controller's device is above 31 or its function above 7.
-    Address = 19,
     /// A region of rings is broken; the place is that of its first wrong field.
     Region = 20,
     /// A record is above half the ring's capacity.
@@ -81,7 +79,6 @@ const TABLE: &[(Kind, &str, &str)] = &[
     (Kind::Room, "ROOM", "output shorter than needed"),
     (Kind::Have, "HAVE", "added key is there"),
     (Kind::Tag, "TAG", "unknown tag"),
-    (Kind::Address, "ADDRESS", "controller's device above 31 or function above 7"),
     (Kind::Region, "REGION", "broken region"),
     (Kind::Big, "BIG", "record above half the capacity"),
     (Kind::Full, "FULL", "bytes in use and those needed exceed the capacity"),

@@ -26,7 +26,6 @@ pub const VALUE: u32 = 15;
 pub const ROOM: u32 = 16;
 pub const HAVE: u32 = 17;
 pub const TAG: u32 = 18;
-pub const ADDRESS: u32 = 19;
 pub const REGION: u32 = 20;
 pub const BIG: u32 = 21;
 pub const FULL: u32 = 22;
@@ -35,9 +34,9 @@ pub const RECORD: u32 = 24;
 pub const TURN: u32 = 29;
 
 /// Every number that a call answers: 0 for taken, and the refusals. The numbers have gaps.
-pub const NUMBERS: [u32; 26] = [
+pub const NUMBERS: [u32; 25] = [
     0, SHORT, MAGIC, VERSION, ENDIAN, RESERVED, SIZE, CUT, MANY, TWICE, SECVER, SHAPE, LIMIT, KEY,
-    TEXT, VALUE, ROOM, HAVE, TAG, ADDRESS, REGION, BIG, FULL, EMPTY, RECORD, TURN,
+    TEXT, VALUE, ROOM, HAVE, TAG, REGION, BIG, FULL, EMPTY, RECORD, TURN,
 ];
 
 /// What was read, or the first check that failed.

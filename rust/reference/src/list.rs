@@ -3,7 +3,7 @@
 //! A list is a u32 count and so many entries. An entry opens with a fixed part that holds its key; a key
 //! comes once. What the kinds of entry differ in is asked of [`Kind`].
 
-use crate::answer::{ask, Taken, ADDRESS, KEY, LIMIT, RESERVED, SHAPE, VALUE};
+use crate::answer::{ask, Taken, KEY, LIMIT, RESERVED, SHAPE, VALUE};
 use crate::cursor::{u16_at, u32_at, u64_at, Cursor, Output};
 
 const MIB: u64 = 1 << 20;
@@ -108,10 +108,7 @@ impl Kind {
     /// What is asked of the fixed part before its key.
     fn check_fixed(self, fixed: &[u8], start: usize) -> Taken<()> {
         match self {
-            Kind::Controllers => {
-                ask(is_address(u16_at(fixed, 0)), ADDRESS, start)?;
-                ask(u16_at(fixed, 2) == 0, RESERVED, start + 2)
-            }
+            Kind::Controllers => ask(u16_at(fixed, 2) == 0, RESERVED, start + 2),
             _ => Ok(()),
         }
     }
@@ -147,13 +144,6 @@ impl Kind {
 /// A device's key: id, version, flags, field by field.
 pub fn device_key(id: u32, version: u16, flags: u16) -> u64 {
     u64::from(id) << 32 | u64::from(version) << 16 | u64::from(flags)
-}
-
-/// Whether the device of bus × 256 + device × 8 + function is at most 31 and the function at most 7.
-/// Five bits and three always are.
-fn is_address(address: u16) -> bool {
-    let (device, function) = (address >> 3 & 31, address & 7);
-    device <= 31 && function <= 7
 }
 
 pub fn mmu_length(version: u16) -> usize {

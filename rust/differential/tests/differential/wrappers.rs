@@ -20,6 +20,16 @@ pub fn valid(run: &mut Comparison) {
     }
 }
 
+/// A controller at every address: none is refused for it.
+pub fn every_address(run: &mut Comparison) {
+    for address in 0..=u16::MAX {
+        let mut made = Made::wrapper(1);
+        made.controller(address, b"AHCI", &[7]);
+        let answer = run.wrapper(&made.bytes);
+        assert_eq!((answer.number, answer.place), (0, 0), "the address {address}");
+    }
+}
+
 pub fn every_byte(run: &mut Comparison) {
     let mut wrapper = rich().bytes;
     for place in 0..wrapper.len() {

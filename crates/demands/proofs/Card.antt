@@ -1,0 +1,86 @@
+-- No address failed the check that is withdrawn, and no call answers its number.
+-- Assumes nothing.
+use mathlib.Core.Path.{_≡_, refl, sym, _∙_, ap}
+use mathlib.Core.Logic.{_≢_}
+use mathlib.Core.Bool.{Bool, true, false}
+use mathlib.Core.List.{List, [], _∷_}
+use Prim.Native.Nat.{ℕ, _≤_, _<_}
+use native.Mathlib.Omega.{arith}
+use lib.ListN.{length}
+use borrow.Author.Tests.{le-leb}
+use Rattle.answer.specs.declared.Answer.{Answer}
+use Rattle.answer.specs.Numbers.{isNumber}
+use Rattle.answer.specs.Outcome.{Outcome, taken, refused, Faulty, Pass}
+use Rattle.answer.specs.Calls.{verdict, answer}
+use Rattle.answer.proofs.Checks.{pass-checked}
+use Rattle.answer.proofs.Table.{fault-number}
+use Rattle.entries.specs.Kinds.{deviceOf, functionOf}
+use Rattle.aerosnap.specs.Calls.{checkCall}
+use Rattle.dskc.specs.Wrapper as wrapped
+use Rattle.messages.specs.declared.Reading.{Reading}
+use Rattle.messages.specs.Reading as messages
+use Rattle.demands.specs.Demands.{InTable, Fills}
+use Rattle.demands.specs.Card.{withdrawn, addressCheck, WritesNever, Card}
+use Rattle.demands.proofs.Demand1.{demand1}
+use Rattle.demands.proofs.Rings.{rings}
+
+-- ---- addresses
+device-below : (a : ℕ) → deviceOf a < 32
+device-below a = omega arith
+
+function-below : (a : ℕ) → functionOf a < 8
+function-below a = omega arith
+
+never-fails : (a : ℕ) → Pass (addressCheck a)
+never-fails a = (rw (le-leb (deviceOf a) 31 (omega (arith, device-below a)), le-leb (functionOf a) 7 (omega (arith, function-below a))), tt)
+
+-- ---- numbers
+-- a number of the list is another, and so is 0
+number-not : (n : ℕ) → isNumber n ≡ true → n ≢ withdrawn
+number-not n h e = let k : isNumber withdrawn ≡ true = rw e at h in let z : _≡_ {A = ℕ} 0 1 = cc in omega arith
+
+zero-not : (n : ℕ) → n ≡ 0 → n ≢ withdrawn
+zero-not n h e = omega arith
+
+verdict-not : {A : Type 0} (o : Outcome A) → Faulty o → (r : Answer) → r ≡ verdict o → r .number ≢ withdrawn
+verdict-not (taken a) h r e k = zero-not (r .number) (ap (λ (x : Answer). x .number) e) k
+verdict-not (refused n p) h r e k = number-not n (fault-number n h) (sym (ap (λ (x : Answer). x .number) e) ∙ k)
+
+reading-not : (o : Outcome messages.Content) → Faulty o → (r : Reading) → r ≡ messages.reading o → r .number ≢ withdrawn
+reading-not (taken a) h r e k = zero-not (r .number) (ap (λ (x : Reading). x .number) e) k
+reading-not (refused n p) h r e k = number-not n (fault-number n h) (sym (ap (λ (x : Reading). x .number) e) ∙ k)
+
+answer-not : (o : Outcome (List ℕ)) → InTable o → (r : Answer) → r ≡ answer o → r .number ≢ withdrawn
+answer-not (taken b) h r e k = zero-not (r .number) (ap (λ (x : Answer). x .number) e) k
+answer-not (refused n p) h r e k = number-not n h (sym (ap (λ (x : Answer). x .number) e) ∙ k)
+
+fills-not : {o : ℕ → Outcome (List ℕ)} → Fills o → WritesNever o
+fills-not {o} f old new r w = answer-not (o (length old)) (f .table (length old)) r (w .answers)
+
+pub card : Card
+card = record {
+  device = device-below;
+  function = function-below;
+  never = never-fails;
+  stays = λ a behind. pass-checked (addressCheck a) behind (never-fails a);
+  gone = refl;
+  check = λ file. verdict-not (checkCall file) (demand1 .check file .faults);
+  sections = λ file. fills-not (demand1 .sections file);
+  devices = λ file. fills-not (demand1 .devices file);
+  disks = λ file. fills-not (demand1 .disks file);
+  canonical = λ file. fills-not (demand1 .canonical file);
+  add-device = λ file id version flags payload. fills-not (demand1 .add-device file id version flags payload);
+  add-disk = λ file id base overlay. fills-not (demand1 .add-disk file id base overlay);
+  wrapper-check = λ wrapper. verdict-not (wrapped.wrapperOf wrapper) (demand1 .wrapper-check wrapper .faults);
+  controllers = λ wrapper. fills-not (demand1 .controllers wrapper);
+  wrapper-canonical = λ wrapper. fills-not (demand1 .wrapper-canonical wrapper);
+  message-read = λ message. reading-not (messages.readMessage message) (demand1 .message-read message .faults);
+  message-write = λ message bytes. fills-not (demand1 .message-write message bytes);
+  numbers-write = λ n bytes. fills-not (demand1 .by-numbers n bytes);
+  region-check = λ b r e k. let z = rings .calls .check b r e .else (λ i. omega arith) in omega arith;
+  report = λ b q r e k. let z = rings .calls .report b q r e .else (λ i. omega arith) in omega arith;
+  reserve = λ b q n new r w k. let z = rw k at (rings .calls .reserve q n .stays b new r w (λ i. omega arith) .0) in let y : _≡_ {A = ℕ} 0 1 = cc in omega arith;
+  fill = λ b q start end m new r w k. let z = rw k at (rings .calls .fill q start end m .stays b new r w (λ i. omega arith) .0) in let y : _≡_ {A = ℕ} 0 1 = cc in omega arith;
+  commit = λ b q start end new r w k. let z = rw k at (rings .calls .commit q start end .stays b new r w (λ i. omega arith) .0) in let y : _≡_ {A = ℕ} 0 1 = cc in omega arith;
+  take = λ b q new r w k. let z = rw k at (rings .calls .take q .stays b new r w (λ i. omega arith) .0) in let y : _≡_ {A = ℕ} 0 1 = cc in omega arith;
+}
