@@ -14,6 +14,7 @@ ghost use Rattle.answer.specs.Calls.{testOf, asked, verdict};
 ghost use Rattle.answer.specs.Outcome.{each};
 ghost use Rattle.region.specs.Region.{countOf, offsetOf, capacityOf, endOf, ringAt, isCapacity, headerChecks, apartCheck, descriptorChecks, cursorChecks, ringChecks, tableChecks, regionChecks, queueChecks};
 ghost use Rattle.region.specs.Region as region;
+ghost use Rattle.region.specs.Inside.{Below};
 ghost use Rattle.region.specs.Report.{signedOf, asCursors, reportCall};
 
 // The header of a ring: its cursors and its capacity.
@@ -146,8 +147,20 @@ fn clear(s: &[u8], i: u32) -> Test
     Test::Fine
 }
 
-// Descriptor i: where its ring stands, the capacity, the reserved 0.
-fn descriptor(s: &[u8], i: u32) -> Test
+// The same where no earlier ring ends behind `top`: a ring that starts there or later meets none of them, and that is one comparison.
+fn meets_none(s: &[u8], i: u32, top: usize) -> Test
+    requires { ⌜ Below (now s) i top ⌝ }
+    ensures { λ r. ⌜ testOf r ≡ asked (each (apartCheck (now (s .entry)) i) i) ⌝ }
+{
+    if top <= offset_of(s, i) as usize {
+        return Test::Fine;
+    }
+    clear(s, i)
+}
+
+// Descriptor i, where no earlier ring ends behind `top`: where its ring stands, the capacity, the reserved 0.
+fn descriptor(s: &[u8], i: u32, top: usize) -> Test
+    requires { ⌜ Below (now s) i top ⌝ }
     ensures { λ r. ⌜ testOf r ≡ asked (descriptorChecks (now (s .entry)) i) ⌝ }
 {
     let place = 16 * (i as usize);
@@ -161,7 +174,7 @@ fn descriptor(s: &[u8], i: u32) -> Test
     if s.len() < end_of(s, i) {
         return Test::Fault(REGION, 20 + place);
     }
-    match clear(s, i) {
+    match meets_none(s, i, top) {
         Test::Fault(number, fault) => Test::Fault(number, fault),
         Test::Fine => {
             if !is_capacity(capacity_of(s, i)) {
@@ -175,16 +188,28 @@ fn descriptor(s: &[u8], i: u32) -> Test
     }
 }
 
+fn higher(a: usize, b: usize) -> usize
+    ensures { λ r. ⌜ (a ≤ r) × (b ≤ r) ⌝ }
+{
+    if a < b {
+        return b;
+    }
+    a
+}
+
+// Rings stand in the order of their descriptors as a rule; `top` is the highest end so far.
 fn descriptors(s: &[u8], n: u32) -> Test
     ensures { λ r. ⌜ testOf r ≡ asked (each (descriptorChecks (now (s .entry))) n) ⌝ }
 {
     let mut i = 0;
+    let mut top = 0usize;
     while i < n {
-        match descriptor(s, i) {
+        match descriptor(s, i, top) {
             Test::Fault(number, place) => {
                 return Test::Fault(number, place);
             }
             Test::Fine => {
+                top = higher(top, end_of(s, i));
                 i += 1;
             }
         }

@@ -19,8 +19,9 @@ use Rattle.region.specs.Region.{ahead, isCapacity, descriptorChecks, ringChecks
 use Rattle.region.specs.Report.{signedOf, asCursors, reportCall}
 use Rattle.region.proofs.Taken.{region-taken}
 use Rattle.rings.specs.Records.{skip}
-use Rattle.rings.specs.Calls.{stored, reserveCall, fillStores, fillCall, commitCall, skipAt, takeIn, takeCall}
-use Rattle.rings.specs.Use.{Used, begins, reserves, fills, commits, Drains}
+use Rattle.rings.specs.Calls.{Stores, stored, reserveCall, fillStores, fillCall, commitCall, skipAt, takeIn, takeCall}
+use Rattle.rings.specs.Use.{firstly, Used, begins, steps, reserves, fills, stops, commits, takes, Drains}
+use Rattle.rings.proofs.Keeps.{fill-stores-within}
 use Rattle.rings.proofs.Using.{comes}
 
 -- head, reserve and commit at p
@@ -111,7 +112,87 @@ unfolding one below leAt le bytesOf
 begun = begins (bytes-of b₀ refl) (region-taken b₀ .0 (examples .whole)) (omega arith) (refl, refl)
 
 pub sent : Used 0 b₃ (m ∷ []) []
-sent = commits (fills [] _ [] (reserves begun 5 (examples .reserve)) m (examples .fill)) refl (examples .commit)
+sent = steps (steps (steps begun (reserves 5 (examples .reserve))) (fills [] _ [] m (examples .fill))) (commits refl (examples .commit))
 
 pub found : Drains 0 b₃ (m ∷ [])
 found = comes (m ∷ []) sent
+
+-- ---- a life of this ring: two pairs are open at once, the later one is filled first, a fill is stopped, and both messages come, past the end of the data and
+-- past 2^32
+
+-- the second message, of 8 bytes
+abbrev n : List ℕ
+n = 11 ∷ 12 ∷ 13 ∷ 14 ∷ 15 ∷ 16 ∷ 17 ∷ 18 ∷ []
+
+-- its pair is reserved behind the first one's, and filled
+abbrev c₂ : List ℕ
+c₂ = splice 36 (24 ∷ 0 ∷ 0 ∷ 0 ∷ []) b₁
+
+abbrev c₃ : List ℕ
+c₃ = splice 60 (8 ∷ 0 ∷ 0 ∷ 0 ∷ 11 ∷ 12 ∷ 13 ∷ 14 ∷ 15 ∷ 16 ∷ 17 ∷ 18 ∷ []) c₂
+
+-- a fill of the first pair with other bytes is stopped behind the marker and two bytes of the length
+abbrev strayed : Stores
+strayed = (104, 255 ∷ 255 ∷ 255 ∷ 255 ∷ []) ∷ (48, 7 ∷ 0 ∷ 0 ∷ 0 ∷ 9 ∷ 9 ∷ 9 ∷ 9 ∷ 9 ∷ 9 ∷ 9 ∷ 0 ∷ []) ∷ []
+
+abbrev c₄ : List ℕ
+c₄ = stored (firstly 6 strayed) c₃
+
+-- it is filled, and both are committed
+abbrev c₅ : List ℕ
+c₅ = splice 48 (5 ∷ 0 ∷ 0 ∷ 0 ∷ 1 ∷ 2 ∷ 3 ∷ 4 ∷ 5 ∷ 0 ∷ 0 ∷ 0 ∷ []) (splice 104 (255 ∷ 255 ∷ 255 ∷ 255 ∷ []) c₄)
+
+abbrev c₆ : List ℕ
+c₆ = splice 40 (12 ∷ 0 ∷ 0 ∷ 0 ∷ []) c₅
+
+abbrev c₇ : List ℕ
+c₇ = splice 40 (24 ∷ 0 ∷ 0 ∷ 0 ∷ []) c₆
+
+-- and taken
+abbrev c₈ : List ℕ
+c₈ = splice 32 (12 ∷ 0 ∷ 0 ∷ 0 ∷ []) c₇
+
+abbrev c₉ : List ℕ
+c₉ = splice 32 (24 ∷ 0 ∷ 0 ∷ 0 ∷ []) c₈
+
+pub record Life : Type 0 where
+  pub second : reserveCall b₁ 0 8 ≡ taken ((36, 24 ∷ 0 ∷ 0 ∷ 0 ∷ []) ∷ [], (12, 24))
+  pub fill-second : fillCall c₂ 0 12 24 n ≡ taken ((60, 8 ∷ 0 ∷ 0 ∷ 0 ∷ 11 ∷ 12 ∷ 13 ∷ 14 ∷ 15 ∷ 16 ∷ 17 ∷ 18 ∷ []) ∷ [], tt)
+  pub fill-other : fillCall c₃ 0 4294967288 12 (9 ∷ 9 ∷ 9 ∷ 9 ∷ 9 ∷ 9 ∷ 9 ∷ []) ≡ taken (strayed, tt)
+  -- nothing to take yet, and the second pair has to wait for its turn
+  pub none : takeCall c₄ 0 ≡ refused EMPTY 0
+  pub turn : commitCall c₄ 0 12 24 ≡ refused TURN 0
+  pub fill-first : fillCall c₄ 0 4294967288 12 m ≡ taken ((104, 255 ∷ 255 ∷ 255 ∷ 255 ∷ []) ∷ (48, 5 ∷ 0 ∷ 0 ∷ 0 ∷ 1 ∷ 2 ∷ 3 ∷ 4 ∷ 5 ∷ 0 ∷ 0 ∷ 0 ∷ []) ∷ [], tt)
+  pub commit-first : commitCall c₅ 0 4294967288 12 ≡ taken ((40, 12 ∷ 0 ∷ 0 ∷ 0 ∷ []) ∷ [], tt)
+  pub commit-second : commitCall c₆ 0 12 24 ≡ taken ((40, 24 ∷ 0 ∷ 0 ∷ 0 ∷ []) ∷ [], tt)
+  pub take-first : takeCall c₇ 0 ≡ taken ((32, 12 ∷ 0 ∷ 0 ∷ 0 ∷ []) ∷ [], (52, 5))
+  pub take-second : takeCall c₈ 0 ≡ taken ((32, 24 ∷ 0 ∷ 0 ∷ 0 ∷ []) ∷ [], (64, 8))
+  pub empty : takeCall c₉ 0 ≡ refused EMPTY 0
+
+pub life : Life
+unfolding one tableChecks each descriptorChecks ringChecks isCapacity ahead leAt le bytesOf splice skip reserveCall fillStores fillCall commitCall skipAt takeIn takeCall
+life = record {
+  second = refl;
+  fill-second = refl;
+  fill-other = refl;
+  none = refl;
+  turn = refl;
+  fill-first = refl;
+  commit-first = refl;
+  commit-second = refl;
+  take-first = refl;
+  take-second = refl;
+  empty = refl;
+}
+
+-- these calls are a use of the ring, with both messages waiting, and none at the end
+pub waiting : Used 0 c₇ (m ∷ n ∷ []) []
+waiting =
+    let open-both = steps (steps begun (reserves 5 (examples .reserve))) (reserves 8 (life .second)) in
+    let filled-second = steps open-both (fills (_ ∷ []) _ [] n (life .fill-second)) in
+    let stopped = steps filled-second (stops [] _ (_ ∷ []) (fill-stores-within c₃ 0 4294967288 12 _ (life .fill-other) 6)) in
+    let filled = steps stopped (fills [] _ (_ ∷ []) m (life .fill-first)) in
+    steps (steps filled (commits refl (life .commit-first))) (commits refl (life .commit-second))
+
+pub lived : Used 0 c₉ [] []
+lived = steps (steps waiting (takes (life .take-first))) (takes (life .take-second))

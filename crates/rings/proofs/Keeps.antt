@@ -20,12 +20,12 @@ use Rattle.region.specs.Valid.{Consistent, Queue, Valid}
 use Rattle.region.proofs.Taken.{pass-queues}
 use Rattle.rings.specs.Records.{moved, size, rest, need, marker}
 use Rattle.rings.specs.Calls.{Stores, stored, changed, reserveChecks, reserveIn, reserveCall, fillChecks, fillStores, fillIn, fillCall, commitChecks, commitIn, commitCall, takeChecks, takeIn, takeCall, skipAt}
-use Rattle.rings.specs.Use.{Within, Called, by-reserve, by-fill, by-commit, by-take, by-stop}
+use Rattle.rings.specs.Use.{OnlyWithin, firstly, Called, by-reserve, by-fill, by-commit, by-take, by-stop}
 use Rattle.rings.proofs.Capacity.{Capacity, capacity-of, rest4}
 use Rattle.rings.proofs.Cases.{pass-reserve, pass-commit, pass-fill, pass-take}
 use Rattle.wire.proofs.Splices.{leAt-same, stored-here, stored-below, stored-above}
 use Rattle.rings.proofs.Places.{need4}
-use Rattle.rings.proofs.Inner.{Inner, fill-whole}
+use Rattle.rings.proofs.Inner.{Inner, fill-whole, fill-begun}
 use Rattle.rings.proofs.Frame.{Framed, rings-apart, frame-valid, stored-framed, inner-framed}
 use Rattle.rings.proofs.Ends.{reserve-called, fill-called, commit-called, take-called}
 
@@ -180,7 +180,7 @@ module _ {b : List ℕ} {i : ℕ} (bytes : Bytes b) (v : Valid b) (l : i < count
 
 -- bytes within a pair, whatever they are
 module _ {b : List ℕ} {i : ℕ} (v : Valid b) (l : i < countOf b) where
-  pub within-kept : {c : List ℕ} {start end : ℕ} → Within b c (offsetOf b i) (capacityOf b i) start end → Kept-in b c i
+  pub within-kept : {c : List ℕ} {start end : ℕ} → OnlyWithin b c (offsetOf b i) (capacityOf b i) start end → Kept-in b c i
   within-kept {c} {start} {end} w =
       let q = v .queues i l in
       let f = q .inside in
@@ -190,20 +190,33 @@ module _ {b : List ℕ} {i : ℕ} (v : Valid b) (l : i < countOf b) where
       let e : ringAt c o ≡ ringAt b o = rw (num o (omega arith) (omega arith), num (o + 4) (omega arith) (omega arith), num (o + 8) (omega arith) (omega arith), num (o + 12) (omega arith) (omega arith)) in
       record { framed = inner-framed b o (capacityOf b i) f (capacity-of (q .capacity)) n .0; cursors = rw e (q .cursors) }
 
-  -- a fill stores nothing outside its pair
-  pub fill-within : (start end : ℕ) (m : List ℕ) {s : Stores} → fillCall b i start end m ≡ taken (s, tt) → Within b (stored s b) (offsetOf b i) (capacityOf b i) start end
-  fill-within start end m {s} y =
+  -- a fill that is taken: what it stores, and that its pair is as long as that needs
+  fill-says : (start end : ℕ) (m : List ℕ) {s : Stores} → fillCall b i start end m ≡ taken (s, tt)
+      → (s ≡ fillStores (offsetOf b i) (capacityOf b i) start m) × (ahead start end ≡ need (capacityOf b i) start (length m)) × (start % 4 ≡ 0) × (need (capacityOf b i) start (length m) ≤ capacityOf b i)
+  fill-says start end m {s} y =
       let q = v .queues i l in
-      let o : ℕ = offsetOf b i in
-      let r : Ring = ringAt b o in
+      let r : Ring = ringAt b (offsetOf b i) in
       let z = checked-pass (fillChecks r start end (length m)) _ (s, tt) (sym (fill-called v l start end m) ∙ y) in
       let p = pass-fill r start end (length m) (z .0) in
       let near = q .cursors .near in
       let p₂ = p .2 in
-      let e : s ≡ fillStores o (capacityOf b i) start m = rw (q .cursors .same) at (sym (ap (λ (t : Stores × Unit {0}). t .0) (taken-is (z .1)))) in
       let d : ahead start end ≡ need (capacityOf b i) start (length m) = rw (q .cursors .same) at (p .3) in
-      let w = fill-whole (capacity-of (q .capacity)) b o start m (q .inside) (p .0) (omega arith) .0 in
-      rw e (record { long = w .long; else-same = rw d (w .else-same) })
+      (rw (q .cursors .same) at (sym (ap (λ (t : Stores × Unit {0}). t .0) (taken-is (z .1)))), d, p .0, omega arith)
+
+  -- it stores nothing outside its pair, nor does a fill that is stopped after any byte
+  pub fill-within : (start end : ℕ) (m : List ℕ) {s : Stores} → fillCall b i start end m ≡ taken (s, tt) → OnlyWithin b (stored s b) (offsetOf b i) (capacityOf b i) start end
+  fill-within start end m y =
+      let q = v .queues i l in
+      let f = fill-says start end m y in
+      let w = fill-whole (capacity-of (q .capacity)) b (offsetOf b i) start m (q .inside) (f .2) (f .3) .0 in
+      rw (f .0) (record { long = w .long; else-same = rw (f .1) (w .else-same) })
+
+  pub fill-partly : (start end : ℕ) (m : List ℕ) {s : Stores} → fillCall b i start end m ≡ taken (s, tt) → (k : ℕ) → OnlyWithin b (stored (firstly k s) b) (offsetOf b i) (capacityOf b i) start end
+  fill-partly start end m y k =
+      let q = v .queues i l in
+      let f = fill-says start end m y in
+      let w = fill-begun (capacity-of (q .capacity)) b (offsetOf b i) start m (q .inside) (f .2) (f .3) k in
+      rw (f .0) (record { long = w .long; else-same = rw (f .1) (w .else-same) })
 
   -- the region stays whole
   pub kept-valid : {c : List ℕ} → Kept-in b c i → Valid c
@@ -266,6 +279,6 @@ module _ {i : ℕ} {b : List ℕ} (bytes : Bytes b) where
   called-elsewhere {c} {q} v u ne k =
       called-case (λ c. Elsewhere q b c) v (record { long = refl; tables = λ j g. refl; ring = λ j g t. refl; valid = v }) (λ c l w. kept-elsewhere v l u ne w) k
 
-pub fill-stores-within : (b : List ℕ) (q start end : ℕ) (m : List ℕ) {s : Stores} → fillCall b q start end m ≡ taken (s, tt) → Within b (stored s b) (offsetOf b q) (capacityOf b q) start end
+pub fill-stores-within : (b : List ℕ) (q start end : ℕ) (m : List ℕ) {s : Stores} → fillCall b q start end m ≡ taken (s, tt) → (k : ℕ) → OnlyWithin b (stored (firstly k s) b) (offsetOf b q) (capacityOf b q) start end
 unfolding fillCall
-fill-stores-within b q start end m y = let w = asked-whole b q (fillIn b (offsetOf b q) start end m) y in fill-within (w .0) (w .1) start end m y
+fill-stores-within b q start end m y k = let w = asked-whole b q (fillIn b (offsetOf b q) start end m) y in fill-partly (w .0) (w .1) start end m y k

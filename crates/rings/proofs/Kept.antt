@@ -6,7 +6,9 @@ use Prim.Native.Nat.{ℕ, _+_, _-_, _*_, _%_, _≤_, _<_}
 use native.Mathlib.Nat.{mod-eq-of-lt}
 use native.Mathlib.Omega.{arith}
 use lib.ListN.{length, getD}
-use Rattle.answer.specs.Outcome.{taken, Pass}
+use Rattle.answer.specs.Numbers.{TURN}
+use Rattle.answer.specs.Outcome.{taken, refused, Pass}
+use Rattle.answer.specs.Calls.{asked}
 use Rattle.answer.proofs.Checks.{checked-pass}
 use Rattle.answer.proofs.Outcomes.{taken-is, taken-refused}
 use Rattle.wire.specs.Numbers.{leAt, bytesOf, Bytes}
@@ -14,9 +16,9 @@ use Rattle.wire.proofs.Numbers.{leAt-bound}
 use Rattle.region.specs.Region.{ahead, ringAt}
 use Rattle.rings.specs.Records.{moved, size, skip, need}
 use Rattle.rings.specs.Calls.{Stores, stored, reserveChecks, reserveIn, fillChecks, fillStores, fillIn, commitChecks, commitIn, takeIn}
-use Rattle.rings.specs.Use.{Slot, raw, full, lenOf, OpenPair, with, Within}
+use Rattle.rings.specs.Use.{Slot, raw, full, lenOf, OpenPair, with, OnlyWithin}
 use Rattle.rings.proofs.Capacity.{Capacity, inside}
-use Rattle.rings.proofs.Cases.{pass-reserve, fill-pass, pass-fill}
+use Rattle.rings.proofs.Cases.{pass-reserve, fill-pass, pass-fill, commit-other}
 use Rattle.wire.proofs.Splices.{leAt-same}
 use Rattle.rings.proofs.Places.{ahead-of, moved-of, skip-wraps, need4, need-fits, need-size, size-need}
 use Rattle.rings.proofs.Queue.{fulls, endFrom, Here, Holds, endFrom-append, endFrom-up, endFrom-four, there-same}
@@ -222,7 +224,7 @@ module _ {o cap p : ℕ} {b : List ℕ} {ms : List (List ℕ)} (xs : List OpenPa
       let w = fill-whole c b o at m (h .fits) spot-four (need-fits c at (length m) f) in
       rw s₁ (w .0, kept-change (full m) e (rw (← size-need cap at (lenOf (q .slot)) (length m) e) at (w .0)) (w .1))
 
-  kept-stopped : {c : List ℕ} → Within b c o cap (q .start) (q .end) → Kept o c ms (xs ++ with q (raw (lenOf (q .slot))) ∷ ys)
+  kept-stopped : {c : List ℕ} → OnlyWithin b c o cap (q .start) (q .end) → Kept o c ms (xs ++ with q (raw (lenOf (q .slot))) ∷ ys)
   kept-stopped {c} w =
       let at : ℕ = spot cap p ms xs in
       let w₀ : Inner b c o cap (q .start) (ahead (q .start) (q .end)) = record { long = w .long; else-same = w .else-same } in
@@ -247,10 +249,10 @@ module _ {o : ℕ} {b : List ℕ} {ms : List (List ℕ)} (xs : List OpenPair) (q
       let w = kept-filled xs q ys whole (k .paired) m y in
       record { cap = k .cap; from = spot (k .cap) (k .p) ms xs; bytes = need (k .cap) (spot (k .cap) (k .p) ms xs) (length m); capacity-there = k .holds .capacity-there; inner = w .0; kept = w .1 }
 
-  pub kept-stops : {c : List ℕ} {cap : ℕ} → leAt 4 b (o + 12) ≡ cap → Within b c o cap (q .start) (q .end) → Filling o b c ms (xs ++ with q (raw (lenOf (q .slot))) ∷ ys)
+  pub kept-stops : {c : List ℕ} {cap : ℕ} → leAt 4 b (o + 12) ≡ cap → OnlyWithin b c o cap (q .start) (q .end) → Filling o b c ms (xs ++ with q (raw (lenOf (q .slot))) ∷ ys)
   kept-stops {c} {cap} e w =
       let z : cap ≡ k .cap = sym e ∙ k .holds .capacity-there in
-      let w₁ : Within b c o (k .cap) (q .start) (q .end) = rw z at w in
+      let w₁ : OnlyWithin b c o (k .cap) (q .start) (q .end) = rw z at w in
       record {
         cap = k .cap;
         from = q .start;
@@ -263,6 +265,28 @@ module _ {o : ℕ} {b : List ℕ} {ms : List (List ℕ)} (xs : List OpenPair) (q
   -- fill takes the pair that is handed on to it, for as many bytes as were asked for
   pub fill-passes : (m : List ℕ) → length m ≡ lenOf (q .slot) → Pass (fillChecks (ringAt b o) (q .start) (q .end) (length m))
   fill-passes m e = fill-taken xs q ys whole (k .paired) (length m) (ap (λ (n : ℕ). size n) e)
+
+-- a pair behind another starts behind the commit cursor, by less than a turn of the ring
+pub later-commit : {o : ℕ} {b : List ℕ} {ms : List (List ℕ)} (first : OpenPair) (xs : List OpenPair) (q : OpenPair) (ys : List OpenPair) → Kept o b ms (first ∷ xs ++ q ∷ ys)
+    → refused TURN 0 ≡ asked (commitChecks (ringAt b o) (q .start) (q .end))
+later-commit {o} {b} {ms} first xs q ys k =
+    let cap : ℕ = k .cap in
+    let p : ℕ = k .p in
+    let c : ℕ = endFrom cap p (fulls ms) in
+    let h = whole (first ∷ xs) q ys k in
+    let at : ℕ = spot cap p ms (first ∷ xs) in
+    let s : q .start ≡ at % 4294967296 = starts (first ∷ xs) q ys h (k .paired) in
+    let e : q .end ≡ (at + need cap at (lenOf (q .slot))) % 4294967296 = ends (first ∷ xs) q ys h (k .paired) in
+    let f : at % 4 ≡ 0 = spot-four (first ∷ xs) q ys h (k .paired) in
+    let f₁ : (at + need cap at (lenOf (q .slot))) % 4 ≡ 0 = need4 (h .capacity) at (lenOf (q .slot)) f in
+    let on = endFrom-up cap (c + need cap c (lenOf (first .slot))) (slots xs) in
+    let so : endFrom cap (c + need cap c (lenOf (first .slot))) (slots xs) ≡ at = spot-so (first ∷ xs) q ys h (k .paired) in
+    let near = spot-end (first ∷ xs) q ys h (k .paired) in
+    let room = h .room in
+    let most = h .capacity .most in
+    let up : p ≤ c = endFrom-up cap p (fulls ms) in
+    let t = h .commit-there in
+    commit-other (ringAt b o) (q .start) (q .end) (rw s (omega arith)) (rw e (omega arith)) (λ z. omega arith)
 
 module _ {o : ℕ} {b : List ℕ} {ms : List (List ℕ)} {ys : List OpenPair} (q : OpenPair) (m : List ℕ) (e : q .slot ≡ full m) (k : Kept o b ms (q ∷ ys)) where
   pub commit-passes : Pass (commitChecks (ringAt b o) (q .start) (q .end))

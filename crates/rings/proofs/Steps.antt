@@ -17,18 +17,18 @@ use Rattle.region.specs.declared.Ring.{Ring}
 use Rattle.region.specs.Region.{ahead, ringAt}
 use Rattle.region.specs.Valid.{Consistent}
 use Rattle.rings.specs.Records.{size, rest, skip, need, marker}
-use Rattle.rings.specs.Calls.{Stores, commitChecks, takeChecks, takeFrom, takeIn, skipAt}
+use Rattle.rings.specs.Calls.{Stores, stored, commitChecks, takeChecks, takeFrom, takeIn, skipAt}
 use Rattle.rings.specs.Use.{Slot, raw, full, lenOf}
 use Rattle.rings.proofs.Capacity.{Capacity, wraps, inside}
 use Rattle.rings.proofs.Cases.{commit-pass, take-pass, take-empty}
-use Rattle.wire.proofs.Splices.{stored-long, stored-byte-above, stored-here, stored-below, stored-above}
+use Rattle.wire.proofs.Splices.{part, part-same, stored-long, stored-byte-above, stored-here, stored-below, stored-above}
 use Rattle.rings.proofs.Places.{skips, Skips, stays, jumps, need4, record-fits, ahead-of, moved-of}
 use Rattle.rings.proofs.Queue.{fulls, endFrom, Laid, There, Same, Holds, endFrom-append, endFrom-up, endFrom-four, there-same}
 
 -- ---- a cursor is stored: nothing else of the ring moves
 
 module _ {b : List ℕ} {o cap p : ℕ} {ms : List (List ℕ)} {ss : List Slot} (h : Holds b o cap p ms ss) where
-  -- the aheadances, and that the ring is sound
+  -- the distances, and that the ring is sound
   commit-up : p ≤ endFrom cap p (fulls ms)
   commit-up = endFrom-up cap p (fulls ms)
 
@@ -238,3 +238,15 @@ module _ {b : List ℕ} {o cap p : ℕ} {ss : List Slot} where
         room = let r = h .room in omega arith;
         there = there-same (h .capacity) b (splice o (bytesOf 4 x) b) o f l q (fulls ms ++ ss) (need4 (h .capacity) p (length m) (h .four)) (cursor-data b o cap o x f (omega arith) (omega arith) q _) (h .there .2);
       }
+
+  -- the payload stands where the take said, also when head has moved
+  pub take-payload : {m : List ℕ} {ms : List (List ℕ)} → Holds b o cap p (m ∷ ms) ss → part (length m) (takenAt o cap p m .1 .0) (stored (takenAt o cap p m .0) b) ≡ m
+  take-payload {m} {ms} h =
+      let x : ℕ = (p + need cap p (length m)) % 4294967296 in
+      let at : ℕ = o + 16 + (p + skip cap p (length m)) % cap + 4 in
+      let f = h .fits in
+      let big = h .there .0 in
+      let fit = record-fits (h .capacity) p (length m) (omega arith) in
+      part-same (length m) at b (splice o (bytesOf 4 x) b) (omega arith) (cursor-long b o cap o x f (omega arith) (omega arith))
+      (λ i g. stored-byte-above 4 x o b (omega arith) (at + i) (omega arith))
+      ∙ h .there .1 .payload

@@ -1,24 +1,26 @@
 -- The promise is kept: whatever the use of a ring comes to, the taker finds the committed messages, whole and in order, and nothing else. Assumes nothing.
-use mathlib.Core.Path.{_≡_, sym, _∙_}
+use mathlib.Core.Path.{_≡_, refl, ap, sym, _∙_}
 use mathlib.Core.Logic.{_⊎_, inl, inr, ⊎-elim}
-use mathlib.Core.List.{List, [], _∷_, _++_}
+use mathlib.Core.List.{List, [], _∷_, _++_, append-assoc, append-nil}
 use Prim.Native.Nat.{ℕ, _+_, _*_, _≤_, _<_}
 use native.Mathlib.Omega.{arith}
-use lib.ListN.{length, drop}
-use Rattle.answer.specs.Outcome.{taken}
-use Rattle.answer.proofs.Checks.{pass-checked}
+use lib.ListN.{length, drop, length-drop, length-append}
+use lib.Seq.{drop-drop, drop-append-le, drop-append-seam}
+use Rattle.answer.specs.Numbers.{TURN}
+use Rattle.answer.specs.Outcome.{taken, refused}
+use Rattle.answer.proofs.Checks.{pass-checked, asked-stop}
 use Rattle.wire.specs.Numbers.{leAt}
 use Rattle.region.specs.Region.{countOf, offsetOf, capacityOf, ringAt}
 use Rattle.region.specs.Valid.{Consistent, Valid}
-use Rattle.rings.specs.Calls.{Stores, stored, changed, fillChecks, commitChecks, takeCall}
-use Rattle.rings.specs.Use.{Message, Messages, OpenPairs, OpenPair, Used, begins, reserves, fills, stops, commits, takes, others, Next, Drains, afterTakes, Stopped, unreserved, reserved, filling, filled, committed, Promise, Besides}
+use Rattle.rings.specs.Calls.{Stores, stored, fillChecks, fillCall, commitChecks, commitCall, takeCall}
+use Rattle.rings.specs.Use.{Message, Messages, OpenPairs, OpenPair, full, lenOf, Step, reserves, fills, stops, commits, takes, others, Used, begins, steps, Course, at-rest, step, Next, Drains, Stopped, unreserved, reserved, filling, filled, committed}
 use Rattle.rings.proofs.Capacity.{capacity-of}
 use Rattle.wire.proofs.Splices.{leAt-same}
-use Rattle.rings.proofs.Steps.{cursors-held, take-none, take-first}
+use Rattle.rings.proofs.Steps.{cursors-held, take-none, take-first, take-payload}
 use Rattle.rings.proofs.Inner.{Inner}
 use Rattle.rings.proofs.Ends.{reserve-called, fill-called, commit-called, take-called}
-use Rattle.rings.proofs.Keeps.{Elsewhere, called-valid, called-elsewhere, fill-stores-within}
-use Rattle.rings.proofs.Kept.{Kept, One, Filling, kept-begin, kept-reserves, kept-fills, kept-stops, kept-commits, kept-takes, kept-none, kept-others, fill-passes, commit-passes}
+use Rattle.rings.proofs.Keeps.{Elsewhere, called-elsewhere}
+use Rattle.rings.proofs.Kept.{Kept, One, Filling, kept-begin, kept-reserves, kept-fills, kept-stops, kept-commits, kept-takes, kept-none, kept-others, fill-passes, commit-passes, later-commit}
 use Rattle.rings.proofs.Frame.{Framed, frame-count, frame-offset, frame-valid, stored-framed, inner-framed}
 
 -- ---- what every step keeps
@@ -65,6 +67,17 @@ up-takes : {q : ℕ} {b : List ℕ} (ms : List (List ℕ)) {ps : List OpenPair} 
 up-takes [] u y = absurd (kept-none (u .kept) (sym (take-called (u .valid) (u .queue)) ∙ y))
 up-takes (m ∷ ms) u y = let w = kept-takes (u .kept) (sym (take-called (u .valid) (u .queue)) ∙ y) in up-one u (w .0) (w .1)
 
+-- one step of the use
+up-step-of : {q : ℕ} {b c : List ℕ} {ms ns : List (List ℕ)} {ps qs : List OpenPair} {k : ℕ} → Up q b ms ps → Step q b ms ps c ns qs k → Up q c ns qs
+up-step-of k (reserves n y) = let w = kept-reserves (k .kept) n (sym (reserve-called (k .valid) (k .queue) n) ∙ y) in up-one k (w .0) (w .1)
+up-step-of k (fills xs p ys m y) = up-filling k (kept-fills xs p ys (k .kept) m (sym (fill-called (k .valid) (k .queue) (p .start) (p .end) m) ∙ y))
+up-step-of k (stops xs p ys w) = up-filling k (kept-stops xs p ys (k .kept) (here k) w)
+up-step-of k (commits {p = p} {m = m} e y) =
+    let w = kept-commits p m e (k .kept) (sym (commit-called (k .valid) (k .queue) (p .start) (p .end)) ∙ y) in
+    up-one k (w .0) (w .1)
+up-step-of k (takes {ms = ms} y) = up-takes ms k y
+up-step-of k (others i y ne h) = up-others k (called-elsewhere y (k .valid) (k .queue) ne h)
+
 pub up : {q : ℕ} {b : List ℕ} {ms : List (List ℕ)} {ps : List OpenPair} → Used q b ms ps → Up q b ms ps
 up {q} {b} (begins y v l e) =
     let k = v .queues q l in
@@ -73,64 +86,80 @@ up {q} {b} (begins y v l e) =
       queue = l;
       kept = kept-begin y (rw (k .cursors .same) (k .inside)) (rw (k .cursors .same) (capacity-of (k .capacity))) (k .cursors .head4) (e .0) (e .1);
     }
-up (reserves u n y) =
-    let k = up u in
-    let w = kept-reserves (k .kept) n (sym (reserve-called (k .valid) (k .queue) n) ∙ y) in
-    up-one k (w .0) (w .1)
-up (fills xs p ys u m y) =
-    let k = up u in
-    up-filling k (kept-fills xs p ys (k .kept) m (sym (fill-called (k .valid) (k .queue) (p .start) (p .end) m) ∙ y))
-up (stops xs p ys u w) =
-    let k = up u in
-    up-filling k (kept-stops xs p ys (k .kept) (here k) w)
-up (commits {p = p} {m = m} u e y) =
-    let k = up u in
-    let w = kept-commits p m e (k .kept) (sym (commit-called (k .valid) (k .queue) (p .start) (p .end)) ∙ y) in
-    up-one k (w .0) (w .1)
-up (takes {ms = ms} u y) = up-takes ms (up u) y
-up (others i u y ne h) =
-    let k = up u in
-    up-others k (called-elsewhere y (k .valid) (k .queue) ne h)
+up (steps u y) = up-step-of (up u) y
 
--- ---- the promise
+-- ---- what the taker finds
 
 pub comes : {q : ℕ} {b : List ℕ} (ms : List (List ℕ)) {ps : List OpenPair} → Used q b ms ps → Drains q b ms
 comes [] u = let k = up u in take-called (k .valid) (k .queue) ∙ take-none (k .kept .holds)
 comes (m ∷ ms) u =
     let k = up u in
     let f = take-called (k .valid) (k .queue) ∙ take-first (k .kept .holds) in
-    (record { stores = _; place = _; found = f; payload = k .kept .holds .there .1 .payload }, rw f (comes ms (takes u f)))
-
-drains-turn : (q : ℕ) (b m : List ℕ) (before behind : List (List ℕ)) → Drains q b (before ++ m ∷ behind) → Next q (afterTakes q (length before) b) m
-drains-turn q b m [] behind d = d .0
-drains-turn q b m (x ∷ before) behind d = drains-turn q (changed (takeCall b q) b) m before behind (d .1)
+    (record { stores = _; place = _; found = f; payload = take-payload (k .kept .holds) }, rw f (comes ms (steps u (takes f))))
 
 pub goes-on : {q : ℕ} {m : Message} {b c : List ℕ} {ms : Messages} {ps : OpenPairs} → Used q b ms ps → Stopped q m b ps c → (now : OpenPairs) × (Used q c ms now ⊎ Used q c (ms ++ m ∷ []) now)
 goes-on {ps = ps} u unreserved = (ps, inl u)
-goes-on {m = m} u (reserved y) = (_, inl (reserves u (length m) y))
-goes-on u (filling xs p ys w) = (_, inl (stops xs p ys u w))
-goes-on {m = m} u (filled xs p ys y) = (_, inl (fills xs p ys u m y))
-goes-on u (committed e y) = (_, inr (commits u e y))
+goes-on {m = m} u (reserved y) = (_, inl (steps u (reserves (length m) y)))
+goes-on u (filling xs p ys w) = (_, inl (steps u (stops xs p ys w)))
+goes-on {m = m} u (filled xs p ys y) = (_, inl (steps u (fills xs p ys m y)))
+goes-on u (committed e y) = (_, inr (steps u (commits e y)))
 
 pub none-or-all : {q : ℕ} {m : Message} {b c : List ℕ} (ms : Messages) {ps : OpenPairs} → Used q b ms ps → Stopped q m b ps c → Drains q c ms ⊎ Drains q c (ms ++ m ∷ [])
 none-or-all {m = m} ms u s = ⊎-elim (λ v. inl (comes ms v)) (λ v. inr (comes (ms ++ m ∷ []) v)) (goes-on u s .1)
 
-pub promise : Promise
-promise = record {
-  comes = λ {ms = ms} u. comes ms u;
-  none-or-all = λ {ms = ms} u s. none-or-all ms u s;
-  in-turn = λ {q} {m} {b} before behind u. drains-turn q b m before behind (comes (before ++ m ∷ behind) u);
-}
+-- ---- a message in its turn
 
-pub besides : Besides
-besides = record {
-  goes-on = λ u s. goes-on u s;
-  fill-taken = λ {q} {b} xs p ys u m e.
-      let k = up u in
-      (_, fill-called (k .valid) (k .queue) (p .start) (p .end) m ∙ pass-checked (fillChecks (ringAt b (offsetOf b q)) (p .start) (p .end) (length m)) _ (fill-passes xs p ys (k .kept) m e));
-  commit-taken = λ {q} {m} {b} {p = p} u e.
-      let k = up u in
-      (_, commit-called (k .valid) (k .queue) (p .start) (p .end) ∙ pass-checked (commitChecks (ringAt b (offsetOf b q)) (p .start) (p .end)) _ (commit-passes p m e (k .kept)));
-  fill-within = λ b q start end m y. fill-stores-within b q start end m y;
-  stays = λ y v k. called-valid y v k;
-}
+-- whatever happens, the messages that wait are those that waited, less those taken, and newer ones behind them
+pub course-used : {q : ℕ} {b c : List ℕ} {ms ns : Messages} {ps qs : OpenPairs} {k : ℕ} → Used q b ms ps → Course q b ms ps c ns qs k → Used q c ns qs
+course-used u at-rest = u
+course-used u (step y r) = course-used (steps u y) r
+
+step-waits : {q : ℕ} {b c : List ℕ} {ms ns : Messages} {ps qs : OpenPairs} {j : ℕ} → Step q b ms ps c ns qs j → (more : Messages) × (ns ≡ drop j ms ++ more)
+step-waits (reserves n y) = ([], rw append-nil)
+step-waits (fills xs p ys m y) = ([], rw append-nil)
+step-waits (stops xs p ys w) = ([], rw append-nil)
+step-waits (commits {m = m} e y) = (m ∷ [], refl)
+step-waits (takes y) = ([], rw append-nil)
+step-waits (others i y ne h) = ([], rw append-nil)
+
+course-waits : {q : ℕ} {b c : List ℕ} {ms ns : Messages} {ps qs : OpenPairs} {k : ℕ} → Course q b ms ps c ns qs k → k ≤ length ms → (more : Messages) × (ns ≡ drop k ms ++ more)
+course-waits at-rest h = ([], rw append-nil)
+course-waits {ms = ms} (step {ns = ns} {os = os} {j = j} {k = k} y r) h =
+    let w = step-waits y in
+    let e = length-drop j ms in
+    let z = length-append (drop j ms) (w .0) in
+    let n : length ns ≡ length (drop j ms ++ w .0) = ap length (w .1) in
+    let v = course-waits r (omega arith) in
+    let a : os ≡ drop k (drop j ms ++ w .0) ++ v .0 = v .1 ∙ ap (λ (x : Messages). drop k x ++ v .0) (w .1) in
+    (w .0 ++ v .0, a ∙ rw (drop-append-le k (drop j ms) (w .0) (omega arith), drop-drop k j ms, append-assoc))
+
+pub in-turn : {q : ℕ} {m : Message} {b c : List ℕ} (before behind : Messages) {ns : Messages} {ps qs : OpenPairs}
+    → Used q b (before ++ m ∷ behind) ps → Course q b (before ++ m ∷ behind) ps c ns qs (length before) → Next q c m
+in-turn {q} {m} {b} {c} before behind {ns} {ps} {qs} u r =
+    let w = course-waits r (rw (length-append) (omega arith)) in
+    let e : ns ≡ m ∷ (behind ++ w .0) = w .1 ∙ rw (drop-append-seam before (m ∷ behind)) in
+    let v : Used q c (m ∷ (behind ++ w .0)) qs = rw e at (course-used u r) in
+    comes (m ∷ (behind ++ w .0)) v .0
+
+-- ---- pairs that are handed on
+
+-- fill takes a pair that is handed on to it as answered, for as many bytes as were asked for
+pub fill-takes : {q : ℕ} {b : List ℕ} {ms : Messages} (xs : OpenPairs) (p : OpenPair) (ys : OpenPairs) → Used q b ms (xs ++ p ∷ ys)
+    → (m : Message) → length m ≡ lenOf (p .slot) → (s : Stores) × (fillCall b q (p .start) (p .end) m ≡ taken (s, tt))
+fill-takes {q} {b} xs p ys u m e =
+    let k = up u in
+    (_, fill-called (k .valid) (k .queue) (p .start) (p .end) m ∙ pass-checked (fillChecks (ringAt b (offsetOf b q)) (p .start) (p .end) (length m)) _ (fill-passes xs p ys (k .kept) m e))
+
+-- and commit the first one, once it is filled
+pub commit-takes : {q : ℕ} {m : Message} {b : List ℕ} {ms : Messages} {p : OpenPair} {ps : OpenPairs} → Used q b ms (p ∷ ps)
+    → p .slot ≡ full m → (s : Stores) × (commitCall b q (p .start) (p .end) ≡ taken (s, tt))
+commit-takes {q} {m} {b} {p = p} u e =
+    let k = up u in
+    (_, commit-called (k .valid) (k .queue) (p .start) (p .end) ∙ pass-checked (commitChecks (ringAt b (offsetOf b q)) (p .start) (p .end)) _ (commit-passes p m e (k .kept)))
+
+-- a later one has to wait for its turn
+pub commit-waits : {q : ℕ} {b : List ℕ} {ms : Messages} (first : OpenPair) (xs : OpenPairs) (p : OpenPair) (ys : OpenPairs) → Used q b ms (first ∷ xs ++ p ∷ ys)
+    → commitCall b q (p .start) (p .end) ≡ refused TURN 0
+commit-waits {q} {b} first xs p ys u =
+    let k = up u in
+    commit-called (k .valid) (k .queue) (p .start) (p .end) ∙ asked-stop (commitChecks (ringAt b (offsetOf b q)) (p .start) (p .end)) _ (later-commit first xs p ys (k .kept))

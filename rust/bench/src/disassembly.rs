@@ -10,7 +10,7 @@ use std::process::Command;
 /// The library that is linked.
 const ARCHIVE: &str = concat!(env!("CARGO_MANIFEST_DIR"), "/../../target/staticlib/libcimbrolau.a");
 
-/// The calls that copy bytes of any number.
+/// The calls that copy bytes of any number, in parts.
 const WRITERS: [&str; 5] = [
     "cimbrolau_canonical",
     "cimbrolau_add_device",
@@ -18,6 +18,9 @@ const WRITERS: [&str; 5] = [
     "cimbrolau_wrapper_canonical",
     "cimbrolau_message_write",
 ];
+
+/// The call that copies a payload into a ring: at once, since none is longer than a part.
+const FILL: &str = "cimbrolau_ring_fill";
 
 /// The bytes in a part, and the array's size.
 const PART: u64 = 0x10000;
@@ -40,6 +43,13 @@ struct Function {
     calls: Vec<String>,
     moves_parts: bool,
     stack: u64,
+}
+
+impl Function {
+    /// Whether it moves bytes of any number at once.
+    fn moves(&self) -> bool {
+        self.calls.iter().any(|call| call == "memmove" || call == "memcpy")
+    }
 }
 
 /// What was found in the machine code.
@@ -75,10 +85,14 @@ fn judged(listing: &str) -> Result<Found, String> {
     }
     let mut found = Vec::new();
     for writer in WRITERS {
-        match mover(writer, &functions) {
+        match reached(writer, &functions, |function| function.moves_parts) {
             Some(name) => found.push(format!("`{writer}` in `{name}`")),
             None => return Err(format!("the copy of {writer} is no longer a memmove")),
         }
+    }
+    match reached(FILL, &functions, Function::moves) {
+        Some(name) => found.push(format!("`{FILL}` in `{name}`")),
+        None => return Err(format!("the copy of {FILL} is no longer a memmove")),
     }
     let calls = functions.keys().filter(|name| name.starts_with("cimbrolau_"));
     let stack = calls.map(|call| depth(call, &functions)).max().unwrap_or(0);
@@ -92,14 +106,18 @@ fn depth(name: &str, functions: &BTreeMap<String, Function>) -> u64 {
     RETURN + function.stack + below.map(|call| depth(call, functions)).max().unwrap_or(0)
 }
 
-/// The first function that moves parts, among a function and those it calls.
-fn mover<'a>(start: &'a str, functions: &'a BTreeMap<String, Function>) -> Option<&'a str> {
+/// The first function of which this holds, among a function and those it calls.
+fn reached<'a>(
+    start: &'a str,
+    functions: &'a BTreeMap<String, Function>,
+    holds: impl Fn(&Function) -> bool,
+) -> Option<&'a str> {
     let mut reached = vec![start];
     let mut next = 0;
     while let Some(name) = reached.get(next).copied() {
         next += 1;
         let Some(function) = functions.get(name) else { continue };
-        if function.moves_parts {
+        if holds(function) {
             return Some(name);
         }
         for call in &function.calls {
@@ -213,11 +231,23 @@ mod tests {
 \t\t\t1b4: R_X86_64_PLT32\tmemmove-0x4
 ";
 
-    /// A listing in which each writer calls `writer::write`, with the body given.
+    /// A listing in which each writer calls `writer::write`, with the body given, and the fill moves bytes itself.
     fn listing(body: &str) -> String {
         let call = "   0:\tcall   5\n\t\t\t1: R_X86_64_PLT32\t.text.writer::write-0x4";
         let writers = WRITERS.map(|writer| format!("0000000000000000 <{writer}>:\n{call}\n"));
-        format!("{}{body}", writers.concat())
+        format!("{}{FILLS}{body}", writers.concat())
+    }
+
+    const FILLS: &str =
+        "0000000000000000 <cimbrolau_ring_fill>:\n\t\t\t1: R_X86_64_PLT32\tmemmove-0x4\n";
+
+    #[test]
+    fn a_fill_that_moves_no_bytes_is_found() {
+        let whole = listing(MOVES);
+        assert!(judged(&whole).unwrap().copies.ends_with("`cimbrolau_ring_fill`"));
+        let slow = whole.replace(FILLS, &FILLS.replace("memmove", "rings::store"));
+        assert!(judged(&slow).is_err());
+        assert!(judged(&whole.replace(FILLS, "")).is_err());
     }
 
     #[test]

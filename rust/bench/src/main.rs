@@ -1,7 +1,8 @@
 //! Measures the proved library beside the reference, `memcpy` and `from_utf8`, and prints a table of ratios.
 //!
 //! It fails if the library's copy is no longer a `memmove`, or if the library and the reference answer differently.
-//! A ratio over its target is told, and is no failure: times depend on the machine.
+//! A ratio over its target is told, and is no failure: times depend on the machine. A word as argument measures only the
+//! rows of that name: `sizes`, `counts`, `texts`, `messages` or `rings`.
 
 mod contest;
 mod disassembly;
@@ -12,6 +13,12 @@ use rows::Row;
 use std::process::ExitCode;
 
 fn main() -> ExitCode {
+    let wanted = std::env::args().nth(1);
+    let chosen = |name: &str| wanted.as_ref().is_none_or(|word| word == name);
+    if !rows::GROUPS.iter().any(|(name, _)| chosen(name)) {
+        eprintln!("there are no such rows; see the first lines of rust/bench/src/main.rs");
+        return ExitCode::FAILURE;
+    }
     match disassembly::look() {
         Ok(found) => {
             println!("The library's copy is a `memmove`: {}.\n", found.copies);
@@ -28,28 +35,45 @@ fn main() -> ExitCode {
     println!("| call | input | library | peer | ratio | target | | of memcpy |");
     println!("|---|---|---:|---:|---:|---:|---|---:|");
     let (mut met, mut missed) = (0, Vec::new());
-    rows::all(&mut |row| {
+    let mut tell = |row: Row| {
         println!("{}", line(&row));
         if row.met() {
             met += 1;
         } else {
             missed.push(format!(
                 "- {}, {}: {:.2}, target {}",
-                row.call, row.input, row.ratio, row.target
+                row.call,
+                row.input,
+                row.ratio,
+                target(&row)
             ));
         }
-    });
+    };
+    for (name, measure) in rows::GROUPS {
+        if chosen(name) {
+            measure(&mut tell);
+        }
+    }
     println!("\n{met} targets met, {} not met; load {} at the end", missed.len(), load());
     missed.iter().for_each(|row| println!("{row}"));
     ExitCode::SUCCESS
 }
 
 fn line(row: &Row) -> String {
-    let Row { call, input, peer, ratio, target, .. } = row;
+    let Row { call, input, peer, ratio, .. } = row;
+    let target = target(row);
     let (library, other) = (time(row.library), time(row.other));
     let verdict = if row.met() { "met" } else { "not met" };
     let of_memcpy = row.of_memcpy.map_or(String::new(), |ratio| format!("{ratio:.2}"));
     format!("| {call} | {input} | {library} | {other} ({peer}) | {ratio:.2} | {target} | {verdict} | {of_memcpy} |")
+}
+
+/// The ratio that a row may have, and the time where that has a bound of its own.
+fn target(row: &Row) -> String {
+    match row.most {
+        Some(most) => format!("{}, {}", row.target, time(most)),
+        None => row.target.to_string(),
+    }
 }
 
 /// A time in a unit that suits it.

@@ -2,6 +2,7 @@
 
 use crate::contest::{contest, contestant, Outcome};
 use crate::inputs::{self, Order};
+use cimbrolau::region::{layout, Plan};
 use cimbrolau::{raw, Level, Message};
 use std::hint::black_box;
 
@@ -16,13 +17,15 @@ pub struct Row {
     pub other: f64,
     pub ratio: f64,
     pub target: f64,
+    /// The most nanoseconds that the library may take, where there is such a bound.
+    pub most: Option<f64>,
     /// The library's time over that of one `memcpy` of the file, for calls that write files.
     pub of_memcpy: Option<f64>,
 }
 
 impl Row {
     pub fn met(&self) -> bool {
-        self.ratio <= self.target
+        self.ratio <= self.target && self.most.is_none_or(|most| self.library <= most)
     }
 }
 
@@ -39,13 +42,17 @@ struct Case<'a> {
 
 const MIB: usize = 1 << 20;
 
-/// Measures all rows.
-pub fn all(tell: Tell) {
-    sizes(tell);
-    counts(tell);
-    texts(tell);
-    messages(tell);
-}
+/// What some rows measure, and how they are measured.
+type Group = (&'static str, fn(Tell));
+
+/// All rows.
+pub const GROUPS: [Group; 5] = [
+    ("sizes", sizes),
+    ("counts", counts),
+    ("texts", texts),
+    ("messages", messages),
+    ("rings", rings),
+];
 
 /// The reference beside itself, on a short call and on a long one: how far a ratio can be trusted in this run.
 pub fn controls() -> (f64, f64) {
@@ -243,6 +250,102 @@ fn write_row(bytes: &[u8], input: &str) -> Row {
     row("message_write", input, "reference", MESSAGES, &contest(&contestants, &mut out))
 }
 
+/// The most that the library may take beside the reference's ring.
+const RINGS: f64 = 1.0;
+
+/// Messages passed over a ring, a payload filled in, and regions checked.
+fn rings(tell: Tell) {
+    for size in [16, 64, 256, 1024, 4096] {
+        tell(passing_row(size));
+    }
+    tell(fill_row(4096));
+    for queues in [1, 8, 64] {
+        tell(region_row(queues));
+    }
+}
+
+/// A region of a command and an event queue, with room for four of the largest records measured.
+fn two_queues() -> Vec<u8> {
+    let plans = [0, 1].map(|kind| Plan { kind, capacity: 32 << 10 });
+    layout(&plans).expect("a region that is taken")
+}
+
+/// One message from its reservation to the taker: four calls.
+fn passing_row(size: usize) -> Row {
+    let payload = vec![0x5A; size];
+    let mut region = two_queues();
+    let mut other = region.clone();
+    // Some rounds first: the two agree on every answer and every byte, past the ring's end too.
+    for _ in 0..(64 << 10) / size {
+        assert_eq!(pass(&mut region, &payload), pass_in_reference(&mut other, &payload));
+        assert!(region == other, "{size} bytes passed: the regions differ");
+    }
+    let contestants = [
+        contestant(|region| pass(region, black_box(&payload))),
+        contestant(|region| pass_in_reference(region, black_box(&payload))),
+    ];
+    let outcome = contest(&contestants, &mut region);
+    let input = format!("{size} B, 2 queues");
+    row("reserve, fill, commit, take", &input, "reference", RINGS, &outcome)
+}
+
+/// Where the payload was taken.
+fn pass(region: &mut [u8], payload: &[u8]) -> (u64, u64) {
+    let pair = raw::ring_reserve(region, 0, payload.len() as u64);
+    let filled = raw::ring_fill(region, 0, pair.start, pair.end, payload);
+    let committed = raw::ring_commit(region, 0, pair.start, pair.end);
+    let taken = raw::ring_take(region, 0);
+    assert_eq!((pair.number, filled.number, committed.number, taken.number), (0, 0, 0, 0));
+    (taken.payload_place, taken.payload_length)
+}
+
+/// The same, word for word.
+fn pass_in_reference(region: &mut [u8], payload: &[u8]) -> (u64, u64) {
+    let pair = reference::ring_reserve(region, 0, payload.len() as u64);
+    let filled = reference::ring_fill(region, 0, pair.start, pair.end, payload);
+    let committed = reference::ring_commit(region, 0, pair.start, pair.end);
+    let taken = reference::ring_take(region, 0);
+    assert_eq!((pair.number, filled.number, committed.number, taken.number), (0, 0, 0, 0));
+    (taken.payload_place, taken.payload_length)
+}
+
+/// One pair filled again and again, beside `memcpy`.
+fn fill_row(size: usize) -> Row {
+    let payload = vec![0x5A; size];
+    let mut region = two_queues();
+    let pair = raw::ring_reserve(&mut region, 0, size as u64);
+    let fill = |region: &mut [u8], payload: &[u8]| {
+        raw::ring_fill(region, 0, pair.start, pair.end, payload).number
+    };
+    assert_eq!(fill(&mut region, &payload), 0, "fill of {size} bytes: refused");
+    // Behind header, descriptors, ring header and length: where the payload stands.
+    let start = 16 + 2 * 16 + 16 + 4;
+    let contestants = [
+        contestant(|region| fill(region, black_box(&payload))),
+        contestant(|region| region[start..start + size].copy_from_slice(black_box(&payload))),
+    ];
+    let outcome = contest(&contestants, &mut region);
+    row("fill", &format!("{size} B, 2 queues"), "memcpy", FILL, &outcome)
+}
+
+/// The most that a fill may take beside `memcpy`: it checks the region too.
+const FILL: f64 = 2.0;
+
+/// A region checked; the one with all its queues within a microsecond.
+fn region_row(queues: u32) -> Row {
+    let plans: Vec<Plan> = (0..queues).map(|kind| Plan { kind, capacity: 4096 }).collect();
+    let region = layout(&plans).expect("a region that is taken");
+    assert_eq!(reference::region_check(&region).number, 0, "{queues} queues: they differ");
+    let contestants = [
+        contestant(|_| raw::region_check(black_box(&region))),
+        contestant(|_| reference::region_check(black_box(&region))),
+    ];
+    let input = format!("{queues} {}", if queues == 1 { "queue" } else { "queues" });
+    let outcome = contest(&contestants, &mut []);
+    let most = (queues == 64).then_some(1000.0);
+    Row { most, ..row("region_check", &input, "reference", RINGS, &outcome) }
+}
+
 fn row(call: &'static str, input: &str, peer: &'static str, target: f64, outcome: &Outcome) -> Row {
     Row {
         call,
@@ -252,6 +355,7 @@ fn row(call: &'static str, input: &str, peer: &'static str, target: f64, outcome
         other: outcome.nanoseconds[1],
         ratio: outcome.ratios[1],
         target,
+        most: None,
         of_memcpy: outcome.ratios.get(2).copied(),
     }
 }

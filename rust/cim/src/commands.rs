@@ -4,9 +4,10 @@ use crate::failure::Failure;
 use crate::files;
 use crate::help;
 use crate::words::Words;
+use cimbrolau::region::{self, Cursors, Queue, Region};
 use cimbrolau::snapshot::{self, Device, Disk, Section};
 use cimbrolau::wrapper::{self, Controller};
-use cimbrolau::Message;
+use cimbrolau::{Kind, Message, Refusal};
 use std::ffi::OsStr;
 use std::fmt::Write;
 use std::os::unix::ffi::OsStrExt;
@@ -39,6 +40,7 @@ pub const ALL: &[Command] = &[
     },
     Command { name: "wrapper", help: help::WRAPPER, options: &[], run: wrapper },
     Command { name: "message", help: help::MESSAGE, options: &["--hex"], run: message },
+    Command { name: "region", help: help::REGION, options: &[], run: region },
 ];
 
 fn check(words: &Words) -> Result<(), Failure> {
@@ -123,7 +125,14 @@ fn message(words: &Words) -> Result<(), Failure> {
             }
         }
     };
-    let message = Message::read(&bytes)?;
+    let mut text = told(&bytes)?;
+    text.push('\n');
+    files::print(&text)
+}
+
+/// What a message says, on one line: its kind, its numbers by name, where its data stands in it, and its text.
+fn told(bytes: &[u8]) -> Result<String, Refusal> {
+    let message = Message::read(bytes)?;
     let mut text = String::from(message.name());
     for (name, number) in message.numbers() {
         let _ = write!(text, " {name} {number}");
@@ -134,8 +143,57 @@ fn message(words: &Words) -> Result<(), Failure> {
     if let Message::Log { text: said, .. } | Message::Panic { text: said } = message {
         let _ = write!(text, " {said:?}");
     }
-    text.push('\n');
+    Ok(text)
+}
+
+fn region(words: &Words) -> Result<(), Failure> {
+    let [name] = words.plain("one FILE")?;
+    // Records are taken from what was read; the file stays.
+    let mut bytes = files::read(name, region::MOST_BYTES)?;
+    let mut region = Region::open(&mut bytes)?;
+    let mut text = String::from("queue kind offset capacity head reserve commit used\n");
+    let queues = (0..).zip(region.queues());
+    for (number, Queue { kind, offset, capacity }) in queues.clone() {
+        let cursors = region.report(number)?;
+        let Cursors { head, reserve, commit } = cursors;
+        let used = cursors.in_use();
+        line(
+            &mut text,
+            format_args!("{number} {kind} {offset} {capacity} {head} {reserve} {commit} {used}"),
+        );
+    }
+    for (number, _) in queues {
+        records(&mut region, number, &mut text)?;
+    }
     files::print(&text)
+}
+
+/// Adds a line for each record that waits in a queue, and one for what cannot be taken as a record.
+fn records(region: &mut Region, queue: u32, text: &mut String) -> Result<(), Failure> {
+    loop {
+        let place = match region.ring(queue)?.take_place() {
+            Ok(place) => place,
+            Err(Refusal { kind: Kind::Empty, .. }) => return Ok(()),
+            Err(refusal) => {
+                line(text, format_args!("record {queue} refused {refusal}"));
+                return Ok(());
+            }
+        };
+        let (start, length) = (place.start, place.len());
+        let payload = &region.bytes()[place];
+        let said = told(payload)
+            .unwrap_or_else(|refusal| format!("refused {refusal}; bytes{}", hex(payload)));
+        line(text, format_args!("record {queue} {start} {length} {said}"));
+    }
+}
+
+/// Bytes in hexadecimal, each behind a space.
+fn hex(bytes: &[u8]) -> String {
+    let mut text = String::with_capacity(3 * bytes.len());
+    for byte in bytes {
+        let _ = write!(text, " {byte:02X}");
+    }
+    text
 }
 
 /// The bytes that a word says in hexadecimal, if it names no file.
@@ -194,6 +252,14 @@ mod tests {
         assert_eq!(read(""), Some(vec![]));
         assert_eq!(read("0 11"), None);
         assert_eq!(read("é0"), None);
+    }
+
+    #[test]
+    fn bytes_are_shown_as_they_are_read() {
+        let bytes = [0, 15, 0xFA];
+        assert_eq!(hex(&bytes), " 00 0F FA");
+        assert_eq!(bytes_of(OsStr::new(&hex(&bytes))).ok(), Some(bytes.to_vec()));
+        assert_eq!(hex(&[]), "");
     }
 
     #[test]

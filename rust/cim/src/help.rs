@@ -3,7 +3,7 @@
 pub const VERSION: &str = concat!("cim ", env!("CARGO_PKG_VERSION"), "\n");
 
 pub const ALL: &str = "\
-cim: checks, lists and writes AEROSNAP snapshots, and reads DSKC wrappers and AIPC messages
+cim: checks, lists and writes AEROSNAP snapshots, and reads DSKC wrappers, AIPC messages and rings
 
   cim check FILE                      whether a snapshot follows the rules
   cim list FILE                       its sections, devices and disks
@@ -14,6 +14,7 @@ cim: checks, lists and writes AEROSNAP snapshots, and reads DSKC wrappers and AI
                                       write it with one disk more
   cim wrapper FILE                    the controllers of a disk-controller wrapper
   cim message FILE|HEX                what a message says
+  cim region FILE                     the queues of a region of rings, and what waits in them
   cim COMMAND --help                  more about a command
   cim --version
 
@@ -91,4 +92,22 @@ place and its length; the text of Log and Panic is shown behind that.
 
   cim message '01 11 07 00 00 00 0F 00 00 00'
   PortReadResp id 7 value 15
+";
+
+pub const REGION: &str = "\
+cim region FILE
+
+Checks a region of shared memory that was saved to a file, and prints a heading and a line for each
+queue: its number and kind, the offset of its ring, its capacity, its cursors, signed as hosts show
+them, and the bytes in use, from head to reserve. Then a line for each record that waits, in the order
+in which it would be taken: its queue, the offset and the length of its payload, and the message that
+it reads as, or why it is none and its bytes. Places behind the message's name count from its start.
+
+  queue kind offset capacity head reserve commit used
+  record QUEUE OFFSET LENGTH MESSAGE
+  record QUEUE OFFSET LENGTH refused NUMBER NAME at PLACE: WHY; bytes HEX
+  record QUEUE refused 24 RECORD at 0: WHY
+
+The last of these ends its queue: what is committed there is no record. The file stays as it is. The
+whole region is checked first; a refused one prints no line.
 ";

@@ -1,4 +1,4 @@
-//! `cim`: checks, lists and writes snapshots, and reads wrappers and messages.
+//! `cim`: checks, lists and writes snapshots, and reads wrappers, messages and regions of rings.
 //!
 //! A command reads its input whole, asks the proved library, and prints or writes what that answers. It ends with
 //! status 0; 1 where the library refuses; 2 for a command line that it does not understand; 3 where a file cannot be

@@ -3,6 +3,9 @@
 #[allow(dead_code)]
 #[path = "../examples/panel.rs"]
 mod panel;
+#[allow(dead_code)]
+#[path = "../examples/panel_region.rs"]
+mod panel_region;
 
 use std::fs;
 use std::io::Write;
@@ -466,6 +469,79 @@ fn message_tells_kind_numbers_and_data() {
     prints(fed(&at, &["message", "-"], file), "Ack seq 15\n");
 }
 
+// ---- regions
+
+const REGION_HEADING: &str = "queue kind offset capacity head reserve commit used\n";
+
+#[test]
+fn the_region_that_the_documents_show_is_the_one_that_is_made() {
+    let sample = Path::new(env!("CARGO_MANIFEST_DIR")).join("../../samples/panel.region");
+    assert_eq!(fs::read(sample).unwrap(), panel_region::panel_region().unwrap());
+}
+
+#[test]
+fn region_lists_queues_and_what_waits() {
+    let at = folder("region");
+    let bytes = panel_region::panel_region().unwrap();
+    let file = put(&at, "panel", &bytes);
+    let listing = [
+        REGION_HEADING,
+        "0 0 48 128 -40 64 32 104\n",
+        "1 1 192 64 -24 28 28 52\n",
+        "record 0 156 12 PortRead id 7 port 1016 size 1\n",
+        "record 0 68 25 MmioWrite id 8 addr 4096 data 18 7\n",
+        "record 1 252 10 PortReadResp id 7 value 15\n",
+        "record 1 212 14 Log level 3 data 7 7 \"tank 15\"\n",
+        "record 1 232 2 refused 18 TAG at 0: unknown tag; bytes 02 00\n",
+    ]
+    .concat();
+    prints(run(&at, &["region", "panel"]), &listing);
+    prints(fed(&at, &["region", "-"], &bytes), &listing);
+    assert_eq!(fs::read(file).unwrap(), bytes);
+    let none = b"AIPC\x01\0\0\0\x10\0\0\0\0\0\0\0";
+    prints(fed(&at, &["region", "-"], none), REGION_HEADING);
+}
+
+#[test]
+fn region_tells_of_a_record_that_cannot_be_taken() {
+    let at = folder("region_record");
+    let mut bytes = panel_region::panel_region().unwrap();
+    bytes[64] = 29; // the length of the second command, 25: now its record would pass the commit cursor
+    put(&at, "long", &bytes);
+    let output = run(&at, &["region", "long"]);
+    let shown = String::from_utf8(output.stdout.clone()).unwrap();
+    let told = "record 0 156 12 PortRead id 7 port 1016 size 1\n\
+        record 0 refused 24 RECORD at 0: committed record or skip runs too far\n\
+        record 1 252 10 PortReadResp";
+    assert!(shown.contains(told), "{shown}");
+    assert_eq!(output.status.code(), Some(0));
+    // A payload of no byte is shown too.
+    bytes[64] = 0;
+    put(&at, "short", &bytes);
+    let shown = String::from_utf8(run(&at, &["region", "short"]).stdout).unwrap();
+    let told =
+        "record 0 68 0 refused 11 SHAPE at 0: field doesn't fit, or bytes left over; bytes\n";
+    assert!(shown.contains(told), "{shown}");
+}
+
+#[test]
+fn region_refuses_what_is_broken() {
+    let at = folder("region_broken");
+    let bytes = panel_region::panel_region().unwrap();
+    let broken = |place: usize, byte: u8| {
+        let mut bytes = bytes.clone();
+        bytes[place] = byte;
+        fed(&at, &["region", "-"], &bytes)
+    };
+    let told = |place: usize| format!("refused 20 REGION at {place}: broken region\n");
+    fails(broken(0, b'B'), &told(0), 1);
+    fails(broken(12, 65), &told(12), 1);
+    fails(broken(36, 44), &told(36), 1);
+    fails(broken(192, 1), &told(192), 1);
+    fails(fed(&at, &["region", "-"], &bytes[..271]), &told(8), 1);
+    fails(fed(&at, &["region", "-"], TWO_DEVICES), &told(0), 1);
+}
+
 // ---- the command line
 
 #[test]
@@ -476,7 +552,9 @@ fn help_and_version_are_printed() {
         assert_eq!(output.status.code(), Some(0));
         assert!(String::from_utf8(output.stdout).unwrap().contains("cim add-disk FILE OUT"));
     }
-    for name in ["check", "list", "canon", "add-device", "add-disk", "wrapper", "message"] {
+    let names =
+        ["check", "list", "canon", "add-device", "add-disk", "wrapper", "message", "region"];
+    for name in names {
         let output = run(&at, &[name, "--help"]);
         assert_eq!(output.status.code(), Some(0));
         assert!(String::from_utf8(output.stdout).unwrap().starts_with(&format!("cim {name} ")));

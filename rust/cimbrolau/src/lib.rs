@@ -1,4 +1,5 @@
-//! Reads and writes AEROSNAP version 1 snapshots, their `DSKC` disk-controller wrappers and AIPC messages.
+//! Reads and writes AEROSNAP version 1 snapshots, their `DSKC` disk-controller wrappers, AIPC messages and the rings that
+//! carry them.
 //!
 //! The work is done by `libcimbrolau.a`, every function of which is proved to meet its contract: each call takes every
 //! input, ends, and gives a reading exactly for inputs that follow the rules; a refused call leaves all lent memory as it
@@ -22,6 +23,7 @@
 //! - [`snapshot`][]: snapshot files
 //! - [`wrapper`][]: disk-controller wrappers
 //! - [`Message`][]: messages
+//! - [`region`][]: regions of shared memory, and the rings in them
 //! - [`raw`][]: the calls as the library has them, over lent buffers
 
 #![deny(missing_docs)]
@@ -32,6 +34,7 @@ mod message;
 pub mod raw;
 mod records;
 mod refusal;
+pub mod region;
 pub mod snapshot;
 pub mod wrapper;
 

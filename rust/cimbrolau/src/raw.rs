@@ -3,8 +3,8 @@
 //! Each function takes every input, ends, and writes nothing unless its number is 0. This is the only module with
 //! `unsafe` in it, and all of it is the step into C: the functions here are safe for every argument.
 //!
-//! Use it where a buffer is at hand and nothing should be allocated; [`crate::snapshot`], [`crate::wrapper`] and
-//! [`crate::Message`] stand on it and are easier to use.
+//! Use it where a buffer is at hand and nothing should be allocated; [`crate::snapshot`], [`crate::wrapper`],
+//! [`crate::Message`] and [`crate::region`] stand on it and are easier to use.
 
 use std::mem::size_of;
 
@@ -42,12 +42,58 @@ pub struct Numbers {
     pub data_length: u64,
 }
 
-// What the library answers with, by value: these are its sizes on x86-64, the one machine that it is made for.
+/// What a report of a ring answers: its cursors, signed, as hosts show them.
+#[repr(C)]
+#[derive(Clone, Copy, Debug, PartialEq, Eq)]
+pub struct Cursors {
+    /// 0 where the region is taken, else the number of the refusal; all below is then 0 but `place`.
+    pub number: u32,
+    /// The refusal's place.
+    pub place: u64,
+    /// The taker's cursor.
+    pub head: i32,
+    /// Up to where bytes are reserved.
+    pub reserve: i32,
+    /// Up to where bytes are committed.
+    pub commit: i32,
+}
+
+/// What reserving answers: from which cursor to which the bytes are reserved, a skip included.
+#[repr(C)]
+#[derive(Clone, Copy, Debug, PartialEq, Eq)]
+pub struct Pair {
+    /// 0 where the bytes are reserved, else the number of the refusal; all below is then 0 but `place`.
+    pub number: u32,
+    /// The bytes stored, or the refusal's place.
+    pub place: u64,
+    /// The reserve cursor before.
+    pub start: u32,
+    /// The reserve cursor after.
+    pub end: u32,
+}
+
+/// What taking answers: where the payload stands in the region.
+#[repr(C)]
+#[derive(Clone, Copy, Debug, PartialEq, Eq)]
+pub struct Record {
+    /// 0 where a record is taken, else the number of the refusal; all below is then 0 but `place`.
+    pub number: u32,
+    /// The bytes stored, or the refusal's place.
+    pub place: u64,
+    /// Where the payload starts in the region.
+    pub payload_place: u64,
+    /// How many bytes the payload has.
+    pub payload_length: u64,
+}
+
+// What the library answers with, by value: its sizes, on x86-64 and on Arm alike.
 const _: () = assert!(size_of::<Answer>() == 16 && size_of::<Numbers>() == 72);
+const _: () = assert!(size_of::<Cursors>() == 32 && size_of::<Pair>() == 24);
+const _: () = assert!(size_of::<Record>() == 32);
 
 /// The library's own functions. A slice is lent as a pointer and a length, for the time of the call.
 mod c {
-    use super::{Answer, Numbers};
+    use super::{Answer, Cursors, Numbers, Pair, Record};
 
     extern "C" {
         pub fn cimbrolau_check(file: *const u8, file_length: usize) -> Answer;
@@ -122,6 +168,35 @@ mod c {
             out: *mut u8,
             out_length: usize,
         ) -> Answer;
+        pub fn cimbrolau_region_check(region: *const u8, region_length: usize) -> Answer;
+        pub fn cimbrolau_ring_report(
+            region: *const u8,
+            region_length: usize,
+            queue: u32,
+        ) -> Cursors;
+        pub fn cimbrolau_ring_reserve(
+            region: *mut u8,
+            region_length: usize,
+            queue: u32,
+            payload_length: u64,
+        ) -> Pair;
+        pub fn cimbrolau_ring_fill(
+            region: *mut u8,
+            region_length: usize,
+            queue: u32,
+            start: u32,
+            end: u32,
+            payload: *const u8,
+            payload_length: usize,
+        ) -> Answer;
+        pub fn cimbrolau_ring_commit(
+            region: *mut u8,
+            region_length: usize,
+            queue: u32,
+            start: u32,
+            end: u32,
+        ) -> Answer;
+        pub fn cimbrolau_ring_take(region: *mut u8, region_length: usize, queue: u32) -> Record;
     }
 }
 
@@ -332,4 +407,100 @@ pub fn message_write(
             out.len(),
         )
     }
+}
+
+/// Checks a region: 0 at 0, or its first wrong field.
+///
+/// ```
+/// let answer = cimbrolau::raw::region_check(b"AIPC");
+/// assert_eq!((answer.number, answer.place), (20, 0)); // REGION
+/// ```
+pub fn region_check(region: &[u8]) -> Answer {
+    // SAFETY: the pointer and the length are of one live slice, which the library reads during the call alone.
+    unsafe { c::cimbrolau_region_check(region.as_ptr(), region.len()) }
+}
+
+/// Reports the cursors of a queue.
+///
+/// ```
+/// use cimbrolau::{raw, region};
+/// let bytes = region::layout(&[region::Plan { kind: 0, capacity: 64 }])?;
+/// let cursors = raw::ring_report(&bytes, 0);
+/// assert_eq!((cursors.head, cursors.reserve, cursors.commit), (0, 0, 0));
+/// # Ok::<(), cimbrolau::Refusal>(())
+/// ```
+pub fn ring_report(region: &[u8], queue: u32) -> Cursors {
+    // SAFETY: the pointer and the length are of one live slice, which the library reads during the call alone.
+    unsafe { c::cimbrolau_ring_report(region.as_ptr(), region.len(), queue) }
+}
+
+/// Reserves the bytes that a payload of a length needs in the ring of a queue.
+///
+/// ```
+/// use cimbrolau::{raw, region};
+/// let mut bytes = region::layout(&[region::Plan { kind: 0, capacity: 64 }])?;
+/// let pair = raw::ring_reserve(&mut bytes, 0, 5);
+/// assert_eq!((pair.number, pair.start, pair.end), (0, 0, 12)); // a length, five bytes, padding
+/// # Ok::<(), cimbrolau::Refusal>(())
+/// ```
+pub fn ring_reserve(region: &mut [u8], queue: u32, payload_length: u64) -> Pair {
+    // SAFETY: the pointer and the length are of one live slice, within which the library reads and writes during the call
+    // alone, and which no other reference names.
+    unsafe { c::cimbrolau_ring_reserve(region.as_mut_ptr(), region.len(), queue, payload_length) }
+}
+
+/// Writes the payload's record into a pair that was reserved for it.
+///
+/// ```
+/// use cimbrolau::{raw, region};
+/// let mut bytes = region::layout(&[region::Plan { kind: 0, capacity: 64 }])?;
+/// let pair = raw::ring_reserve(&mut bytes, 0, 5);
+/// let answer = raw::ring_fill(&mut bytes, 0, pair.start, pair.end, b"level");
+/// assert_eq!((answer.number, answer.place), (0, 12));
+/// # Ok::<(), cimbrolau::Refusal>(())
+/// ```
+pub fn ring_fill(region: &mut [u8], queue: u32, start: u32, end: u32, payload: &[u8]) -> Answer {
+    // SAFETY: each pointer and length are of one live slice; the library reads `payload` and reads and writes within
+    // `region`, which no other reference names, during the call alone.
+    unsafe {
+        c::cimbrolau_ring_fill(
+            region.as_mut_ptr(),
+            region.len(),
+            queue,
+            start,
+            end,
+            payload.as_ptr(),
+            payload.len(),
+        )
+    }
+}
+
+/// Hands a pair on to the taker.
+///
+/// ```
+/// use cimbrolau::{raw, region};
+/// let mut bytes = region::layout(&[region::Plan { kind: 0, capacity: 64 }])?;
+/// let pair = raw::ring_reserve(&mut bytes, 0, 0);
+/// assert_eq!(raw::ring_commit(&mut bytes, 0, 4, 8).number, 29); // TURN
+/// assert_eq!(raw::ring_commit(&mut bytes, 0, pair.start, pair.end).number, 0);
+/// # Ok::<(), cimbrolau::Refusal>(())
+/// ```
+pub fn ring_commit(region: &mut [u8], queue: u32, start: u32, end: u32) -> Answer {
+    // SAFETY: the pointer and the length are of one live slice, within which the library reads and writes during the call
+    // alone, and which no other reference names.
+    unsafe { c::cimbrolau_ring_commit(region.as_mut_ptr(), region.len(), queue, start, end) }
+}
+
+/// Takes the next record of a queue.
+///
+/// ```
+/// use cimbrolau::{raw, region};
+/// let mut bytes = region::layout(&[region::Plan { kind: 0, capacity: 64 }])?;
+/// assert_eq!(raw::ring_take(&mut bytes, 0).number, 23); // EMPTY
+/// # Ok::<(), cimbrolau::Refusal>(())
+/// ```
+pub fn ring_take(region: &mut [u8], queue: u32) -> Record {
+    // SAFETY: the pointer and the length are of one live slice, within which the library reads and writes during the call
+    // alone, and which no other reference names.
+    unsafe { c::cimbrolau_ring_take(region.as_mut_ptr(), region.len(), queue) }
 }

@@ -3,7 +3,9 @@
 use crate::raw::Answer;
 use std::fmt;
 
-/// What a refusal is about: the names and the numbers of the table of refusals.
+/// What a refusal is about: the names and the numbers of the table of refusals. The numbers have gaps, and later versions may
+/// know more of them.
+#[non_exhaustive]
 #[derive(Clone, Copy, Debug, PartialEq, Eq, Hash, PartialOrd, Ord)]
 #[repr(u32)]
 pub enum Kind {
@@ -45,10 +47,22 @@ pub enum Kind {
     Tag = 18,
     /// A controller's device is above 31 or its function above 7.
     Address = 19,
+    /// A region of rings is broken; the place is that of its first wrong field.
+    Region = 20,
+    /// A record is above half the ring's capacity.
+    Big = 21,
+    /// The bytes in use and those needed exceed the ring's capacity.
+    Full = 22,
+    /// Nothing is committed.
+    Empty = 23,
+    /// A committed record runs past the commit cursor or the ring's end, or a skip reaches the commit cursor.
+    Record = 24,
+    /// Cursors are given out of turn.
+    Turn = 29,
 }
 
-/// Each kind with its name and what it says, in the order of the numbers.
-const TABLE: [(Kind, &str, &str); 19] = [
+/// Each kind with its name and what it says: the one list of the numbers that are taken.
+const TABLE: &[(Kind, &str, &str)] = &[
     (Kind::Short, "SHORT", "under 16 bytes"),
     (Kind::Magic, "MAGIC", "letters wrong"),
     (Kind::Version, "VERSION", "format version not taken"),
@@ -68,9 +82,26 @@ const TABLE: [(Kind, &str, &str); 19] = [
     (Kind::Have, "HAVE", "added key is there"),
     (Kind::Tag, "TAG", "unknown tag"),
     (Kind::Address, "ADDRESS", "controller's device above 31 or function above 7"),
+    (Kind::Region, "REGION", "broken region"),
+    (Kind::Big, "BIG", "record above half the capacity"),
+    (Kind::Full, "FULL", "bytes in use and those needed exceed the capacity"),
+    (Kind::Empty, "EMPTY", "nothing is committed"),
+    (Kind::Record, "RECORD", "committed record or skip runs too far"),
+    (Kind::Turn, "TURN", "cursors given out of turn"),
 ];
 
 impl Kind {
+    /// All kinds, in the order of their numbers.
+    ///
+    /// ```
+    /// use cimbrolau::Kind;
+    /// assert_eq!(Kind::all().next(), Some(Kind::Short));
+    /// assert_eq!(Kind::all().last(), Some(Kind::Turn));
+    /// ```
+    pub fn all() -> impl Iterator<Item = Kind> {
+        TABLE.iter().map(|(kind, _, _)| *kind)
+    }
+
     /// The kind of a number, if there is one.
     ///
     /// ```
@@ -79,8 +110,7 @@ impl Kind {
     /// assert_eq!(Kind::of(0), None);
     /// ```
     pub fn of(number: u32) -> Option<Kind> {
-        let row = (number as usize).checked_sub(1)?;
-        TABLE.get(row).map(|(kind, _, _)| *kind)
+        Kind::all().find(|kind| kind.number() == number)
     }
 
     /// The number of the kind.
@@ -98,7 +128,7 @@ impl Kind {
     /// assert_eq!(cimbrolau::Kind::SecVer.name(), "SECVER");
     /// ```
     pub fn name(self) -> &'static str {
-        TABLE[self as usize - 1].1
+        self.row().1
     }
 
     /// What the kind says, in a few words.
@@ -107,7 +137,11 @@ impl Kind {
     /// assert_eq!(cimbrolau::Kind::Key.meaning(), "key again");
     /// ```
     pub fn meaning(self) -> &'static str {
-        TABLE[self as usize - 1].2
+        self.row().2
+    }
+
+    fn row(self) -> &'static (Kind, &'static str, &'static str) {
+        TABLE.iter().find(|(kind, _, _)| *kind == self).expect("every kind is in the table")
     }
 }
 
@@ -173,13 +207,14 @@ mod tests {
 
     #[test]
     fn the_table_is_in_the_order_of_the_numbers() {
-        for (row, (kind, _, _)) in TABLE.iter().enumerate() {
-            assert_eq!(kind.number() as usize, row + 1);
-            assert_eq!(Kind::of(kind.number()), Some(*kind));
+        assert!(Kind::all().is_sorted_by(|one, next| one.number() < next.number()));
+        for kind in Kind::all() {
+            assert_eq!(Kind::of(kind.number()), Some(kind));
+            assert!(!kind.name().is_empty() && !kind.meaning().is_empty());
         }
-        assert_eq!(Kind::of(0), None);
-        assert_eq!(Kind::of(20), None);
-        assert_eq!(Kind::of(u32::MAX), None);
+        for number in [0, 25, 28, 30, u32::MAX] {
+            assert_eq!(Kind::of(number), None);
+        }
     }
 
     #[test]
@@ -189,8 +224,8 @@ mod tests {
     }
 
     #[test]
-    #[should_panic(expected = "answered 20")]
+    #[should_panic(expected = "answered 27")]
     fn an_unknown_number_is_not_taken_for_another() {
-        let _ = outcome(20, 0);
+        let _ = outcome(27, 0);
     }
 }

@@ -17,7 +17,6 @@ fn named() -> Vec<(String, u32)> {
 #[test]
 fn the_header_has_these_refusals_and_no_other() {
     let mut expected = vec![("TAKEN".to_string(), 0)];
-    let kinds = (1..).map_while(Kind::of);
-    expected.extend(kinds.map(|kind| (kind.name().to_string(), kind.number())));
+    expected.extend(Kind::all().map(|kind| (kind.name().to_string(), kind.number())));
     assert_eq!(named(), expected);
 }

@@ -8,12 +8,14 @@ use std::fmt::Debug;
 
 use reference::{Answer, Reading};
 
+use crate::counts::Counts;
 use crate::library;
 use crate::make::DeviceKey;
 use crate::random::Random;
+use crate::rings::RingCalls;
 
 const ROOM: u32 = 16;
-const MARGIN: usize = 16;
+pub(crate) const MARGIN: usize = 16;
 /// An input longer than this is shown by its first bytes; the seed and its number make it again.
 const SHOWN: usize = 8192;
 
@@ -24,13 +26,14 @@ pub struct Comparison {
     pub random: Random,
     pub inputs: u64,
     pub calls: u64,
-    /// How often each number was answered.
-    pub answers: [u64; 20],
+    pub answers: Counts,
+    /// The calls that the reference's are compared with on regions; the library's but where a control plants errors.
+    pub rings: RingCalls,
     /// Whether exactly the memory needed is lent, as for outputs too long to write often.
     pub exact: bool,
     /// The library's and the reference's lent memory, with margins.
-    ours: Vec<u8>,
-    theirs: Vec<u8>,
+    pub(crate) ours: Vec<u8>,
+    pub(crate) theirs: Vec<u8>,
 }
 
 /// A call that takes a file or a wrapper and lent memory.
@@ -57,11 +60,7 @@ const FILE_CALLS: [(&str, Call, Call); 6] = [
 /// The same for wrappers.
 const WRAPPER_CALLS: [(&str, Call, Call); 2] = [
     ("controllers", library::controllers, reference::controllers),
-    (
-        "wrapper_canonical",
-        library::wrapper_canonical,
-        reference::wrapper_canonical,
-    ),
+    ("wrapper_canonical", library::wrapper_canonical, reference::wrapper_canonical),
 ];
 
 impl Comparison {
@@ -72,7 +71,8 @@ impl Comparison {
             random: Random::new(seed),
             inputs: 0,
             calls: 0,
-            answers: [0; 20],
+            answers: Counts::default(),
+            rings: library::RINGS,
             exact: false,
             ours: vec![],
             theirs: vec![],
@@ -94,10 +94,7 @@ impl Comparison {
     pub fn wrapper(&mut self, wrapper: &[u8]) -> Answer {
         self.inputs += 1;
         let before = fingerprint(wrapper);
-        let (ours, theirs) = (
-            library::wrapper_check(wrapper),
-            reference::wrapper_check(wrapper),
-        );
+        let (ours, theirs) = (library::wrapper_check(wrapper), reference::wrapper_check(wrapper));
         let answer = self.answer("wrapper_check", &[wrapper], ours, theirs);
         self.outputs(&WRAPPER_CALLS, wrapper);
         self.unchanged(before, wrapper);
@@ -149,13 +146,8 @@ impl Comparison {
         self.inputs += 1;
         let before = fingerprint(message);
         let ours = library::message_read(message);
-        let reading = self.same(
-            "message_read",
-            &[message],
-            ours,
-            reference::message_read(message),
-        );
-        self.answers[reading.number as usize] += 1;
+        let reading = self.same("message_read", &[message], ours, reference::message_read(message));
+        self.answers.add(reading.number);
         if reading.number == 0 {
             self.write_again(message, reading);
         }
@@ -171,16 +163,8 @@ impl Comparison {
         let out = &mut self.ours[MARGIN..MARGIN + message.len()];
         let ours = library::message_write(read.tag, [read.a, read.b, read.c, read.d], data, out);
         let again = &*out == message && pattern_stands(&self.ours, message.len(), 0);
-        let theirs = Answer {
-            number: 0,
-            place: message.len() as u64,
-        };
-        self.same(
-            "message_write of what was read",
-            &[message],
-            (ours, again),
-            (theirs, true),
-        );
+        let theirs = Answer { number: 0, place: message.len() as u64 };
+        self.same("message_write of what was read", &[message], (ours, again), (theirs, true));
     }
 
     /// Writes a message; the answer, and what the output then holds.
@@ -190,11 +174,7 @@ impl Comparison {
         let before = fingerprint(data);
         let answer = self.output(
             "message_write",
-            &[
-                &tag.to_le_bytes(),
-                &numbers.map(u64::to_le_bytes).concat(),
-                data,
-            ],
+            &[&tag.to_le_bytes(), &numbers.map(u64::to_le_bytes).concat(), data],
             |out| library::message_write(tag, numbers, data, out),
             |out| reference::message_write(tag, a, b, c, d, data, out),
         );
@@ -205,7 +185,7 @@ impl Comparison {
     /// A call that answers a number and a place.
     fn answer(&mut self, call: &str, inputs: &[&[u8]], ours: Answer, theirs: Answer) -> Answer {
         self.same(call, inputs, ours, theirs);
-        self.answers[theirs.number as usize] += 1;
+        self.answers.add(theirs.number);
         theirs
     }
 
@@ -219,11 +199,7 @@ impl Comparison {
     ) -> T {
         self.calls += 1;
         if ours != theirs {
-            self.fail(
-                call,
-                inputs,
-                &format!("library {ours:?}\nreference {theirs:?}"),
-            );
+            self.fail(call, inputs, &format!("library {ours:?}\nreference {theirs:?}"));
         }
         theirs
     }
@@ -231,12 +207,7 @@ impl Comparison {
     /// Each of the calls on one input.
     fn outputs(&mut self, calls: &[(&str, Call, Call)], input: &[u8]) {
         for (name, library, reference) in calls {
-            self.output(
-                name,
-                &[input],
-                |out| library(input, out),
-                |out| reference(input, out),
-            );
+            self.output(name, &[input], |out| library(input, out), |out| reference(input, out));
         }
     }
 
@@ -263,11 +234,7 @@ impl Comparison {
             );
             self.fail(call, inputs, &what);
         }
-        let written = if theirs.number == 0 {
-            theirs.place as usize
-        } else {
-            0
-        };
+        let written = if theirs.number == 0 { theirs.place as usize } else { 0 };
         if !pattern_stands(&self.theirs, written, salt) {
             self.fail(
                 call,
@@ -303,14 +270,14 @@ impl Comparison {
         &self.ours[MARGIN..self.ours.len() - MARGIN]
     }
 
-    fn unchanged(&self, before: u64, input: &[u8]) {
+    pub(crate) fn unchanged(&self, before: u64, input: &[u8]) {
         if before != fingerprint(input) {
             self.fail("some call", &[input], "the input was changed");
         }
     }
 
     /// Ends the run, and shows all that is needed to see the difference again.
-    fn fail(&self, call: &str, inputs: &[&[u8]], what: &str) -> ! {
+    pub(crate) fn fail(&self, call: &str, inputs: &[&[u8]], what: &str) -> ! {
         let shown: Vec<String> = inputs.iter().map(|input| hex(input)).collect();
         panic!(
             "{} (seed {:#x}), input {}: {call}\n{what}\n{}",
@@ -328,7 +295,7 @@ fn pattern(salt: u8) -> [u8; 251] {
 }
 
 /// Lays the pattern over `length` bytes and a margin on both sides.
-fn lay_pattern(memory: &mut Vec<u8>, length: usize, salt: u8) {
+pub(crate) fn lay_pattern(memory: &mut Vec<u8>, length: usize, salt: u8) {
     let whole = length + 2 * MARGIN;
     memory.clear();
     memory.reserve(whole);
@@ -359,7 +326,7 @@ fn pattern_stands(memory: &[u8], written: usize, salt: u8) -> bool {
 }
 
 /// A number that changes with every byte of the input.
-fn fingerprint(input: &[u8]) -> u64 {
+pub(crate) fn fingerprint(input: &[u8]) -> u64 {
     let mut words = input.chunks_exact(8);
     let mixed = words.by_ref().fold(input.len() as u64, |mixed, word| {
         let word = u64::from_le_bytes(word.try_into().expect("eight bytes"));
@@ -371,11 +338,7 @@ fn fingerprint(input: &[u8]) -> u64 {
 }
 
 fn hex(bytes: &[u8]) -> String {
-    let shown: String = bytes
-        .iter()
-        .take(SHOWN)
-        .map(|byte| format!("{byte:02X}"))
-        .collect();
+    let shown: String = bytes.iter().take(SHOWN).map(|byte| format!("{byte:02X}")).collect();
     let more = if bytes.len() > SHOWN { " ..." } else { "" };
     format!("{} bytes: {shown}{more}", bytes.len())
 }
@@ -385,14 +348,8 @@ fn hex(bytes: &[u8]) -> String {
 mod tests {
     use super::*;
 
-    const TAKEN: Answer = Answer {
-        number: 0,
-        place: 4,
-    };
-    const SHORT_OF_ROOM: Answer = Answer {
-        number: ROOM,
-        place: 4,
-    };
+    const TAKEN: Answer = Answer { number: 0, place: 4 };
+    const SHORT_OF_ROOM: Answer = Answer { number: ROOM, place: 4 };
 
     /// Writes four bytes if there is room for them.
     fn four(out: &mut [u8]) -> Answer {
@@ -454,10 +411,7 @@ mod tests {
     #[should_panic(expected = "library Answer { number: 16, place: 3 }")]
     fn another_place() {
         against_four(|out| match four(out) {
-            SHORT_OF_ROOM => Answer {
-                number: ROOM,
-                place: 3,
-            },
+            SHORT_OF_ROOM => Answer { number: ROOM, place: 3 },
             answer => answer,
         });
     }

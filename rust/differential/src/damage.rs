@@ -55,12 +55,7 @@ pub fn extremes(field: Field, length: usize) -> Vec<u64> {
 /// Stores the low bytes of a number in a field, as far as the bytes reach.
 pub fn set(bytes: &mut [u8], field: Field, value: u64) {
     let stored = value.to_le_bytes();
-    for (at, byte) in bytes
-        .iter_mut()
-        .skip(field.place)
-        .take(field.width)
-        .enumerate()
-    {
+    for (at, byte) in bytes.iter_mut().skip(field.place).take(field.width).enumerate() {
         *byte = stored[at];
     }
 }
@@ -117,12 +112,8 @@ fn nudge(random: &mut Random, made: &Made, bytes: &mut [u8]) {
 /// Copies a number over another of its width: a key or an id that comes again.
 fn copy_field(random: &mut Random, made: &Made, bytes: &mut [u8]) {
     let from = random.pick(&made.fields);
-    let alike: Vec<Field> = made
-        .fields
-        .iter()
-        .copied()
-        .filter(|field| field.width == from.width)
-        .collect();
+    let alike: Vec<Field> =
+        made.fields.iter().copied().filter(|field| field.width == from.width).collect();
     let to = random.pick(&alike);
     if from.place.max(to.place) + from.width <= bytes.len() {
         bytes.copy_within(from.place..from.place + from.width, to.place);

@@ -6,14 +6,19 @@
 //!
 //! - [`library`]: the calls of the library, in one place;
 //! - [`random`]: the numbers that inputs are made of;
-//! - [`make`]: valid files and wrappers, [`text`]: valid and broken UTF-8, [`damage`]: faults in them;
-//! - [`compare`]: one input given to both, and what is compared.
+//! - [`make`]: valid files and wrappers, [`regions`]: valid regions, [`text`]: valid and broken UTF-8,
+//!   [`damage`]: faults in them;
+//! - [`compare`]: one input given to both, and what is compared; [`rings`]: the same for calls that change a
+//!   region in place; [`counts`]: how often each number was answered.
 //!
 //! The inputs themselves stand in `tests/differential`, a module for each format.
 
 pub mod compare;
+pub mod counts;
 pub mod damage;
 pub mod library;
 pub mod make;
 pub mod random;
+pub mod regions;
+pub mod rings;
 pub mod text;

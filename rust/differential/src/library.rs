@@ -1,16 +1,15 @@
 //! The library's calls, with the reference's signatures. No other module names the library.
 
 use cimbrolau::raw;
-use reference::{Answer, Reading};
+use reference::{Answer, Cursors, Pair, Reading, Record};
+
+use crate::rings::RingCalls;
 
 /// The library's answer as the reference has it: each has a type of its own.
 macro_rules! answer {
     ($given:expr) => {{
         let given = $given;
-        Answer {
-            number: given.number,
-            place: given.place,
-        }
+        Answer { number: given.number, place: given.place }
     }};
 }
 
@@ -78,4 +77,52 @@ pub fn message_read(message: &[u8]) -> Reading {
 
 pub fn message_write(tag: u32, [a, b, c, d]: [u64; 4], data: &[u8], out: &mut [u8]) -> Answer {
     answer!(raw::message_write(tag, a, b, c, d, data, out))
+}
+
+/// The calls on regions.
+pub const RINGS: RingCalls = RingCalls {
+    check: region_check,
+    report: ring_report,
+    reserve: ring_reserve,
+    fill: ring_fill,
+    commit: ring_commit,
+    take: ring_take,
+};
+
+fn region_check(region: &[u8]) -> Answer {
+    answer!(raw::region_check(region))
+}
+
+fn ring_report(region: &[u8], queue: u32) -> Cursors {
+    let given = raw::ring_report(region, queue);
+    Cursors {
+        number: given.number,
+        place: given.place,
+        head: given.head,
+        reserve: given.reserve,
+        commit: given.commit,
+    }
+}
+
+fn ring_reserve(region: &mut [u8], queue: u32, length: u64) -> Pair {
+    let given = raw::ring_reserve(region, queue, length);
+    Pair { number: given.number, place: given.place, start: given.start, end: given.end }
+}
+
+fn ring_fill(region: &mut [u8], queue: u32, start: u32, end: u32, payload: &[u8]) -> Answer {
+    answer!(raw::ring_fill(region, queue, start, end, payload))
+}
+
+fn ring_commit(region: &mut [u8], queue: u32, start: u32, end: u32) -> Answer {
+    answer!(raw::ring_commit(region, queue, start, end))
+}
+
+fn ring_take(region: &mut [u8], queue: u32) -> Record {
+    let given = raw::ring_take(region, queue);
+    Record {
+        number: given.number,
+        place: given.place,
+        payload_place: given.payload_place,
+        payload_length: given.payload_length,
+    }
 }

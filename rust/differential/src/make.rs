@@ -23,11 +23,7 @@ impl Made {
     /// A file with no section yet.
     pub fn file() -> Self {
         let mut made = Made::default();
-        made.raw(b"AEROSNAP")
-            .number(2, 1)
-            .number(1, 1)
-            .number(1, 0)
-            .number(4, 0);
+        made.raw(b"AEROSNAP").number(2, 1).number(1, 1).number(1, 0).number(4, 0);
         made
     }
 
@@ -47,10 +43,7 @@ impl Made {
 
     /// A little-endian number of `width` bytes.
     pub fn number(&mut self, width: usize, value: u64) -> &mut Self {
-        self.fields.push(Field {
-            place: self.bytes.len(),
-            width,
-        });
+        self.fields.push(Field { place: self.bytes.len(), width });
         self.raw(&value.to_le_bytes()[..width])
     }
 
@@ -67,9 +60,7 @@ impl Made {
         flags: u16,
         payload: impl FnOnce(&mut Made),
     ) -> &mut Self {
-        self.number(4, u64::from(id))
-            .number(2, u64::from(version))
-            .number(2, u64::from(flags));
+        self.number(4, u64::from(id)).number(2, u64::from(version)).number(2, u64::from(flags));
         let length_place = self.bytes.len();
         self.number(8, 0);
         let start = self.bytes.len();
@@ -80,21 +71,16 @@ impl Made {
     }
 
     pub fn device(&mut self, (id, version, flags): DeviceKey, payload: &[u8]) -> &mut Self {
-        self.number(4, u64::from(id))
-            .number(2, u64::from(version))
-            .number(2, u64::from(flags));
+        self.number(4, u64::from(id)).number(2, u64::from(version)).number(2, u64::from(flags));
         self.sized(8, payload)
     }
 
     pub fn disk(&mut self, id: u32, base: &[u8], overlay: &[u8]) -> &mut Self {
-        self.number(4, u64::from(id))
-            .sized(4, base)
-            .sized(4, overlay)
+        self.number(4, u64::from(id)).sized(4, base).sized(4, overlay)
     }
 
     pub fn cpu(&mut self, apic: u32, state: &[u8], blob: &[u8]) -> &mut Self {
-        self.number(4, u64::from(apic))
-            .number(4, state.len() as u64);
+        self.number(4, u64::from(apic)).number(4, state.len() as u64);
         self.cpu_state(state).sized(8, blob)
     }
 
@@ -103,10 +89,7 @@ impl Made {
     }
 
     pub fn controller(&mut self, address: u16, tag: &[u8; 4], payload: &[u8]) -> &mut Self {
-        self.number(2, u64::from(address))
-            .number(2, 0)
-            .raw(tag)
-            .sized(4, payload)
+        self.number(2, u64::from(address)).number(2, 0).raw(tag).sized(4, payload)
     }
 
     /// A CPU state, whose listed bytes are kept as fields.
@@ -114,10 +97,7 @@ impl Made {
         let start = self.bytes.len();
         for (at, width) in LISTED {
             if at + width <= state.len() {
-                self.fields.push(Field {
-                    place: start + at,
-                    width,
-                });
+                self.fields.push(Field { place: start + at, width });
             }
         }
         self.raw(state)
@@ -125,33 +105,14 @@ impl Made {
 }
 
 /// Where a version 2 state has listed numbers.
-const LISTED: [(usize, usize); 7] = [
-    (144, 1),
-    (145, 1),
-    (260, 1),
-    (1183, 4),
-    (1187, 1),
-    (1188, 1),
-    (1189, 1),
-];
+const LISTED: [(usize, usize); 7] =
+    [(144, 1), (145, 1), (260, 1), (1183, 4), (1187, 1), (1188, 1), (1189, 1)];
 
 pub type DeviceKey = (u32, u16, u16);
 
 /// Numbers whose order as stored bytes differs from their order as numbers, and the largest ones.
-const IDS: [u32; 12] = [
-    0,
-    1,
-    2,
-    3,
-    255,
-    256,
-    257,
-    0xFFFF,
-    0x1_0000,
-    0x0100_0000,
-    0x8000_0000,
-    u32::MAX,
-];
+const IDS: [u32; 12] =
+    [0, 1, 2, 3, 255, 256, 257, 0xFFFF, 0x1_0000, 0x0100_0000, 0x8000_0000, u32::MAX];
 
 pub fn id(random: &mut Random) -> u32 {
     if random.once_in(4) {
@@ -176,11 +137,8 @@ pub fn distinct<K: Ord>(
     mut key: impl FnMut(&mut Random) -> K,
 ) -> Vec<K> {
     let count = random.below(most + 1);
-    let mut keys: Vec<K> = (0..count)
-        .map(|_| key(random))
-        .collect::<BTreeSet<K>>()
-        .into_iter()
-        .collect();
+    let mut keys: Vec<K> =
+        (0..count).map(|_| key(random)).collect::<BTreeSet<K>>().into_iter().collect();
     random.shuffle(&mut keys);
     keys
 }
@@ -220,10 +178,7 @@ pub fn file(random: &mut Random) -> Made {
 
 /// Known ids at most once, CPU or CPUS, MMU or MMUS, and some that are not known.
 fn section_ids(random: &mut Random) -> Vec<u32> {
-    let mut ids: Vec<u32> = [1, 4, 5, 6]
-        .into_iter()
-        .filter(|_| !random.once_in(3))
-        .collect();
+    let mut ids: Vec<u32> = [1, 4, 5, 6].into_iter().filter(|_| !random.once_in(3)).collect();
     if random.once_in(3) {
         ids.push(random.pick(&[2, 7]));
     }
@@ -303,11 +258,7 @@ fn cpus(random: &mut Random, made: &mut Made, version: u16) {
     for key in keys {
         let extended = random.once_in(2);
         let blob = random.below(12);
-        made.cpu(
-            key,
-            &cpu_state(random, version, extended),
-            &random.bytes(blob),
-        );
+        made.cpu(key, &cpu_state(random, version, extended), &random.bytes(blob));
     }
 }
 
@@ -321,9 +272,8 @@ fn mmus(random: &mut Random, made: &mut Made, version: u16) {
 
 /// A valid wrapper.
 pub fn wrapper(random: &mut Random) -> Made {
-    let addresses = distinct(random, 6, |random| {
-        random.pick(&[0, 1, 250, 255, 256, 257, 0xFA00, u16::MAX])
-    });
+    let addresses =
+        distinct(random, 6, |random| random.pick(&[0, 1, 250, 255, 256, 257, 0xFA00, u16::MAX]));
     let mut made = Made::wrapper(addresses.len() as u32);
     for address in addresses {
         let tag = random.u32().to_le_bytes();

@@ -50,10 +50,7 @@ const BROKEN: [&[u8]; 16] = [
 /// A text of up to `most` characters.
 pub fn valid(random: &mut Random, most: usize) -> Vec<u8> {
     let length = random.below(most + 1);
-    (0..length)
-        .map(|_| random.pick(&CHARACTERS))
-        .collect::<String>()
-        .into_bytes()
+    (0..length).map(|_| random.pick(&CHARACTERS)).collect::<String>().into_bytes()
 }
 
 /// A byte string that is no text.

@@ -27,6 +27,18 @@ pub const ROOM: u32 = 16;
 pub const HAVE: u32 = 17;
 pub const TAG: u32 = 18;
 pub const ADDRESS: u32 = 19;
+pub const REGION: u32 = 20;
+pub const BIG: u32 = 21;
+pub const FULL: u32 = 22;
+pub const EMPTY: u32 = 23;
+pub const RECORD: u32 = 24;
+pub const TURN: u32 = 29;
+
+/// Every number that a call answers: 0 for taken, and the refusals. The numbers have gaps.
+pub const NUMBERS: [u32; 26] = [
+    0, SHORT, MAGIC, VERSION, ENDIAN, RESERVED, SIZE, CUT, MANY, TWICE, SECVER, SHAPE, LIMIT, KEY,
+    TEXT, VALUE, ROOM, HAVE, TAG, ADDRESS, REGION, BIG, FULL, EMPTY, RECORD, TURN,
+];
 
 /// What was read, or the first check that failed.
 pub type Taken<T> = Result<T, Answer>;
@@ -36,20 +48,14 @@ pub fn ask(holds: bool, number: u32, place: usize) -> Taken<()> {
     if holds {
         Ok(())
     } else {
-        Err(Answer {
-            number,
-            place: place as u64,
-        })
+        Err(Answer { number, place: place as u64 })
     }
 }
 
 /// The answer of a call that ended with `written` bytes or with a refusal.
 pub fn answered(result: Taken<usize>) -> Answer {
     match result {
-        Ok(written) => Answer {
-            number: 0,
-            place: written as u64,
-        },
+        Ok(written) => Answer { number: 0, place: written as u64 },
         Err(refusal) => refusal,
     }
 }

@@ -1,4 +1,4 @@
-//! An independent reader and writer of AEROSNAP files, DSKC wrappers and AIPC messages.
+//! An independent reader and writer of AEROSNAP files, DSKC wrappers and AIPC messages, and of the rings that carry them.
 //!
 //! It is written from the rules alone, never from the proved library, so that the two can be compared:
 //! it is the oracle of the differential tests and the peer of the benchmarks. Each call reads its input
@@ -7,16 +7,22 @@
 //! - [`answer`]: the refusals by name;
 //! - [`cursor`]: fields read one after the other, and bytes written one after the other;
 //! - [`list`]: the lists of devices, disks, CPUs, MMUs and controllers;
-//! - [`snapshot`], [`wrapper`], [`message`]: the three formats and their calls.
+//! - [`snapshot`], [`wrapper`], [`message`]: the three formats and their calls;
+//! - [`ring`]: regions of shared memory and the rings in them.
 
 pub mod answer;
 pub mod cursor;
 pub mod list;
 pub mod message;
+pub mod ring;
 pub mod snapshot;
 pub mod wrapper;
 
 pub use answer::Answer;
 pub use message::{message_read, message_write, Reading};
+pub use ring::{
+    region_check, ring_commit, ring_fill, ring_report, ring_reserve, ring_take, Cursors, Pair,
+    Record,
+};
 pub use snapshot::{add_device, add_disk, canonical, check, devices, disks, sections};
 pub use wrapper::{controllers, wrapper_canonical, wrapper_check};

@@ -109,11 +109,7 @@ impl Field {
 pub fn message_read(message: &[u8]) -> Reading {
     match read(message) {
         Ok(reading) => reading,
-        Err(Answer { number, place }) => Reading {
-            number,
-            place,
-            ..Reading::default()
-        },
+        Err(Answer { number, place }) => Reading { number, place, ..Reading::default() },
     }
 }
 
@@ -121,10 +117,7 @@ fn read(message: &[u8]) -> Taken<Reading> {
     ask(message.len() <= MOST_MESSAGE, LIMIT, 0)?;
     ask(message.len() >= 2, SHAPE, 0)?;
     let tag = u32::from(u16_at(message, 0));
-    let (fields, data) = form_of(tag).ok_or(Answer {
-        number: TAG,
-        place: 0,
-    })?;
+    let (fields, data) = form_of(tag).ok_or(Answer { number: TAG, place: 0 })?;
     let mut cursor = Cursor::new(message, 2, message.len());
     let mut numbers = Numbers::default();
     for (at, field) in fields.iter().enumerate() {
@@ -133,17 +126,7 @@ fn read(message: &[u8]) -> Taken<Reading> {
     let (data_place, data_length) = read_data(data, &mut cursor)?;
     cursor.finish()?;
     let [a, b, c, d] = numbers;
-    Ok(Reading {
-        number: 0,
-        place: 0,
-        tag,
-        a,
-        b,
-        c,
-        d,
-        data_place,
-        data_length,
-    })
+    Ok(Reading { number: 0, place: 0, tag, a, b, c, d, data_place, data_length })
 }
 
 fn read_number(field: Field, ok: u64, cursor: &mut Cursor) -> Taken<u64> {
@@ -186,25 +169,15 @@ pub fn message_write(
 }
 
 fn write(tag: u32, numbers: Numbers, bytes: &[u8], out: &mut [u8]) -> Taken<usize> {
-    let (fields, data) = form_of(tag).ok_or(Answer {
-        number: TAG,
-        place: 0,
-    })?;
+    let (fields, data) = form_of(tag).ok_or(Answer { number: TAG, place: 0 })?;
     let ok = numbers[1];
     let (used, unused) = numbers.split_at(fields.len());
-    let fit = fields
-        .iter()
-        .zip(used)
-        .all(|(field, number)| *number <= field.most(ok));
+    let fit = fields.iter().zip(used).all(|(field, number)| *number <= field.most(ok));
     ask(fit && unused.iter().all(|number| *number == 0), VALUE, 0)?;
     ask(data != Data::None || bytes.is_empty(), VALUE, 0)?;
     ask(data != Data::Text || is_text(bytes), TEXT, 0)?;
     let numbers_length: usize = fields.iter().map(|field| field.width(ok)).sum();
-    let data_length = if data == Data::None {
-        0
-    } else {
-        4 + bytes.len()
-    };
+    let data_length = if data == Data::None { 0 } else { 4 + bytes.len() };
     let needed = 2 + numbers_length + data_length;
     ask(needed <= MOST_MESSAGE, LIMIT, 0)?;
 

@@ -86,13 +86,9 @@ pub fn add_disk(file: &[u8], id: u32, base: &[u8], overlay: &[u8], out: &mut [u8
 fn read_file(file: &[u8]) -> Taken<Vec<Section<'_>>> {
     ask(file.len() <= MOST_FILE, SIZE, 0)?;
     ask(file.len() >= HEADER.len(), SHORT, 0)?;
-    for (start, end, number) in [
-        (0, 8, MAGIC),
-        (8, 10, VERSION),
-        (10, 11, ENDIAN),
-        (11, 12, RESERVED),
-        (12, 16, RESERVED),
-    ] {
+    for (start, end, number) in
+        [(0, 8, MAGIC), (8, 10, VERSION), (10, 11, ENDIAN), (11, 12, RESERVED), (12, 16, RESERVED)]
+    {
         ask(file[start..end] == HEADER[start..end], number, start)?;
     }
     let mut sections = Vec::new();
@@ -115,34 +111,16 @@ fn read_section<'a>(file: &'a [u8], start: usize, before: &[Section]) -> Taken<S
     let bytes = &rest[..SECTION_HEADER + length as usize];
     let id = u32_at(bytes, 0);
     if !is_known(id) {
-        return Ok(Section {
-            id,
-            start,
-            bytes,
-            list: None,
-        });
+        return Ok(Section { id, start, bytes, list: None });
     }
     let version = u16_at(bytes, 4);
     ask(takes_version(id, version), SECVER, start + 4)?;
     ask(u16_at(bytes, 6) == 0, RESERVED, start + 6)?;
-    ask(
-        before.iter().all(|other| !excludes(other.id, id)),
-        TWICE,
-        start,
-    )?;
-    ask(
-        id != DEVICES || length <= MOST_DEVICES_PAYLOAD,
-        LIMIT,
-        start + 8,
-    )?;
+    ask(before.iter().all(|other| !excludes(other.id, id)), TWICE, start)?;
+    ask(id != DEVICES || length <= MOST_DEVICES_PAYLOAD, LIMIT, start + 8)?;
     let payload = Cursor::new(file, start + SECTION_HEADER, start + bytes.len());
     let list = read_payload(id, version, payload)?;
-    Ok(Section {
-        id,
-        start,
-        bytes,
-        list,
-    })
+    Ok(Section { id, start, bytes, list })
 }
 
 fn is_known(id: u32) -> bool {
@@ -158,11 +136,7 @@ fn takes_version(id: u32, version: u16) -> bool {
 
 /// Whether two known sections cannot stand in one file.
 fn excludes(one: u32, other: u32) -> bool {
-    one == other
-        || matches!(
-            (one, other),
-            (CPU, CPUS) | (CPUS, CPU) | (MMU, MMUS) | (MMUS, MMU)
-        )
+    one == other || matches!((one, other), (CPU, CPUS) | (CPUS, CPU) | (MMU, MMUS) | (MMUS, MMU))
 }
 
 /// Reads a known section's payload, and its entries if it is a list.
@@ -174,11 +148,7 @@ fn read_payload(id: u32, version: u16, mut payload: Cursor) -> Taken<Option<List
             ask(is_cpu_length(version, length), SHAPE, payload.place())?;
             read_cpu_state(version, length, &mut payload)?;
         }
-        MMU => ask(
-            payload.left() == mmu_length(version),
-            SHAPE,
-            payload.place(),
-        )?,
+        MMU => ask(payload.left() == mmu_length(version), SHAPE, payload.place())?,
         DEVICES => return read_list(Kind::Devices, payload).map(Some),
         DISKS => return read_list(Kind::Disks, payload).map(Some),
         RAM => {}
@@ -209,11 +179,7 @@ fn write_sections(sections: &[Section], table: &mut [u8]) -> Taken<usize> {
     let mut output = Output::with_room(table, needed)?;
     for section in sections {
         let offset = section.start + SECTION_HEADER;
-        output.put(&record(
-            &section.bytes[..8],
-            offset as u64,
-            u64_at(section.bytes, 8),
-        ));
+        output.put(&record(&section.bytes[..8], offset as u64, u64_at(section.bytes, 8)));
     }
     Ok(needed)
 }
@@ -225,20 +191,13 @@ fn list_table(
     table: &mut [u8],
 ) -> Taken<usize> {
     let sections = read_file(file)?;
-    let list = sections
-        .into_iter()
-        .find(|section| section.id == id)
-        .and_then(|s| s.list);
+    let list = sections.into_iter().find(|section| section.id == id).and_then(|s| s.list);
     write_table(&list.unwrap_or_default(), record, table)
 }
 
 /// u32 id, u16 version and u16 flags stand so in the entry; then the payload's place and length.
 fn device_record(entry: Entry) -> [u8; 24] {
-    record(
-        &entry.bytes[..8],
-        entry.start as u64 + 16,
-        u64_at(entry.bytes, 8),
-    )
+    record(&entry.bytes[..8], entry.start as u64 + 16, u64_at(entry.bytes, 8))
 }
 
 /// u32 id and u32 base length stand so in the entry; then the base's place, and the overlay's length
@@ -246,11 +205,7 @@ fn device_record(entry: Entry) -> [u8; 24] {
 fn disk_record(entry: Entry) -> [u8; 24] {
     let base_length = u32_at(entry.bytes, 4) as usize;
     let overlay_length = u32_at(entry.bytes, 8 + base_length);
-    record(
-        &entry.bytes[..8],
-        entry.start as u64 + 8,
-        u64::from(overlay_length),
-    )
+    record(&entry.bytes[..8], entry.start as u64 + 8, u64::from(overlay_length))
 }
 
 // The canonical form.
@@ -268,21 +223,14 @@ fn write_canonical(sections: &[Section], out: &mut [u8]) -> Taken<usize> {
 
 /// Known sections in ascending id, then the others in the order found, without the empty lists.
 fn canonical_order<'s, 'a>(sections: &'s [Section<'a>]) -> Vec<&'s Section<'a>> {
-    let mut ordered: Vec<_> = sections
-        .iter()
-        .filter(|section| !section.is_absent())
-        .collect();
+    let mut ordered: Vec<_> = sections.iter().filter(|section| !section.is_absent()).collect();
     ordered.sort_by_key(|section| section.rank());
     ordered
 }
 
 /// The length of a file of these sections.
 fn length_of(sections: &[&Section]) -> usize {
-    HEADER.len()
-        + sections
-            .iter()
-            .map(|section| section.bytes.len())
-            .sum::<usize>()
+    HEADER.len() + sections.iter().map(|section| section.bytes.len()).sum::<usize>()
 }
 
 impl Section<'_> {
@@ -346,16 +294,7 @@ fn try_add_device(
         &length.to_le_bytes(),
         payload,
     ];
-    add(
-        &sections,
-        New {
-            id: DEVICES,
-            kind: Kind::Devices,
-            key,
-            parts: &parts,
-        },
-        out,
-    )
+    add(&sections, New { id: DEVICES, kind: Kind::Devices, key, parts: &parts }, out)
 }
 
 fn try_add_disk(file: &[u8], id: u32, base: &[u8], overlay: &[u8], out: &mut [u8]) -> Taken<usize> {
@@ -370,39 +309,23 @@ fn try_add_disk(file: &[u8], id: u32, base: &[u8], overlay: &[u8], out: &mut [u8
         &(overlay.len() as u32).to_le_bytes(),
         overlay,
     ];
-    add(
-        &sections,
-        New {
-            id: DISKS,
-            kind: Kind::Disks,
-            key: u64::from(id),
-            parts: &parts,
-        },
-        out,
-    )
+    add(&sections, New { id: DISKS, kind: Kind::Disks, key: u64::from(id), parts: &parts }, out)
 }
 
 /// Writes the canonical form of the sections with the new entry in its list.
 fn add(sections: &[Section], new: New, out: &mut [u8]) -> Taken<usize> {
-    let (others, home): (Vec<&Section>, Vec<&Section>) = canonical_order(sections)
-        .into_iter()
-        .partition(|section| section.id != new.id);
+    let (others, home): (Vec<&Section>, Vec<&Section>) =
+        canonical_order(sections).into_iter().partition(|section| section.id != new.id);
     let none = List::new();
     let list = home.first().and_then(|home| home.list.as_ref());
     let list = list.unwrap_or(&none);
-    let old_payload = home
-        .first()
-        .map_or(4, |home| home.bytes.len() - SECTION_HEADER);
+    let old_payload = home.first().map_or(4, |home| home.bytes.len() - SECTION_HEADER);
     let payload = old_payload as u64 + new.length();
     let needed = length_of(&others) + SECTION_HEADER + payload as usize;
 
     ask(list.iter().all(|entry| entry.key != new.key), HAVE, 0)?;
     ask(list.len() < new.kind.most() as usize, LIMIT, 0)?;
-    ask(
-        new.id != DEVICES || payload <= MOST_DEVICES_PAYLOAD,
-        LIMIT,
-        0,
-    )?;
+    ask(new.id != DEVICES || payload <= MOST_DEVICES_PAYLOAD, LIMIT, 0)?;
     ask(others.len() < MOST_SECTIONS, MANY, 0)?;
     ask(needed <= MOST_FILE, SIZE, 0)?;
 

@@ -28,20 +28,13 @@ fn read_wrapper(wrapper: &[u8]) -> Taken<List<'_>> {
     for (at, number) in [(0, MAGIC), (4, VERSION), (8, MAGIC), (12, VERSION)] {
         ask(wrapper[at..at + 4] == HEADER[at..at + 4], number, at)?;
     }
-    read_list(
-        Kind::Controllers,
-        Cursor::new(wrapper, HEADER.len(), wrapper.len()),
-    )
+    read_list(Kind::Controllers, Cursor::new(wrapper, HEADER.len(), wrapper.len()))
 }
 
 /// u16 address, u16 0 and the four tag bytes stand so in the entry; then the payload's place and length.
 fn controller_record(entry: Entry) -> [u8; 24] {
     let length = u32_at(entry.bytes, 8);
-    record(
-        &entry.bytes[..8],
-        entry.start as u64 + 12,
-        u64::from(length),
-    )
+    record(&entry.bytes[..8], entry.start as u64 + 12, u64::from(length))
 }
 
 /// Nothing is left out and nothing added, so the form is as long as the wrapper.

@@ -89,10 +89,7 @@ fn p5_canonical_devices() {
     assert_eq!(devices(&p5(), &mut table), answer(0, 48));
     assert_eq!(table[..24], record(3, 1, 0, 52, 2)[..]);
     assert_eq!(table[24..], record(14, 1, 0, 70, 1)[..]);
-    assert_eq!(
-        p5(),
-        with_devices(&[device(3, 1, 0, &[0xAB, 0xCD]), device(14, 1, 0, &[0x11])])
-    );
+    assert_eq!(p5(), with_devices(&[device(3, 1, 0, &[0xAB, 0xCD]), device(14, 1, 0, &[0x11])]));
 }
 
 #[test]
@@ -126,58 +123,23 @@ fn p9_an_empty_list_is_absent() {
 #[test]
 fn p10_a_port_read_response() {
     let reading = message_read(&[0x01, 0x11, 7, 0, 0, 0, 0x0F, 0, 0, 0]);
-    assert_eq!(
-        reading,
-        Reading {
-            tag: 0x1101,
-            a: 7,
-            b: 15,
-            ..Reading::default()
-        }
-    );
+    assert_eq!(reading, Reading { tag: 0x1101, a: 7, b: 15, ..Reading::default() });
 }
 
 #[test]
 fn p11_an_unknown_tag() {
-    assert_eq!(
-        message_read(&[2, 0]),
-        Reading {
-            number: 18,
-            ..Reading::default()
-        }
-    );
+    assert_eq!(message_read(&[2, 0]), Reading { number: 18, ..Reading::default() });
 }
 
 #[test]
 fn p12_a_disk_read_that_failed() {
     let mut message = [0x04, 0x11, 9, 0, 0, 0, 0, 0, 0, 0, 0, 2, 0, 0, 0];
-    let reading = Reading {
-        tag: 0x1104,
-        a: 9,
-        b: 0,
-        c: 0,
-        d: 2,
-        ..Reading::default()
-    };
+    let reading = Reading { tag: 0x1104, a: 9, b: 0, c: 0, d: 2, ..Reading::default() };
     assert_eq!(message_read(&message), reading);
     message[6] = 1;
-    assert_eq!(
-        message_read(&message),
-        Reading {
-            number: 11,
-            place: 11,
-            ..Reading::default()
-        }
-    );
+    assert_eq!(message_read(&message), Reading { number: 11, place: 11, ..Reading::default() });
     message[6] = 2;
-    assert_eq!(
-        message_read(&message),
-        Reading {
-            number: 15,
-            place: 6,
-            ..Reading::default()
-        }
-    );
+    assert_eq!(message_read(&message), Reading { number: 15, place: 6, ..Reading::default() });
 }
 
 #[test]

@@ -29,13 +29,7 @@ fn checked(sections: &[Vec<u8>]) -> (u32, u64) {
 #[test]
 fn header_in_byte_order() {
     let mut bad = [0xFF; 16];
-    for (end, expected) in [
-        (0, (2, 0)),
-        (8, (3, 8)),
-        (10, (4, 10)),
-        (11, (5, 11)),
-        (12, (5, 12)),
-    ] {
+    for (end, expected) in [(0, (2, 0)), (8, (3, 8)), (10, (4, 10)), (11, (5, 11)), (12, (5, 12))] {
         bad[..end].copy_from_slice(&HEADER[..end]);
         assert_eq!(pair(check(&bad)), expected);
     }
@@ -53,10 +47,7 @@ fn section_checks_in_order() {
     assert_eq!(checked(&[&full[..], &[vec![0; 15]]].concat()), (7, end));
     let mut cut = section(4, 3, 1, &[]);
     cut[8] = 1;
-    assert_eq!(
-        checked(&[&full[..], std::slice::from_ref(&cut)].concat()),
-        (8, end)
-    );
+    assert_eq!(checked(&[&full[..], std::slice::from_ref(&cut)].concat()), (8, end));
     assert_eq!(checked(&[full[0].clone(), cut]), (7, 36));
     // Then version, flags, twice, fields.
     assert_eq!(checked(&[full[0].clone(), section(4, 3, 1, &[])]), (10, 40));
@@ -68,16 +59,10 @@ fn section_checks_in_order() {
 #[test]
 fn cpu_excludes_cpus_and_mmu_mmus() {
     let cpu = section(2, 1, 0, &[0; 412]);
-    assert_eq!(
-        checked(&[cpu.clone(), section(7, 2, 0, &[])]),
-        (9, 16 + 428)
-    );
+    assert_eq!(checked(&[cpu.clone(), section(7, 2, 0, &[])]), (9, 16 + 428));
     assert_eq!(checked(&[section(7, 2, 0, &[0; 4]), cpu]), (9, 36));
     let mmu = section(3, 2, 0, &[0; 264]);
-    assert_eq!(
-        checked(&[mmu.clone(), section(8, 1, 0, &[])]),
-        (9, 16 + 280)
-    );
+    assert_eq!(checked(&[mmu.clone(), section(8, 1, 0, &[])]), (9, 16 + 280));
     assert_eq!(checked(&[section(8, 1, 0, &[0; 4]), mmu]), (9, 36));
 }
 
@@ -106,22 +91,10 @@ fn meta_fields_in_order() {
     payload.push(1);
     assert_eq!(meta(&[&payload[..], &[0; 3]].concat()), (11, 58));
     assert_eq!(meta(&[&payload[..], &[0; 4]].concat()), (0, 0));
-    assert_eq!(
-        meta(&[&payload[..], &4097u32.to_le_bytes()].concat()),
-        (12, 58)
-    );
-    assert_eq!(
-        meta(&[&payload[..], &[2, 0, 0, 0, 0xFF]].concat()),
-        (11, 62)
-    );
-    assert_eq!(
-        meta(&[&payload[..], &[2, 0, 0, 0, 0xFF, 0, 0]].concat()),
-        (14, 62)
-    );
-    assert_eq!(
-        meta(&[&payload[..], &[2, 0, 0, 0, 0x41, 0, 0]].concat()),
-        (11, 64)
-    );
+    assert_eq!(meta(&[&payload[..], &4097u32.to_le_bytes()].concat()), (12, 58));
+    assert_eq!(meta(&[&payload[..], &[2, 0, 0, 0, 0xFF]].concat()), (11, 62));
+    assert_eq!(meta(&[&payload[..], &[2, 0, 0, 0, 0xFF, 0, 0]].concat()), (14, 62));
+    assert_eq!(meta(&[&payload[..], &[2, 0, 0, 0, 0x41, 0, 0]].concat()), (11, 64));
 }
 
 #[test]
@@ -154,10 +127,7 @@ fn cpu_lengths_and_values() {
 fn list_counts() {
     for (id, most) in [(4, 4096u32), (5, 256), (7, 256), (8, 256)] {
         assert_eq!(checked(&[section(id, 1, 0, &[0; 3])]), (11, 32));
-        assert_eq!(
-            checked(&[section(id, 1, 0, &(most + 1).to_le_bytes())]),
-            (12, 32)
-        );
+        assert_eq!(checked(&[section(id, 1, 0, &(most + 1).to_le_bytes())]), (12, 32));
         assert_eq!(checked(&[section(id, 1, 0, &most.to_le_bytes())]), (11, 36));
     }
 }
@@ -166,36 +136,20 @@ fn list_counts() {
 fn device_fields_in_order() {
     let first = [3u64.to_le_bytes(), 0u64.to_le_bytes()].concat();
     let list = |rest: &[u8]| {
-        checked(&[section(
-            4,
-            1,
-            0,
-            &[&2u32.to_le_bytes()[..], &first, rest].concat(),
-        )])
+        checked(&[section(4, 1, 0, &[&2u32.to_le_bytes()[..], &first, rest].concat())])
     };
     let over = ((64u64 << 20) + 1).to_le_bytes();
     assert_eq!(list(&[&3u64.to_le_bytes()[..], &[0; 7]].concat()), (11, 52));
     assert_eq!(list(&[3u64.to_le_bytes(), over].concat()), (13, 52));
     assert_eq!(list(&[4u64.to_le_bytes(), over].concat()), (12, 60));
-    assert_eq!(
-        list(&[4u64.to_le_bytes(), 1u64.to_le_bytes()].concat()),
-        (11, 68)
-    );
-    assert_eq!(
-        list(&[&4u64.to_le_bytes()[..], &[0; 8], &[9]].concat()),
-        (11, 68)
-    );
+    assert_eq!(list(&[4u64.to_le_bytes(), 1u64.to_le_bytes()].concat()), (11, 68));
+    assert_eq!(list(&[&4u64.to_le_bytes()[..], &[0; 8], &[9]].concat()), (11, 68));
 }
 
 #[test]
 fn disk_fields_in_order() {
     let list = |rest: &[u8]| {
-        checked(&[section(
-            5,
-            1,
-            0,
-            &[&2u32.to_le_bytes()[..], &[0; 12], rest].concat(),
-        )])
+        checked(&[section(5, 1, 0, &[&2u32.to_le_bytes()[..], &[0; 12], rest].concat())])
     };
     let over = 65_537u32.to_le_bytes();
     assert_eq!(list(&[0; 3]), (11, 48));
@@ -205,18 +159,9 @@ fn disk_fields_in_order() {
     assert_eq!(list(&[1, 0, 0, 0, 2, 0, 0, 0, 0xFF]), (11, 56));
     assert_eq!(list(&[1, 0, 0, 0, 1, 0, 0, 0, 0xFF]), (14, 56));
     assert_eq!(list(&[1, 0, 0, 0, 1, 0, 0, 0, 0x41, 1, 1, 1]), (11, 57));
-    assert_eq!(
-        list(&[&[1, 0, 0, 0, 1, 0, 0, 0, 0x41][..], &over].concat()),
-        (12, 57)
-    );
-    assert_eq!(
-        list(&[1, 0, 0, 0, 1, 0, 0, 0, 0x41, 1, 0, 0, 0, 0xC0, 9]),
-        (14, 61)
-    );
-    assert_eq!(
-        list(&[1, 0, 0, 0, 1, 0, 0, 0, 0x41, 1, 0, 0, 0, 0x42, 9]),
-        (11, 62)
-    );
+    assert_eq!(list(&[&[1, 0, 0, 0, 1, 0, 0, 0, 0x41][..], &over].concat()), (12, 57));
+    assert_eq!(list(&[1, 0, 0, 0, 1, 0, 0, 0, 0x41, 1, 0, 0, 0, 0xC0, 9]), (14, 61));
+    assert_eq!(list(&[1, 0, 0, 0, 1, 0, 0, 0, 0x41, 1, 0, 0, 0, 0x42, 9]), (11, 62));
 }
 
 #[test]
@@ -228,26 +173,15 @@ fn cpus_and_mmus_fields_in_order() {
     assert_eq!(cpus(&[0; 7]), (11, 36));
     assert_eq!(cpus(&head(412)), (11, 40));
     assert_eq!(cpus(&[&head(1183)[..], &[0xFF; 1182]].concat()), (11, 44));
-    assert_eq!(
-        cpus(&[&head(1183)[..], &[0xFF; 1183]].concat()),
-        (15, 44 + 144)
-    );
+    assert_eq!(cpus(&[&head(1183)[..], &[0xFF; 1183]].concat()), (15, 44 + 144));
     let state = [&head(1183)[..], &[0; 1183]].concat();
     assert_eq!(cpus(&[&state[..], &[0; 7]].concat()), (11, 44 + 1183));
     assert_eq!(cpus(&[&state[..], &over].concat()), (12, 44 + 1183));
-    assert_eq!(
-        cpus(&[&state[..], &1u64.to_le_bytes()].concat()),
-        (11, 44 + 1191)
-    );
+    assert_eq!(cpus(&[&state[..], &1u64.to_le_bytes()].concat()), (11, 44 + 1191));
     assert_eq!(cpus(&[&state[..], &[0; 9]].concat()), (11, 44 + 1191));
 
     let mmus = |count: u32, entries: &[u8]| {
-        checked(&[section(
-            8,
-            1,
-            0,
-            &[&count.to_le_bytes()[..], entries].concat(),
-        )])
+        checked(&[section(8, 1, 0, &[&count.to_le_bytes()[..], entries].concat())])
     };
     assert_eq!(mmus(2, &[0; 143]), (11, 36 + 72));
     assert_eq!(mmus(2, &[0; 144]), (13, 36 + 72));
@@ -259,35 +193,17 @@ fn wrapper_checks_in_order() {
     let good = *b"AERO\x01\0\0\0DSKC\x01\0\0\0\x02\0\0\0";
     let wrapper = |rest: &[u8]| pair(wrapper_check(&[&good[..], rest].concat()));
     let mut bad = [0xFF; 20];
-    for (end, expected) in [
-        (0, (2, 0)),
-        (4, (3, 4)),
-        (8, (2, 8)),
-        (12, (3, 12)),
-        (16, (12, 16)),
-    ] {
+    for (end, expected) in [(0, (2, 0)), (4, (3, 4)), (8, (2, 8)), (12, (3, 12)), (16, (12, 16))] {
         bad[..end].copy_from_slice(&good[..end]);
         assert_eq!(pair(wrapper_check(&bad)), expected);
     }
     assert_eq!(pair(wrapper_check(&good[..15])), (1, 0));
     assert_eq!(pair(wrapper_check(&good[..19])), (11, 16));
     assert_eq!(wrapper(&[0; 11]), (11, 20));
-    assert_eq!(
-        wrapper(&[[0u8; 12], [0, 0, 1, 0, 0, 0, 0, 0, 9, 0, 0, 0]].concat()),
-        (5, 34)
-    );
-    assert_eq!(
-        wrapper(&[[0u8; 12], [0, 0, 0, 0, 0, 0, 0, 0, 9, 0, 0, 0]].concat()),
-        (13, 32)
-    );
-    assert_eq!(
-        wrapper(&[[0u8; 12], [1, 0, 0, 0, 0, 0, 0, 0, 9, 0, 0, 0]].concat()),
-        (11, 44)
-    );
-    assert_eq!(
-        wrapper(&[&[0u8; 12][..], &[1], &[0; 11], &[5]].concat()),
-        (11, 44)
-    );
+    assert_eq!(wrapper(&[[0u8; 12], [0, 0, 1, 0, 0, 0, 0, 0, 9, 0, 0, 0]].concat()), (5, 34));
+    assert_eq!(wrapper(&[[0u8; 12], [0, 0, 0, 0, 0, 0, 0, 0, 9, 0, 0, 0]].concat()), (13, 32));
+    assert_eq!(wrapper(&[[0u8; 12], [1, 0, 0, 0, 0, 0, 0, 0, 9, 0, 0, 0]].concat()), (11, 44));
+    assert_eq!(wrapper(&[&[0u8; 12][..], &[1], &[0; 11], &[5]].concat()), (11, 44));
 }
 
 #[test]
@@ -348,8 +264,5 @@ fn adds_in_order() {
     assert_eq!(added(&file(&full), 1, &[], &[]), (16, 16 + 63 * 16 + 32));
     full[63] = disk;
     assert_eq!(added(&file(&full), 1, &[], &[]), (16, 16 + 63 * 16 + 44));
-    assert_eq!(
-        pair(add_device(&file(&full), 1, 1, 0, &[], &mut [])),
-        (8, 0)
-    );
+    assert_eq!(pair(add_device(&file(&full), 1, 1, 0, &[], &mut [])), (8, 0));
 }

@@ -6,24 +6,6 @@ use borrow.Author.Needs.{needs}
 use Rattle.aipc.proofs.body_size.Statement.{statement}
 use Rattle.aipc.proofs.body_size.Tie as tie
 
-enum-told : tie.Need-enum-told
-enum-told c = search needs
-
-enum-told-2 : tie.Need-enum-told-2
-enum-told-2 c = search needs
-
-add-result : tie.Need-add-result
-add-result c = search needs
-
-enum-told-3 : tie.Need-enum-told-3
-enum-told-3 c = search needs
-
-add-result-2 : tie.Need-add-result-2
-add-result-2 c = search needs
-
-returns : tie.Need-returns
-returns c = search needs
-
 returns-2 : tie.Need-returns-2
 returns-2 c = (rw (c .enum-told2 .given .1) (sym (length-sized (c .before .before .args .bytes .now))), omega arith)
 
@@ -34,11 +16,11 @@ pub body-size-spec : {M : Type 1} → statement M
 body-size-spec =
     tie.close
     (tie.spec
-    enum-told
-    enum-told-2
-    add-result
-    enum-told-3
-    add-result-2
-    returns
+    (λ c. search needs)
+    (λ c. search needs)
+    (λ c. search needs)
+    (λ c. search needs)
+    (λ c. search needs)
+    (λ c. search needs)
     returns-2
     returns-3)

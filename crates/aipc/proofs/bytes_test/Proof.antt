@@ -8,18 +8,6 @@ use borrow.Author.Needs.{needs}
 use Rattle.aipc.proofs.bytes_test.Statement.{statement}
 use Rattle.aipc.proofs.bytes_test.Tie as tie
 
-data-end-requires : tie.Need-data-end-requires
-data-end-requires c κs = search needs
-
-enum-known-number : tie.Need-enum-known-number
-enum-known-number c = search needs
-
-enum-known-end : tie.Need-enum-known-end
-enum-known-end c = search needs
-
-ended-requires : tie.Need-ended-requires
-ended-requires c κs = tt
-
 returns : tie.Need-returns
 unfolding bodyChecks
 returns c = let a = c .before .before .before .before .before .args in piece-stops _ (dataFits (a .at) (a .m .now)) _ (c .before .before .before .data-end .ensures) _ (c .before .number .given .1)
@@ -31,4 +19,4 @@ returns-2 c = let a = c .before .before .before .before .before .before .args in
 pub bytes-test-spec : {M : Type 1} → statement M
 bytes-test-spec =
     tie.close
-    (tie.spec data-end-requires enum-known-number enum-known-end ended-requires returns returns-2)
+    (tie.spec (λ c κs. search needs) (λ c. search needs) (λ c. search needs) (λ c κs. tt) returns returns-2)

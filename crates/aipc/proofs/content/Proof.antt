@@ -3,24 +3,6 @@ use borrow.Author.Needs.{needs}
 use Rattle.aipc.proofs.content.Statement.{statement}
 use Rattle.aipc.proofs.content.Tie as tie
 
-enum-told : tie.Need-enum-told
-enum-told c = search needs
-
-found-requires : tie.Need-found-requires
-found-requires c κs = tt
-
-enum-told-2 : tie.Need-enum-told-2
-enum-told-2 c = search needs
-
-with-data-requires : tie.Need-with-data-requires
-with-data-requires c κs = search needs
-
-enum-told-3 : tie.Need-enum-told-3
-enum-told-3 c = search needs
-
-with-data-requires-2 : tie.Need-with-data-requires-2
-with-data-requires-2 c κs = search needs
-
 returns : tie.Need-returns
 returns c = rw (c .before .enum-told .given .1) (c .found .ensures)
 
@@ -34,12 +16,12 @@ pub content-spec : {M : Type 1} → statement M
 content-spec =
     tie.close
     (tie.spec
-    enum-told
-    found-requires
-    enum-told-2
-    with-data-requires
-    enum-told-3
-    with-data-requires-2
+    (λ c. search needs)
+    (λ c κs. tt)
+    (λ c. search needs)
+    (λ c κs. search needs)
+    (λ c. search needs)
+    (λ c κs. search needs)
     returns
     returns-2
     returns-3)

@@ -10,23 +10,11 @@ enum-told c = search needs
 returns : tie.Need-returns
 returns c = rw (c .before .enum-told .given .1, lt-leb _ _ (c .if1 .taken))
 
-enum-told-2 : tie.Need-enum-told-2
-enum-told-2 c = search needs
-
-enum-told-3 : tie.Need-enum-told-3
-enum-told-3 c = search needs
-
-is-text-requires : tie.Need-is-text-requires
-is-text-requires c κs = tt
-
 returns-2 : tie.Need-returns-2
 returns-2 c = rw (c .before .before .enum-told3 .given .1, ← c .before .is-text .ensures, c .if2 .taken)
 
 returns-3 : tie.Need-returns-3
 returns-3 c = rw (c .before .enum-told .given .1, le-leb _ _ (c .if1 .left))
-
-returns-4 : tie.Need-returns-4
-returns-4 c = search needs
 
 returns-5 : tie.Need-returns-5
 returns-5 c = rw (c .before .before .enum-told3 .given .1, ← c .before .is-text .ensures, c .if2 .left)
@@ -37,10 +25,10 @@ data-test-spec =
     (tie.spec
     enum-told
     returns
-    enum-told-2
-    enum-told-3
-    is-text-requires
+    (λ c. search needs)
+    (λ c. search needs)
+    (λ c κs. tt)
     returns-2
     returns-3
-    returns-4
+    (λ c. search needs)
     returns-5)

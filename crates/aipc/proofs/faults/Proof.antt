@@ -2,12 +2,6 @@
 use Rattle.aipc.proofs.faults.Statement.{statement}
 use Rattle.aipc.proofs.faults.Tie as tie
 
-all-allowed-requires : tie.Need-all-allowed-requires
-all-allowed-requires c κs = tt
-
-data-test-requires : tie.Need-data-test-requires
-data-test-requires c κs = tt
-
 returns : tie.Need-returns
 returns c = rw (c .before .before .before .if1 .taken, ← c .before .before .all-allowed .ensures, c .before .if2 .taken) (c .data-test .ensures)
 
@@ -19,4 +13,4 @@ returns-3 c = rw (c .if1 .left)
 
 pub faults-spec : {M : Type 1} → statement M
 faults-spec =
-    tie.close (tie.spec all-allowed-requires data-test-requires returns returns-2 returns-3)
+    tie.close (tie.spec (λ c κs. tt) (λ c κs. tt) returns returns-2 returns-3)

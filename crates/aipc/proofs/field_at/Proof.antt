@@ -7,15 +7,6 @@ use mathlib.Core.Path.{sym, _∙_}
 use Rattle.aipc.proofs.field_at.Statement.{statement}
 use Rattle.aipc.proofs.field_at.Tie as tie
 
-width-requires : tie.Need-width-requires
-width-requires c κs = tt
-
-fits-requires : tie.Need-fits-requires
-fits-requires c κs = tt
-
-allowed-requires : tie.Need-allowed-requires
-allowed-requires c κs = tt
-
 add-t9 : tie.Need-add-t9
 add-t9 c = let a = c .before .before .before .before .before .before .args in omega (arith, leb-true (a .at + c .before .before .before .before .width .result) (length (a .m .now)) (sym (c .before .before .before .fits2 .ensures) ∙ c .before .before .if1 .taken))
 
@@ -31,4 +22,4 @@ returns-3 c = simp (← c .before .before .width .ensures .0, ← c .before .fit
 pub field-at-spec : {M : Type 1} → statement M
 field-at-spec =
     tie.close
-    (tie.spec width-requires fits-requires allowed-requires add-t9 returns returns-2 returns-3)
+    (tie.spec (λ c κs. tt) (λ c κs. tt) (λ c κs. tt) add-t9 returns returns-2 returns-3)

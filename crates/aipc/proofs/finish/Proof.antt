@@ -8,21 +8,6 @@ use borrow.Author.Needs.{needs}
 use Rattle.aipc.proofs.finish.Statement.{statement}
 use Rattle.aipc.proofs.finish.Tie as tie
 
-body-test-requires : tie.Need-body-test-requires
-body-test-requires c κs = search needs
-
-enum-known-number : tie.Need-enum-known-number
-enum-known-number c = search needs
-
-refused-requires : tie.Need-refused-requires
-refused-requires c κs = tt
-
-enum-told : tie.Need-enum-told
-enum-told c = search needs
-
-content-requires : tie.Need-content-requires
-content-requires c κs = search needs
-
 returns : tie.Need-returns
 unfolding behind
 returns c = let a = c .before .before .before .before .before .before .args in c .refused .ensures ∙ ap reading (test-stops _ (bodyChecks (a .body) (a .at) (a .m .now)) (c .before .before .before .before .body-test .ensures) (taken (messageContent (a .message) (a .body) (a .at) (a .m .now))) (c .before .before .number .given .1))
@@ -35,10 +20,10 @@ pub finish-spec : {M : Type 1} → statement M
 finish-spec =
     tie.close
     (tie.spec
-    body-test-requires
-    enum-known-number
-    refused-requires
-    enum-told
-    content-requires
+    (λ c κs. search needs)
+    (λ c. search needs)
+    (λ c κs. tt)
+    (λ c. search needs)
+    (λ c κs. search needs)
     returns
     returns-2)

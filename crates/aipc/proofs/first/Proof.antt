@@ -3,12 +3,6 @@ use borrow.Author.Needs.{needs}
 use Rattle.aipc.proofs.first.Statement.{statement}
 use Rattle.aipc.proofs.first.Tie as tie
 
-enum-known-a : tie.Need-enum-known-a
-enum-known-a c = search needs
-
-enum-told : tie.Need-enum-told
-enum-told c = search needs
-
 returns : tie.Need-returns
 returns c = rw (c .before .a .given .1)
 
@@ -16,4 +10,4 @@ returns-2 : tie.Need-returns-2
 returns-2 c = rw (c .enum-told .given .1)
 
 pub first-spec : {M : Type 1} → statement M
-first-spec = tie.close (tie.spec enum-known-a enum-told returns returns-2)
+first-spec = tie.close (tie.spec (λ c. search needs) (λ c. search needs) returns returns-2)

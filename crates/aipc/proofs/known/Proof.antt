@@ -11,18 +11,6 @@ use borrow.Author.Needs.{needs}
 use Rattle.aipc.proofs.known.Statement.{statement}
 use Rattle.aipc.proofs.known.Tie as tie
 
-numbers-requires : tie.Need-numbers-requires
-numbers-requires c κs = tt
-
-enum-known-number : tie.Need-enum-known-number
-enum-known-number c = search needs
-
-refused-requires : tie.Need-refused-requires
-refused-requires c κs = tt
-
-enum-known-at : tie.Need-enum-known-at
-enum-known-at c = search needs
-
 finish-requires : tie.Need-finish-requires
 finish-requires c κs = let a = c .before .before .before .before .before .args in omega (arith, end-small (a .f), piece-passes _ (fieldChecks (okOf (a .f)) (cells (a .f)) 2 (a .m .now)) (numbersEnd (a .f)) (c .before .before .before .numbers .ensures) (c .before .at .given .1) .1)
 
@@ -38,10 +26,10 @@ pub known-spec : {M : Type 1} → statement M
 known-spec =
     tie.close
     (tie.spec
-    numbers-requires
-    enum-known-number
-    refused-requires
-    enum-known-at
+    (λ c κs. tt)
+    (λ c. search needs)
+    (λ c κs. tt)
+    (λ c. search needs)
     finish-requires
     returns
     returns-2)

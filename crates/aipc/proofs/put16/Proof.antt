@@ -8,17 +8,8 @@ use borrow.Author.Needs.{needs}
 use Rattle.aipc.proofs.put16.Statement.{statement}
 use Rattle.aipc.proofs.put16.Tie as tie
 
-cast-put-u16 : tie.Need-cast-put-u16
-cast-put-u16 c = search needs
-
-put-u16-requires : tie.Need-put-u16-requires
-put-u16-requires c κs = tt
-
-same-length : tie.Need-same-length
-same-length c = search needs
-
 returns : tie.Need-returns
 returns c = let a = c .before .before .before .before .before .args in c .before .before .put-u16 .ensures ∙ ap (λ (l : List ℕ). put (a .at) l (a .out .now)) (bytes-low 2 (a .x))
 
 pub put16-spec : {M : Type 1} → statement M
-put16-spec = tie.close (tie.spec cast-put-u16 put-u16-requires same-length returns)
+put16-spec = tie.close (tie.spec (λ c. search needs) (λ c κs. tt) (λ c. search needs) returns)

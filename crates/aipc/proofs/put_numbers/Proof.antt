@@ -4,39 +4,6 @@ use borrow.Author.Needs.{needs}
 use Rattle.aipc.proofs.put_numbers.Statement.{statement}
 use Rattle.aipc.proofs.put_numbers.Tie as tie
 
-width-requires : tie.Need-width-requires
-width-requires c κs = tt
-
-add-second : tie.Need-add-second
-add-second c = search needs
-
-width-requires-2 : tie.Need-width-requires-2
-width-requires-2 c κs = tt
-
-add-third : tie.Need-add-third
-add-third c = search needs
-
-width-requires-3 : tie.Need-width-requires-3
-width-requires-3 c κs = tt
-
-add-fourth : tie.Need-add-fourth
-add-fourth c = search needs
-
-put-field-requires : tie.Need-put-field-requires
-put-field-requires c κs = tt
-
-put-field-requires-2 : tie.Need-put-field-requires-2
-put-field-requires-2 c κs = tt
-
-put-field-requires-3 : tie.Need-put-field-requires-3
-put-field-requires-3 c κs = tt
-
-put-field-requires-4 : tie.Need-put-field-requires-4
-put-field-requires-4 c κs = tt
-
-same-length : tie.Need-same-length
-same-length c = search needs
-
 returns : tie.Need-returns
 returns c =
     let fourth = c .before .before in
@@ -52,15 +19,15 @@ pub put-numbers-spec : {M : Type 1} → statement M
 put-numbers-spec =
     tie.close
     (tie.spec
-    width-requires
-    add-second
-    width-requires-2
-    add-third
-    width-requires-3
-    add-fourth
-    put-field-requires
-    put-field-requires-2
-    put-field-requires-3
-    put-field-requires-4
-    same-length
+    (λ c κs. tt)
+    (λ c. search needs)
+    (λ c κs. tt)
+    (λ c. search needs)
+    (λ c κs. tt)
+    (λ c. search needs)
+    (λ c κs. tt)
+    (λ c κs. tt)
+    (λ c κs. tt)
+    (λ c κs. tt)
+    (λ c. search needs)
     returns)

@@ -9,17 +9,8 @@ use borrow.Author.Needs.{needs}
 use Rattle.aipc.proofs.text_at.Statement.{statement}
 use Rattle.aipc.proofs.text_at.Tie as tie
 
-text-part-requires : tie.Need-text-part-requires
-text-part-requires c κs = search needs
-
-ended-requires : tie.Need-ended-requires
-ended-requires c κs = tt
-
-first-requires : tie.Need-first-requires
-first-requires c κs = tt
-
 returns : tie.Need-returns
 returns c = let a = c .before .before .before .before .args in c .first .ensures ∙ rw (c .before .before .text-part .ensures, c .before .ended .ensures) (checked-after (textPart (a .start) (a .end) (a .m .now)) (taken tt) (λ _. asked (leftOver (a .m .now) (a .end))))
 
 pub text-at-spec : {M : Type 1} → statement M
-text-at-spec = tie.close (tie.spec text-part-requires ended-requires first-requires returns)
+text-at-spec = tie.close (tie.spec (λ c κs. search needs) (λ c κs. tt) (λ c κs. tt) returns)

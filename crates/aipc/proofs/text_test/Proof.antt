@@ -11,18 +11,6 @@ use borrow.Author.Needs.{needs}
 use Rattle.aipc.proofs.text_test.Statement.{statement}
 use Rattle.aipc.proofs.text_test.Tie as tie
 
-data-end-requires : tie.Need-data-end-requires
-data-end-requires c κs = search needs
-
-enum-known-number : tie.Need-enum-known-number
-enum-known-number c = search needs
-
-enum-known-end : tie.Need-enum-known-end
-enum-known-end c = search needs
-
-add-text-at : tie.Need-add-text-at
-add-text-at c = search needs
-
 text-at-requires : tie.Need-text-at-requires
 text-at-requires c κs = let a = c .before .before .before .before .before .args in data-within (a .at) (a .m .now) (piece-passes _ (dataFits (a .at) (a .m .now)) _ (c .before .before .before .data-end .ensures) (c .before .end .given .1))
 
@@ -37,10 +25,10 @@ pub text-test-spec : {M : Type 1} → statement M
 text-test-spec =
     tie.close
     (tie.spec
-    data-end-requires
-    enum-known-number
-    enum-known-end
-    add-text-at
+    (λ c κs. search needs)
+    (λ c. search needs)
+    (λ c. search needs)
+    (λ c. search needs)
     text-at-requires
     returns
     returns-2)

@@ -4,29 +4,11 @@ use borrow.Author.Needs.{needs}
 use Rattle.aipc.proofs.write.Statement.{statement}
 use Rattle.aipc.proofs.write.Tie as tie
 
-form-of-requires : tie.Need-form-of-requires
-form-of-requires c κs = tt
-
-size-requires : tie.Need-size-requires
-size-requires c κs = tt
-
 write-test-requires : tie.Need-write-test-requires
 write-test-requires c κs = c .size .ensures
 
-enum-known-number : tie.Need-enum-known-number
-enum-known-number c = search needs
-
-enum-told : tie.Need-enum-told
-enum-told c = search needs
-
-put-form-requires : tie.Need-put-form-requires
-put-form-requires c κs = tt
-
 returns : tie.Need-returns
 returns c = let s = c .before .before .before in write-refused _ _ _ _ (s .before .before .form-of .ensures) _ (s .write-test .ensures) (c .before .number .given .1)
-
-same-length : tie.Need-same-length
-same-length c = search needs
 
 returns-2 : tie.Need-returns-2
 returns-2 c = let p = c .before .before in let s = p .before .before .before .before in write-taken _ _ _ _ (s .before .before .form-of .ensures) _ (s .write-test .ensures) (p .before .before .enum-told .given .1) (s .before .size .ensures) (p .put-form .ensures)
@@ -35,12 +17,12 @@ pub write-spec : {M : Type 1} → statement M
 write-spec =
     tie.close
     (tie.spec
-    form-of-requires
-    size-requires
+    (λ c κs. tt)
+    (λ c κs. tt)
     write-test-requires
-    enum-known-number
-    enum-told
-    put-form-requires
+    (λ c. search needs)
+    (λ c. search needs)
+    (λ c κs. tt)
     returns
-    same-length
+    (λ c. search needs)
     returns-2)

@@ -11,18 +11,6 @@ use borrow.Author.Needs.{needs}
 use Rattle.aipc.proofs.write_test.Statement.{statement}
 use Rattle.aipc.proofs.write_test.Tie as tie
 
-faults-requires : tie.Need-faults-requires
-faults-requires c κs = tt
-
-enum-known-number : tie.Need-enum-known-number
-enum-known-number c = search needs
-
-enum-told : tie.Need-enum-told
-enum-told c = search needs
-
-limits-requires : tie.Need-limits-requires
-limits-requires c κs = tt
-
 returns : tie.Need-returns
 returns c = let a = c .before .before .before .before .before .args in test-stops _ (faults (a .f) (a .bytes .now)) (c .before .before .before .faults .ensures) _ (c .before .number .given .1) ∙ sym (writing-checks (a .f) (a .bytes .now) (a .have) (taken tt))
 
@@ -33,9 +21,9 @@ pub write-test-spec : {M : Type 1} → statement M
 write-test-spec =
     tie.close
     (tie.spec
-    faults-requires
-    enum-known-number
-    enum-told
-    limits-requires
+    (λ c κs. tt)
+    (λ c. search needs)
+    (λ c. search needs)
+    (λ c κs. tt)
     returns
     returns-2)

@@ -3,12 +3,6 @@ use borrow.Author.Needs.{needs}
 use Rattle.answer.proofs.answered.Statement.{statement}
 use Rattle.answer.proofs.answered.Tie as tie
 
-enum-known-t : tie.Need-enum-known-t
-enum-known-t c = search needs
-
-enum-told : tie.Need-enum-told
-enum-told c = search needs
-
 returns : tie.Need-returns
 returns c = rw (c .before .t .given .1)
 
@@ -16,4 +10,4 @@ returns-2 : tie.Need-returns-2
 returns-2 c = rw (c .enum-told .given .1)
 
 pub answered-spec : {M : Type 1} → statement M
-answered-spec = tie.close (tie.spec enum-known-t enum-told returns returns-2)
+answered-spec = tie.close (tie.spec (λ c. search needs) (λ c. search needs) returns returns-2)

@@ -24,23 +24,11 @@ fine c = sym (ap testOf (c .enum-told .given .1)) ∙ read c .faults .ensures
 long : (c : tie.After-enum-told) → 16 ≤ length (start (read c) .args .wrapper .now)
 long c = canon-length (start (read c) .args .wrapper .now) (fine c) .0
 
-faults-requires : tie.Need-faults-requires
-faults-requires c κs = search needs
-
-enum-known-number : tie.Need-enum-known-number
-enum-known-number c = search needs
-
-enum-told : tie.Need-enum-told
-enum-told c = search needs
-
 returns : tie.Need-returns
 returns c = let a = start (read (c .before)) .args in writes-refused (canon-short (a .wrapper .now) (fine (c .before)) (length (a .out .now)) (c .if1 .taken))
 
 put-header-requires : tie.Need-put-header-requires
 put-header-requires c κs = omega (arith, long (c .before .before))
-
-tail-requires : tie.Need-tail-requires
-tail-requires c κs = search needs
 
 sub-write : tie.Need-sub-write
 sub-write c = omega (arith, long (c .before .before .before .before .before .before))
@@ -48,20 +36,11 @@ sub-write c = omega (arith, long (c .before .before .before .before .before .bef
 part-write-start : tie.Need-part-write-start
 part-write-start c = omega (arith, long (c .before .before .before .before .before .before))
 
-part-write-end : tie.Need-part-write-end
-part-write-end c = search needs
-
-write-requires : tie.Need-write-requires
-write-requires c κs = search needs
-
 returns-2 : tie.Need-returns-2
 returns-2 c =
     let f = c .before .before .before in
     let a = start f .args in
     writes-refused (canon-stop (a .wrapper .now) (length (a .out .now)) (rw (c .before .number .given .1) at (f .faults .ensures)))
-
-same-length : tie.Need-same-length
-same-length c = search needs
 
 returns-3 : tie.Need-returns-3
 returns-3 c =
@@ -75,16 +54,16 @@ pub canonical-spec : {M : Type 1} → statement M
 canonical-spec =
     tie.close
     (tie.spec
-    faults-requires
-    enum-known-number
-    enum-told
+    (λ c κs. search needs)
+    (λ c. search needs)
+    (λ c. search needs)
     returns
     put-header-requires
-    tail-requires
+    (λ c κs. search needs)
     sub-write
     part-write-start
-    part-write-end
-    write-requires
+    (λ c. search needs)
+    (λ c κs. search needs)
     returns-2
-    same-length
+    (λ c. search needs)
     returns-3)

@@ -5,14 +5,8 @@ use borrow.Author.Needs.{needs}
 use Rattle.dskc.proofs.check.Statement.{statement}
 use Rattle.dskc.proofs.check.Tie as tie
 
-faults-requires : tie.Need-faults-requires
-faults-requires c κs = search needs
-
-answered-requires : tie.Need-answered-requires
-answered-requires c κs = search needs
-
 returns : tie.Need-returns
 returns c = c .answered .ensures ∙ verdict-done (wrapperOf (c .before .before .before .args .wrapper .now)) (c .before .faults .result) (c .before .faults .ensures)
 
 pub check-spec : {M : Type 1} → statement M
-check-spec = tie.close (tie.spec faults-requires answered-requires returns)
+check-spec = tie.close (tie.spec (λ c κs. search needs) (λ c κs. search needs) returns)

@@ -19,29 +19,11 @@ read c = c .before .before
 fine : (c : tie.After-enum-told) → taken tt ≡ done (wrapperOf (start (read c) .args .wrapper .now))
 fine c = sym (ap testOf (c .enum-told .given .1)) ∙ read c .faults .ensures
 
-faults-requires : tie.Need-faults-requires
-faults-requires c κs = search needs
-
-enum-known-number : tie.Need-enum-known-number
-enum-known-number c = search needs
-
-enum-told : tie.Need-enum-told
-enum-told c = search needs
-
-tail-requires : tie.Need-tail-requires
-tail-requires c κs = search needs
-
-write-requires : tie.Need-write-requires
-write-requires c κs = search needs
-
 returns : tie.Need-returns
 returns c =
     let f = c .before .before .before in
     let a = start f .args in
     writes-refused (table-stop (length (a .table .now)) (a .wrapper .now) (rw (c .before .number .given .1) at (f .faults .ensures)))
-
-same-length : tie.Need-same-length
-same-length c = search needs
 
 returns-2 : tie.Need-returns-2
 returns-2 c =
@@ -54,11 +36,11 @@ pub controllers-spec : {M : Type 1} → statement M
 controllers-spec =
     tie.close
     (tie.spec
-    faults-requires
-    enum-known-number
-    enum-told
-    tail-requires
-    write-requires
+    (λ c κs. search needs)
+    (λ c. search needs)
+    (λ c. search needs)
+    (λ c κs. search needs)
+    (λ c κs. search needs)
     returns
-    same-length
+    (λ c. search needs)
     returns-2)

@@ -36,29 +36,8 @@ fault c =
     let e = headed k in
     list-stop (text e) (passed e) (k .before .tail .ensures) (sym (ap testOf (c .number2 .given .1)) ∙ k .check .ensures)
 
-header-requires : tie.Need-header-requires
-header-requires c κs = search needs
-
-enum-known-number : tie.Need-enum-known-number
-enum-known-number c = search needs
-
-enum-told : tie.Need-enum-told
-enum-told c = search needs
-
-tail-requires : tie.Need-tail-requires
-tail-requires c κs = search needs
-
-check-requires : tie.Need-check-requires
-check-requires c κs = search needs
-
-enum-known-number-2 : tie.Need-enum-known-number-2
-enum-known-number-2 c = search needs
-
 add-at : tie.Need-add-at
 add-at c = omega (arith, fault (c .before) .1)
-
-enum-told-2 : tie.Need-enum-told-2
-enum-told-2 c = search needs
 
 returns : tie.Need-returns
 returns c = let k = c .before .before .before in header-stop (start k .args .s .now) (rw (c .before .number .given .1) at (k .header .ensures))
@@ -76,14 +55,14 @@ pub faults-spec : {M : Type 1} → statement M
 faults-spec =
     tie.close
     (tie.spec
-    header-requires
-    enum-known-number
-    enum-told
-    tail-requires
-    check-requires
-    enum-known-number-2
+    (λ c κs. search needs)
+    (λ c. search needs)
+    (λ c. search needs)
+    (λ c κs. search needs)
+    (λ c κs. search needs)
+    (λ c. search needs)
     add-at
-    enum-told-2
+    (λ c. search needs)
     returns
     returns-2
     returns-3)

@@ -48,28 +48,16 @@ returns c = left-fail (left-all (headerChecks (c .before .before .args .s .now))
 returns-2 : tie.Need-returns-2
 returns-2 c = left-fail (most (c .before)) (lt-leb _ _ (c .if2 .taken))
 
-u32-at-requires : tie.Need-u32-at-requires
-u32-at-requires c κs = search needs
-
 returns-3 : tie.Need-returns-3
 returns-3 c = let p = c .before .before in left-fail (short p) (aero-number (read p) (bytes p) (p .if2 .left) (c .before .u32-at .ensures) ∙ ne-eqb _ _ (c .if3 .taken))
 
-pair-at-requires : tie.Need-pair-at-requires
-pair-at-requires c κs = search needs
-
 returns-4 : tie.Need-returns-4
 returns-4 c = left-fail (letters (c .before .before)) (sym (c .before .pair-at .ensures) ∙ not-true _ (c .if4 .taken))
-
-u32-at-requires-2 : tie.Need-u32-at-requires-2
-u32-at-requires-2 c κs = search needs
 
 returns-5 : tie.Need-returns-5
 returns-5 c =
     let p = c .before .before .before .before .before .before in
     left-fail (pair (c .before .before)) (dskc-number (read p) (bytes p) (p .if2 .left) (c .before .u32-at2 .ensures) ∙ ne-eqb _ _ (c .if5 .taken))
-
-pair-at-requires-2 : tie.Need-pair-at-requires-2
-pair-at-requires-2 c κs = search needs
 
 returns-6 : tie.Need-returns-6
 returns-6 c = left-fail (more-letters (c .before .before)) (sym (c .before .pair-at2 .ensures) ∙ not-true _ (c .if6 .taken))
@@ -83,12 +71,12 @@ header-spec =
     (tie.spec
     returns
     returns-2
-    u32-at-requires
+    (λ c κs. search needs)
     returns-3
-    pair-at-requires
+    (λ c κs. search needs)
     returns-4
-    u32-at-requires-2
+    (λ c κs. search needs)
     returns-5
-    pair-at-requires-2
+    (λ c κs. search needs)
     returns-6
     returns-7)

@@ -5,21 +5,6 @@ use borrow.Author.Needs.{needs}
 use Rattle.dskc.proofs.put_header.Statement.{statement}
 use Rattle.dskc.proofs.put_header.Tie as tie
 
-put-u32-requires : tie.Need-put-u32-requires
-put-u32-requires c κs = search needs
-
-put-u32-requires-2 : tie.Need-put-u32-requires-2
-put-u32-requires-2 c κs = search needs
-
-put-u32-requires-3 : tie.Need-put-u32-requires-3
-put-u32-requires-3 c κs = search needs
-
-put-u32-requires-4 : tie.Need-put-u32-requires-4
-put-u32-requires-4 c κs = search needs
-
-same-length : tie.Need-same-length
-same-length c = search needs
-
 -- the four stores, named from the last to the first, leave the header
 returns : tie.Need-returns
 unfolding bytesOf
@@ -36,9 +21,9 @@ pub put-header-spec : {M : Type 1} → statement M
 put-header-spec =
     tie.close
     (tie.spec
-    put-u32-requires
-    put-u32-requires-2
-    put-u32-requires-3
-    put-u32-requires-4
-    same-length
+    (λ c κs. search needs)
+    (λ c κs. search needs)
+    (λ c κs. search needs)
+    (λ c κs. search needs)
+    (λ c. search needs)
     returns)

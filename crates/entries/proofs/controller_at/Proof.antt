@@ -7,18 +7,6 @@ use borrow.Author.Needs.{needs}
 use Rattle.entries.proofs.controller_at.Statement.{statement}
 use Rattle.entries.proofs.controller_at.Tie as tie
 
-controller-head-at-requires : tie.Need-controller-head-at-requires
-controller-head-at-requires c κs = search needs
-
-enum-known-number : tie.Need-enum-known-number
-enum-known-number c = search needs
-
-enum-known-e : tie.Need-enum-known-e
-enum-known-e c = search needs
-
-part-at-requires : tie.Need-part-at-requires
-part-at-requires c κs = search needs
-
 returns : tie.Need-returns
 returns c =
     let k = c .before .before .before in
@@ -37,9 +25,9 @@ pub controller-at-spec : {M : Type 1} → statement M
 controller-at-spec =
     tie.close
     (tie.spec
-    controller-head-at-requires
-    enum-known-number
-    enum-known-e
-    part-at-requires
+    (λ c κs. search needs)
+    (λ c. search needs)
+    (λ c. search needs)
+    (λ c κs. search needs)
     returns
     returns-2)

@@ -39,15 +39,6 @@ fault : (c : tie.After-number2) → let e = c .before .before .before .before .b
     refused (c .number2 .given .0 .0) (c .number2 .given .0 .1 .0) ≡ head-asks (take (end e - a .at) (drop (a .at) (a .s .now)))
 fault c = sym (ap testOf (c .number2 .given .1)) ∙ c .before .before .controller-lead .ensures
 
-block-at-requires : tie.Need-block-at-requires
-block-at-requires c κs = search needs
-
-enum-known-number : tie.Need-enum-known-number
-enum-known-number c = search needs
-
-enum-known-e : tie.Need-enum-known-e
-enum-known-e c = search needs
-
 sub-controller-lead : tie.Need-sub-controller-lead
 sub-controller-lead c = omega (arith, inside (c .before))
 
@@ -57,20 +48,11 @@ part-controller-lead-start c = omega (arith, inside (c .before))
 part-controller-lead-end : tie.Need-part-controller-lead-end
 part-controller-lead-end c = omega (arith, inside (c .before))
 
-controller-lead-requires : tie.Need-controller-lead-requires
-controller-lead-requires c κs = search needs
-
-enum-known-number-2 : tie.Need-enum-known-number-2
-enum-known-number-2 c = search needs
-
 add-t16 : tie.Need-add-t16
 add-t16 c =
     let e = c .before .before .before .before .before .before in
     let a = start (part e) .args in
     omega (arith, head-place (a .s .now) (a .at) (read e) (fault (c .before)))
-
-enum-told : tie.Need-enum-told
-enum-told c = search needs
 
 returns : tie.Need-returns
 returns c =
@@ -94,16 +76,16 @@ pub controller-head-at-spec : {M : Type 1} → statement M
 controller-head-at-spec =
     tie.close
     (tie.spec
-    block-at-requires
-    enum-known-number
-    enum-known-e
+    (λ c κs. search needs)
+    (λ c. search needs)
+    (λ c. search needs)
     sub-controller-lead
     part-controller-lead-start
     part-controller-lead-end
-    controller-lead-requires
-    enum-known-number-2
+    (λ c κs. search needs)
+    (λ c. search needs)
     add-t16
-    enum-told
+    (λ c. search needs)
     returns
     returns-2
     returns-3)

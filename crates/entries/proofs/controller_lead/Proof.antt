@@ -4,17 +4,11 @@ use borrow.Author.Needs.{needs}
 use Rattle.entries.proofs.controller_lead.Statement.{statement}
 use Rattle.entries.proofs.controller_lead.Tie as tie
 
-u16-at-requires : tie.Need-u16-at-requires
-u16-at-requires c κs = search needs
-
 returns : tie.Need-returns
 returns c = head-device _ (c .before .u16-at .ensures) (c .if1 .taken)
 
 returns-2 : tie.Need-returns-2
 returns-2 c = head-function _ (c .before .before .u16-at .ensures) (c .before .if1 .left) (c .if2 .taken)
-
-u16-at-requires-2 : tie.Need-u16-at-requires-2
-u16-at-requires-2 c κs = search needs
 
 returns-3 : tie.Need-returns-3
 returns-3 c = head-reserved _ (c .before .before .before .before .u16-at .ensures) (c .before .before .before .if1 .left) (c .before .before .if2 .left) (c .before .u16-at2 .ensures) (c .if3 .taken)
@@ -24,4 +18,4 @@ returns-4 c = head-fine _ (c .before .before .before .before .u16-at .ensures) (
 
 pub controller-lead-spec : {M : Type 1} → statement M
 controller-lead-spec =
-    tie.close (tie.spec u16-at-requires returns returns-2 u16-at-requires-2 returns-3 returns-4)
+    tie.close (tie.spec (λ c κs. search needs) returns returns-2 (λ c κs. search needs) returns-3 returns-4)

@@ -10,18 +10,6 @@ use Rattle.entries.proofs.cpu_at.Tie as tie
 abbrev rest : ℕ → Format
 rest version = pair (sized 4 (cpuLengthChecks version) (cpuState version)) (blob 8 67108864)
 
-block-at-requires : tie.Need-block-at-requires
-block-at-requires c κs = search needs
-
-enum-known-number : tie.Need-enum-known-number
-enum-known-number c = search needs
-
-enum-known-e : tie.Need-enum-known-e
-enum-known-e c = search needs
-
-cpu-rest-at-requires : tie.Need-cpu-rest-at-requires
-cpu-rest-at-requires c κs = search needs
-
 returns : tie.Need-returns
 returns c = let k = c .before .before .before in let a = k .before .before .args in pair-stop (a .s .now) (a .at) (bytes 4) (rest (a .version)) (rw (c .before .number .given .1) at (k .block-at .ensures))
 
@@ -32,9 +20,9 @@ pub cpu-at-spec : {M : Type 1} → statement M
 cpu-at-spec =
     tie.close
     (tie.spec
-    block-at-requires
-    enum-known-number
-    enum-known-e
-    cpu-rest-at-requires
+    (λ c κs. search needs)
+    (λ c. search needs)
+    (λ c. search needs)
+    (λ c κs. search needs)
     returns
     returns-2)

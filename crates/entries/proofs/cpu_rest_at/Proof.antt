@@ -5,18 +5,6 @@ use borrow.Author.Needs.{needs}
 use Rattle.entries.proofs.cpu_rest_at.Statement.{statement}
 use Rattle.entries.proofs.cpu_rest_at.Tie as tie
 
-state-at-requires : tie.Need-state-at-requires
-state-at-requires c κs = search needs
-
-enum-known-number : tie.Need-enum-known-number
-enum-known-number c = search needs
-
-enum-known-e : tie.Need-enum-known-e
-enum-known-e c = search needs
-
-blob-at-requires : tie.Need-blob-at-requires
-blob-at-requires c κs = search needs
-
 returns : tie.Need-returns
 returns c = let k = c .before .before .before in let a = k .before .before .args in pair-stop (a .s .now) (a .at) (sized 4 (cpuLengthChecks (a .version)) (cpuState (a .version))) (blob 8 67108864) (rw (c .before .number .given .1) at (k .state-at .ensures))
 
@@ -26,4 +14,4 @@ returns-2 c = let k = c .before .before .before .before in let a = k .before .be
 pub cpu-rest-at-spec : {M : Type 1} → statement M
 cpu-rest-at-spec =
     tie.close
-    (tie.spec state-at-requires enum-known-number enum-known-e blob-at-requires returns returns-2)
+    (tie.spec (λ c κs. search needs) (λ c. search needs) (λ c. search needs) (λ c κs. search needs) returns returns-2)

@@ -4,12 +4,6 @@ use borrow.Author.Needs.{needs}
 use Rattle.entries.proofs.cpu_state.Statement.{statement}
 use Rattle.entries.proofs.cpu_state.Tie as tie
 
-cpu-length-requires : tie.Need-cpu-length-requires
-cpu-length-requires c κs = search needs
-
-numbers-in-requires : tie.Need-numbers-in-requires
-numbers-in-requires c κs = search needs
-
 returns : tie.Need-returns
 returns c = let k = c .before .before in let a = k .before .before .args in whole-fine (a .version) (a .state .now) (sym (k .cpu-length .ensures) ∙ c .before .if1 .taken) (c .numbers-in .ensures)
 
@@ -17,4 +11,4 @@ returns-2 : tie.Need-returns-2
 returns-2 c = let k = c .before in let a = k .before .before .args in whole-bad (a .version) (a .state .now) (sym (k .cpu-length .ensures) ∙ c .if1 .left)
 
 pub cpu-state-spec : {M : Type 1} → statement M
-cpu-state-spec = tie.close (tie.spec cpu-length-requires numbers-in-requires returns returns-2)
+cpu-state-spec = tie.close (tie.spec (λ c κs. search needs) (λ c κs. search needs) returns returns-2)

@@ -31,29 +31,17 @@ third c = row-in (second (c .before .before)) (c .before .u8-at2 .ensures) (omeg
 fourth : (c : tie.Else5) → Rest 4 (state (word (c .before .before .before .before .before .before)))
 fourth c = row-in (third (c .before .before)) (c .before .u8-at3 .ensures) (omega arith) (c .if5 .left)
 
-u32-at-requires : tie.Need-u32-at-requires
-u32-at-requires c κs = search needs
-
 returns : tie.Need-returns
 returns c = row-low (listed-all extension (state (c .before))) (c .before .u32-at .ensures) (c .if1 .taken)
 
 returns-2 : tie.Need-returns-2
 returns-2 c = let k = c .before .before in row-high (listed-all extension (state k)) (k .u32-at .ensures) (c .if2 .taken)
 
-u8-at-requires : tie.Need-u8-at-requires
-u8-at-requires c κs = search needs
-
 returns-3 : tie.Need-returns-3
 returns-3 c = row-high (first (c .before .before)) (c .before .u8-at .ensures) (c .if3 .taken)
 
-u8-at-requires-2 : tie.Need-u8-at-requires-2
-u8-at-requires-2 c κs = search needs
-
 returns-4 : tie.Need-returns-4
 returns-4 c = row-high (second (c .before .before)) (c .before .u8-at2 .ensures) (c .if4 .taken)
-
-u8-at-requires-3 : tie.Need-u8-at-requires-3
-u8-at-requires-3 c κs = search needs
 
 returns-5 : tie.Need-returns-5
 returns-5 c = row-high (third (c .before .before)) (c .before .u8-at3 .ensures) (c .if5 .taken)
@@ -65,13 +53,13 @@ pub extension-in-spec : {M : Type 1} → statement M
 extension-in-spec =
     tie.close
     (tie.spec
-    u32-at-requires
+    (λ c κs. search needs)
     returns
     returns-2
-    u8-at-requires
+    (λ c κs. search needs)
     returns-3
-    u8-at-requires-2
+    (λ c κs. search needs)
     returns-4
-    u8-at-requires-3
+    (λ c κs. search needs)
     returns-5
     returns-6)

@@ -10,31 +10,13 @@ use borrow.Author.Needs.{needs}
 use Rattle.entries.proofs.held_state.Statement.{statement}
 use Rattle.entries.proofs.held_state.Tie as tie
 
-left-requires : tie.Need-left-requires
-left-requires c κs = search needs
-
 returns : tie.Need-returns
 returns c = let a = c .before .before .before .args in sized-short (a .s .now) (a .at) 4 (cpuLengthChecks (a .version)) any (omega arith)
-
-u32-at-requires : tie.Need-u32-at-requires
-u32-at-requires c κs = search needs
-
-cast-n : tie.Need-cast-n
-cast-n c = search needs
-
-cpu-length-requires : tie.Need-cpu-length-requires
-cpu-length-requires c κs = search needs
 
 returns-2 : tie.Need-returns-2
 returns-2 c =
     let a = c .before .before .before .before .before .before .args in
     sized-bad (a .s .now) (a .at) 4 _ (cpuLengthChecks (a .version)) (c .before .before .u32-at .ensures) (omega arith) SHAPE _ [] refl (sym (c .before .cpu-length .ensures) ∙ not-true _ (c .if2 .taken))
-
-add-b : tie.Need-add-b
-add-b c = search needs
-
-sub-if3 : tie.Need-sub-if3
-sub-if3 c = search needs
 
 returns-3 : tie.Need-returns-3
 returns-3 c =
@@ -42,9 +24,6 @@ returns-3 c =
     let n = e .before .before in
     let a = n .before .before .before .before .args in
     sized-cut (a .s .now) (a .at) 4 _ (cpuLengthChecks (a .version)) (n .u32-at .ensures) (omega arith) (sym (e .before .cpu-length .ensures) ∙ not-false _ (e .if2 .left), tt) (omega arith)
-
-add-t6 : tie.Need-add-t6
-add-t6 c = search needs
 
 returns-4 : tie.Need-returns-4
 returns-4 c =
@@ -57,14 +36,14 @@ pub held-state-spec : {M : Type 1} → statement M
 held-state-spec =
     tie.close
     (tie.spec
-    left-requires
+    (λ c κs. search needs)
     returns
-    u32-at-requires
-    cast-n
-    cpu-length-requires
+    (λ c κs. search needs)
+    (λ c. search needs)
+    (λ c κs. search needs)
     returns-2
-    add-b
-    sub-if3
+    (λ c. search needs)
+    (λ c. search needs)
     returns-3
-    add-t6
+    (λ c. search needs)
     returns-4)

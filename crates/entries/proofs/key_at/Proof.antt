@@ -4,14 +4,8 @@ use borrow.Author.Needs.{needs}
 use Rattle.entries.proofs.key_at.Statement.{statement}
 use Rattle.entries.proofs.key_at.Tie as tie
 
-tail-requires : tie.Need-tail-requires
-tail-requires c κs = search needs
-
-key-of-requires : tie.Need-key-of-requires
-key-of-requires c κs = search needs
-
 returns : tie.Need-returns
 returns c = c .key-of .ensures ∙ ap (describe (c .before .before .before .args .kind) .key) (c .before .tail .ensures)
 
 pub key-at-spec : {M : Type 1} → statement M
-key-at-spec = tie.close (tie.spec tail-requires key-of-requires returns)
+key-at-spec = tie.close (tie.spec (λ c κs. search needs) (λ c κs. search needs) returns)

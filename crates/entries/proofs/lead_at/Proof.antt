@@ -11,20 +11,8 @@ use borrow.Author.Needs.{needs}
 use Rattle.entries.proofs.lead_at.Statement.{statement}
 use Rattle.entries.proofs.lead_at.Tie as tie
 
-tail-requires : tie.Need-tail-requires
-tail-requires c κs = search needs
-
-lead-of-requires : tie.Need-lead-of-requires
-lead-of-requires c κs = search needs
-
-enum-known-number : tie.Need-enum-known-number
-enum-known-number c = search needs
-
 add-t9 : tie.Need-add-t9
 add-t9 c = let k = c .before .before .before in let a = k .before .before .before .args in omega (arith, lead-place (lawful (a .kind)) (a .s .now) (a .at) (k .before .tail .ensures) (rw (c .before .number .given .1) at (k .lead-of .ensures)))
-
-enum-told : tie.Need-enum-told
-enum-told c = search needs
 
 returns : tie.Need-returns
 returns c = let k = c .before .before .before in let a = k .before .before .before .args in ap (moved (a .at)) (rw (c .before .number .given .1) at (k .lead-of .ensures)) ∙ ap (λ (b : List ℕ). moved (a .at) (asked (leadChecks (describe (a .kind)) b))) (k .before .tail .ensures)
@@ -35,4 +23,4 @@ returns-2 c = let k = c .before .before in let a = k .before .before .before .ar
 pub lead-at-spec : {M : Type 1} → statement M
 lead-at-spec =
     tie.close
-    (tie.spec tail-requires lead-of-requires enum-known-number add-t9 enum-told returns returns-2)
+    (tie.spec (λ c κs. search needs) (λ c κs. search needs) (λ c. search needs) add-t9 (λ c. search needs) returns returns-2)

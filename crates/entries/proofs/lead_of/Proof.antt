@@ -5,17 +5,11 @@ use borrow.Author.Needs.{needs}
 use Rattle.entries.proofs.lead_of.Statement.{statement}
 use Rattle.entries.proofs.lead_of.Tie as tie
 
-fixed-of-requires : tie.Need-fixed-of-requires
-fixed-of-requires c κs = search needs
-
 returns : tie.Need-returns
 returns c = let a = c .before .before .before .args in lead-short (describe (a .kind)) (a .b .now) (omega arith)
-
-early-of-requires : tie.Need-early-of-requires
-early-of-requires c κs = search needs
 
 returns-2 : tie.Need-returns-2
 returns-2 c = let a = c .before .before .before .before .args in lead-next (describe (a .kind)) (a .b .now) (omega arith) (c .early-of .ensures)
 
 pub lead-of-spec : {M : Type 1} → statement M
-lead-of-spec = tie.close (tie.spec fixed-of-requires returns early-of-requires returns-2)
+lead-of-spec = tie.close (tie.spec (λ c κs. search needs) returns (λ c κs. search needs) returns-2)

@@ -8,14 +8,8 @@ use borrow.Author.Needs.{needs}
 use Rattle.entries.proofs.length_at.Statement.{statement}
 use Rattle.entries.proofs.length_at.Tie as tie
 
-tail-requires : tie.Need-tail-requires
-tail-requires c κs = search needs
-
-length-of-requires : tie.Need-length-of-requires
-length-of-requires c κs = search needs
-
 returns : tie.Need-returns
 returns c = c .length-of .ensures ∙ ap (λ (b : List ℕ). length (take (span (describe (c .before .before .before .args .kind) .form) b) b)) (c .before .tail .ensures)
 
 pub length-at-spec : {M : Type 1} → statement M
-length-at-spec = tie.close (tie.spec tail-requires length-of-requires returns)
+length-at-spec = tie.close (tie.spec (λ c κs. search needs) (λ c κs. search needs) returns)

@@ -6,17 +6,8 @@ use Rattle.entries.proofs.numbers_in.Tie as tie
 returns : tie.Need-returns
 returns c = let a = c .before .before .args in state-one (a .version) (a .state .now) (c .if1 .taken)
 
-registers-in-requires : tie.Need-registers-in-requires
-registers-in-requires c κs = search needs
-
-enum-known-number : tie.Need-enum-known-number
-enum-known-number c = search needs
-
 enum-told : tie.Need-enum-told
 enum-told c = search needs
-
-extension-in-requires : tie.Need-extension-in-requires
-extension-in-requires c κs = search needs
 
 returns-2 : tie.Need-returns-2
 returns-2 c = let k = c .before .before .before .before in let a = k .before .before .before .args in state-long (a .version) (a .state .now) (k .before .if1 .left) (c .before .if2 .taken) (rw (c .before .before .enum-told .given .1) at (k .registers-in .ensures)) (c .extension-in .ensures)
@@ -32,10 +23,10 @@ numbers-in-spec =
     tie.close
     (tie.spec
     returns
-    registers-in-requires
-    enum-known-number
+    (λ c κs. search needs)
+    (λ c. search needs)
     enum-told
-    extension-in-requires
+    (λ c κs. search needs)
     returns-2
     returns-3
     returns-4)

@@ -25,20 +25,11 @@ second c = row-in (first (c .before .before)) (c .before .u8-at2 .ensures) (omeg
 third : (c : tie.Else3) → Rest 3 (state (c .before .before .before .before .before))
 third c = row-in (second (c .before .before)) (c .before .u8-at3 .ensures) (omega arith) (c .if3 .left)
 
-u8-at-requires : tie.Need-u8-at-requires
-u8-at-requires c κs = search needs
-
 returns : tie.Need-returns
 returns c = row-high (listed-all registers (state (c .before))) (c .before .u8-at .ensures) (c .if1 .taken)
 
-u8-at-requires-2 : tie.Need-u8-at-requires-2
-u8-at-requires-2 c κs = search needs
-
 returns-2 : tie.Need-returns-2
 returns-2 c = row-high (first (c .before .before)) (c .before .u8-at2 .ensures) (c .if2 .taken)
-
-u8-at-requires-3 : tie.Need-u8-at-requires-3
-u8-at-requires-3 c κs = search needs
 
 returns-3 : tie.Need-returns-3
 returns-3 c = row-high (second (c .before .before)) (c .before .u8-at3 .ensures) (c .if3 .taken)
@@ -50,10 +41,10 @@ pub registers-in-spec : {M : Type 1} → statement M
 registers-in-spec =
     tie.close
     (tie.spec
-    u8-at-requires
+    (λ c κs. search needs)
     returns
-    u8-at-requires-2
+    (λ c κs. search needs)
     returns-2
-    u8-at-requires-3
+    (λ c κs. search needs)
     returns-3
     returns-4)

@@ -40,15 +40,6 @@ fault : (c : tie.After-number2) → let e = c .before .before .before .before .b
     refused (c .number2 .given .0 .0) (c .number2 .given .0 .1 .0) ≡ cpuState (a .version) (take (end e - (a .at + 4)) (drop (a .at + 4) (a .s .now)))
 fault c = sym (ap testOf (c .number2 .given .1)) ∙ c .before .before .numbers-in .ensures
 
-held-state-requires : tie.Need-held-state-requires
-held-state-requires c κs = search needs
-
-enum-known-number : tie.Need-enum-known-number
-enum-known-number c = search needs
-
-enum-known-e : tie.Need-enum-known-e
-enum-known-e c = search needs
-
 add-b : tie.Need-add-b
 add-b c = omega (arith, inside (c .before))
 
@@ -61,20 +52,11 @@ part-numbers-in-start c = omega (arith, inside (c .before))
 part-numbers-in-end : tie.Need-part-numbers-in-end
 part-numbers-in-end c = omega (arith, inside (c .before))
 
-numbers-in-requires : tie.Need-numbers-in-requires
-numbers-in-requires c κs = search needs
-
-enum-known-number-2 : tie.Need-enum-known-number-2
-enum-known-number-2 c = search needs
-
 add-t18 : tie.Need-add-t18
 add-t18 c =
     let e = c .before .before .before .before .before .before in
     let a = start (part e) .args in
     omega (arith, state-place (a .version) (a .s .now) (a .at) (read e) (fault (c .before)))
-
-enum-told : tie.Need-enum-told
-enum-told c = search needs
 
 returns : tie.Need-returns
 returns c =
@@ -98,17 +80,17 @@ pub state-at-spec : {M : Type 1} → statement M
 state-at-spec =
     tie.close
     (tie.spec
-    held-state-requires
-    enum-known-number
-    enum-known-e
+    (λ c κs. search needs)
+    (λ c. search needs)
+    (λ c. search needs)
     add-b
     sub-numbers-in
     part-numbers-in-start
     part-numbers-in-end
-    numbers-in-requires
-    enum-known-number-2
+    (λ c κs. search needs)
+    (λ c. search needs)
     add-t18
-    enum-told
+    (λ c. search needs)
     returns
     returns-2
     returns-3)

@@ -4,18 +4,6 @@ use borrow.Author.Needs.{needs}
 use Rattle.entries.proofs.texts_at.Statement.{statement}
 use Rattle.entries.proofs.texts_at.Tie as tie
 
-text-at-requires : tie.Need-text-at-requires
-text-at-requires c κs = search needs
-
-enum-known-number : tie.Need-enum-known-number
-enum-known-number c = search needs
-
-enum-known-e : tie.Need-enum-known-e
-enum-known-e c = search needs
-
-text-at-requires-2 : tie.Need-text-at-requires-2
-text-at-requires-2 c κs = search needs
-
 returns : tie.Need-returns
 returns c = let k = c .before .before .before in let a = k .before .before .args in pair-stop (a .s .now) (a .at) (text 65536) (text 65536) (rw (c .before .number .given .1) at (k .text-at .ensures))
 
@@ -25,4 +13,4 @@ returns-2 c = let k = c .before .before .before .before in let a = k .before .be
 pub texts-at-spec : {M : Type 1} → statement M
 texts-at-spec =
     tie.close
-    (tie.spec text-at-requires enum-known-number enum-known-e text-at-requires-2 returns returns-2)
+    (tie.spec (λ c κs. search needs) (λ c. search needs) (λ c. search needs) (λ c κs. search needs) returns returns-2)

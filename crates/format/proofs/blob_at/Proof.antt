@@ -9,21 +9,12 @@ use Rattle.format.proofs.Exits.{sized-short}
 use Rattle.format.proofs.blob_at.Statement.{statement}
 use Rattle.format.proofs.blob_at.Tie as tie
 
-fits-requires : tie.Need-fits-requires
-fits-requires c κs = search needs
-
-u64-at-requires : tie.Need-u64-at-requires
-u64-at-requires c κs = search needs
-
 held-at-requires : tie.Need-held-at-requires
 held-at-requires c κs = (leb-true _ _ (sym (c .before .before .fits2 .ensures) ∙ c .before .if1 .taken), c .u64-at .ensures)
-
-returns : tie.Need-returns
-returns c = search needs
 
 returns-2 : tie.Need-returns-2
 returns-2 c = let a = c .before .before .before .args in sized-short (a .s .now) (a .at) 8 (atMost (a .most)) any (omega (arith, leb-false (a .at + 8) (length (a .s .now)) (sym (c .before .fits2 .ensures) ∙ c .if1 .left)))
 
 pub blob-at-spec : {M : Type 1} → statement M
 blob-at-spec =
-    tie.close (tie.spec fits-requires u64-at-requires held-at-requires returns returns-2)
+    tie.close (tie.spec (λ c κs. search needs) (λ c κs. search needs) held-at-requires (λ c. search needs) returns-2)

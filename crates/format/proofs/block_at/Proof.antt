@@ -4,17 +4,11 @@ use borrow.Author.Needs.{needs}
 use Rattle.format.proofs.block_at.Statement.{statement}
 use Rattle.format.proofs.block_at.Tie as tie
 
-left-requires : tie.Need-left-requires
-left-requires c κs = search needs
-
 returns : tie.Need-returns
 returns c = let a = c .before .before .before .args in block-short (a .s .now) (a .at) (a .n) (omega arith)
-
-add-t4 : tie.Need-add-t4
-add-t4 c = search needs
 
 returns-2 : tie.Need-returns-2
 returns-2 c = let a = c .before .before .before .args in block-done (a .s .now) (a .at) (a .n) (omega arith)
 
 pub block-at-spec : {M : Type 1} → statement M
-block-at-spec = tie.close (tie.spec left-requires returns add-t4 returns-2)
+block-at-spec = tie.close (tie.spec (λ c κs. search needs) returns (λ c. search needs) returns-2)

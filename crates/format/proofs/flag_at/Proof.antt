@@ -7,9 +7,6 @@ use Rattle.format.proofs.flag_at.Tie as tie
 returns : tie.Need-returns
 returns c = flag-short _ _ (c .if1 .taken)
 
-shared-slice-read-b : tie.Need-shared-slice-read-b
-shared-slice-read-b c = search needs
-
 returns-2 : tie.Need-returns-2
 returns-2 c = flag-bad _ _ (omega arith) (c .if2 .taken)
 
@@ -20,4 +17,4 @@ returns-4 : tie.Need-returns-4
 returns-4 c = let a = c .before .before .before .before .args in flag-present (a .s .now) (a .at) (omega arith) (omega arith)
 
 pub flag-at-spec : {M : Type 1} → statement M
-flag-at-spec = tie.close (tie.spec returns shared-slice-read-b returns-2 returns-3 returns-4)
+flag-at-spec = tie.close (tie.spec returns (λ c. search needs) returns-2 returns-3 returns-4)

@@ -9,20 +9,8 @@ use Rattle.format.proofs.Exits.{sized-short}
 use Rattle.format.proofs.part_at.Statement.{statement}
 use Rattle.format.proofs.part_at.Tie as tie
 
-fits-requires : tie.Need-fits-requires
-fits-requires c κs = search needs
-
-u32-at-requires : tie.Need-u32-at-requires
-u32-at-requires c κs = search needs
-
-cast-held-at : tie.Need-cast-held-at
-cast-held-at c = search needs
-
 held-at-requires : tie.Need-held-at-requires
 held-at-requires c κs = (leb-true _ _ (sym (c .before .before .fits2 .ensures) ∙ c .before .if1 .taken), c .u32-at .ensures)
-
-returns : tie.Need-returns
-returns c = search needs
 
 returns-2 : tie.Need-returns-2
 returns-2 c = let a = c .before .before .before .args in sized-short (a .s .now) (a .at) 4 (atMost (a .most)) any (omega (arith, leb-false (a .at + 4) (length (a .s .now)) (sym (c .before .fits2 .ensures) ∙ c .if1 .left)))
@@ -30,4 +18,4 @@ returns-2 c = let a = c .before .before .before .args in sized-short (a .s .now)
 pub part-at-spec : {M : Type 1} → statement M
 part-at-spec =
     tie.close
-    (tie.spec fits-requires u32-at-requires cast-held-at held-at-requires returns returns-2)
+    (tie.spec (λ c κs. search needs) (λ c κs. search needs) (λ c. search needs) held-at-requires (λ c. search needs) returns-2)

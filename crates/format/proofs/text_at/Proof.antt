@@ -30,15 +30,6 @@ read c = sym (ap pieceOf (c .e .given .1)) ∙ part c .part-at .ensures
 inside : (c : tie.After-e) → let a = start (part c) .args in (a .at + 4 ≤ end c) × (end c ≤ length (a .s .now))
 inside c = let a = start (part c) .args in sized-inside (a .s .now) (a .at) 4 (atMost (a .most)) any (read c) (omega arith)
 
-part-at-requires : tie.Need-part-at-requires
-part-at-requires c κs = search needs
-
-enum-known-number : tie.Need-enum-known-number
-enum-known-number c = search needs
-
-enum-known-e : tie.Need-enum-known-e
-enum-known-e c = search needs
-
 add-b : tie.Need-add-b
 add-b c = omega (arith, inside (c .before))
 
@@ -50,15 +41,6 @@ part-text-start c = omega (arith, inside (c .before))
 
 part-text-end : tie.Need-part-text-end
 part-text-end c = omega (arith, inside (c .before))
-
-text-requires : tie.Need-text-requires
-text-requires c κs = search needs
-
-enum-told : tie.Need-enum-told
-enum-told c = search needs
-
-enum-told-2 : tie.Need-enum-told-2
-enum-told-2 c = search needs
 
 returns : tie.Need-returns
 returns c = let k = c .before .before .before in let a = start k .args in asked-stop utf8 (a .s .now) (a .at + 4) (sized-at 4 (atMost (a .most)) utf8 (a .s .now) (a .at)) (rw (c .before .number .given .1) at (k .part-at .ensures))
@@ -73,16 +55,16 @@ pub text-at-spec : {M : Type 1} → statement M
 text-at-spec =
     tie.close
     (tie.spec
-    part-at-requires
-    enum-known-number
-    enum-known-e
+    (λ c κs. search needs)
+    (λ c. search needs)
+    (λ c. search needs)
     add-b
     sub-text
     part-text-start
     part-text-end
-    text-requires
-    enum-told
-    enum-told-2
+    (λ c κs. search needs)
+    (λ c. search needs)
+    (λ c. search needs)
     returns
     returns-2
     returns-3)

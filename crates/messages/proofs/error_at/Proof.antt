@@ -5,12 +5,6 @@ use Rattle.wire.specs.Numbers.{leAt, le}
 use Rattle.messages.proofs.error_at.Statement.{statement}
 use Rattle.messages.proofs.error_at.Tie as tie
 
-u8-at-requires : tie.Need-u8-at-requires
-u8-at-requires c κs = tt
-
-u32-at-requires : tie.Need-u32-at-requires
-u32-at-requires c κs = tt
-
 returns : tie.Need-returns
 returns c = rw (eq-eqb _ _ (sym (c .before .before .u8-at .ensures) ∙ c .before .if1 .taken)) (c .u32-at .ensures)
 
@@ -19,4 +13,4 @@ unfolding leAt le
 returns-2 c = rw (ne-eqb _ _ (λ e. c .if1 .left (c .before .u8-at .ensures ∙ e)))
 
 pub error-at-spec : {M : Type 1} → statement M
-error-at-spec = tie.close (tie.spec u8-at-requires u32-at-requires returns returns-2)
+error-at-spec = tie.close (tie.spec (λ c κs. tt) (λ c κs. tt) returns returns-2)

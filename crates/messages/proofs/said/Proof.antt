@@ -6,132 +6,6 @@ use Rattle.messages.proofs.Tags.{missing, unknown}
 use Rattle.messages.proofs.said.Statement.{statement}
 use Rattle.messages.proofs.said.Tie as tie
 
-u16-at-requires : tie.Need-u16-at-requires
-u16-at-requires c κs = tt
-
-u32-at-requires : tie.Need-u32-at-requires
-u32-at-requires c κs = tt
-
-u32-at-requires-2 : tie.Need-u32-at-requires-2
-u32-at-requires-2 c κs = tt
-
-u64-at-requires : tie.Need-u64-at-requires
-u64-at-requires c κs = tt
-
-u32-at-requires-3 : tie.Need-u32-at-requires-3
-u32-at-requires-3 c κs = tt
-
-u32-at-requires-4 : tie.Need-u32-at-requires-4
-u32-at-requires-4 c κs = tt
-
-u64-at-requires-2 : tie.Need-u64-at-requires-2
-u64-at-requires-2 c κs = tt
-
-u32-at-requires-5 : tie.Need-u32-at-requires-5
-u32-at-requires-5 c κs = tt
-
-u16-at-requires-2 : tie.Need-u16-at-requires-2
-u16-at-requires-2 c κs = tt
-
-u32-at-requires-6 : tie.Need-u32-at-requires-6
-u32-at-requires-6 c κs = tt
-
-u32-at-requires-7 : tie.Need-u32-at-requires-7
-u32-at-requires-7 c κs = tt
-
-u16-at-requires-3 : tie.Need-u16-at-requires-3
-u16-at-requires-3 c κs = tt
-
-u32-at-requires-8 : tie.Need-u32-at-requires-8
-u32-at-requires-8 c κs = tt
-
-u32-at-requires-9 : tie.Need-u32-at-requires-9
-u32-at-requires-9 c κs = tt
-
-u32-at-requires-10 : tie.Need-u32-at-requires-10
-u32-at-requires-10 c κs = tt
-
-u64-at-requires-3 : tie.Need-u64-at-requires-3
-u64-at-requires-3 c κs = tt
-
-u32-at-requires-11 : tie.Need-u32-at-requires-11
-u32-at-requires-11 c κs = tt
-
-u64-at-requires-4 : tie.Need-u64-at-requires-4
-u64-at-requires-4 c κs = tt
-
-u32-at-requires-12 : tie.Need-u32-at-requires-12
-u32-at-requires-12 c κs = tt
-
-u64-at-requires-5 : tie.Need-u64-at-requires-5
-u64-at-requires-5 c κs = tt
-
-u32-at-requires-13 : tie.Need-u32-at-requires-13
-u32-at-requires-13 c κs = tt
-
-u64-at-requires-6 : tie.Need-u64-at-requires-6
-u64-at-requires-6 c κs = tt
-
-u32-at-requires-14 : tie.Need-u32-at-requires-14
-u32-at-requires-14 c κs = tt
-
-u32-at-requires-15 : tie.Need-u32-at-requires-15
-u32-at-requires-15 c κs = tt
-
-u32-at-requires-16 : tie.Need-u32-at-requires-16
-u32-at-requires-16 c κs = tt
-
-u32-at-requires-17 : tie.Need-u32-at-requires-17
-u32-at-requires-17 c κs = tt
-
-u32-at-requires-18 : tie.Need-u32-at-requires-18
-u32-at-requires-18 c κs = tt
-
-u32-at-requires-19 : tie.Need-u32-at-requires-19
-u32-at-requires-19 c κs = tt
-
-u32-at-requires-20 : tie.Need-u32-at-requires-20
-u32-at-requires-20 c κs = tt
-
-u8-at-requires : tie.Need-u8-at-requires
-u8-at-requires c κs = tt
-
-u32-at-requires-21 : tie.Need-u32-at-requires-21
-u32-at-requires-21 c κs = tt
-
-error-at-requires : tie.Need-error-at-requires
-error-at-requires c κs = tt
-
-u32-at-requires-22 : tie.Need-u32-at-requires-22
-u32-at-requires-22 c κs = tt
-
-u8-at-requires-2 : tie.Need-u8-at-requires-2
-u8-at-requires-2 c κs = tt
-
-u32-at-requires-23 : tie.Need-u32-at-requires-23
-u32-at-requires-23 c κs = tt
-
-error-at-requires-2 : tie.Need-error-at-requires-2
-error-at-requires-2 c κs = tt
-
-u64-at-requires-7 : tie.Need-u64-at-requires-7
-u64-at-requires-7 c κs = tt
-
-u8-at-requires-3 : tie.Need-u8-at-requires-3
-u8-at-requires-3 c κs = tt
-
-u8-at-requires-4 : tie.Need-u8-at-requires-4
-u8-at-requires-4 c κs = tt
-
-u8-at-requires-5 : tie.Need-u8-at-requires-5
-u8-at-requires-5 c κs = tt
-
-u8-at-requires-6 : tie.Need-u8-at-requires-6
-u8-at-requires-6 c κs = tt
-
-u16-at-requires-4 : tie.Need-u16-at-requires-4
-u16-at-requires-4 c κs = tt
-
 returns : tie.Need-returns
 unfolding messageAt numbersAt paper
 returns c = rw (← c .before .before .u16-at .ensures, c .before .match .keys1) (cc)
@@ -236,48 +110,48 @@ pub said-spec : {M : Type 1} → statement M
 said-spec =
     tie.close
     (tie.spec
-    u16-at-requires
-    u32-at-requires
-    u32-at-requires-2
-    u64-at-requires
-    u32-at-requires-3
-    u32-at-requires-4
-    u64-at-requires-2
-    u32-at-requires-5
-    u16-at-requires-2
-    u32-at-requires-6
-    u32-at-requires-7
-    u16-at-requires-3
-    u32-at-requires-8
-    u32-at-requires-9
-    u32-at-requires-10
-    u64-at-requires-3
-    u32-at-requires-11
-    u64-at-requires-4
-    u32-at-requires-12
-    u64-at-requires-5
-    u32-at-requires-13
-    u64-at-requires-6
-    u32-at-requires-14
-    u32-at-requires-15
-    u32-at-requires-16
-    u32-at-requires-17
-    u32-at-requires-18
-    u32-at-requires-19
-    u32-at-requires-20
-    u8-at-requires
-    u32-at-requires-21
-    error-at-requires
-    u32-at-requires-22
-    u8-at-requires-2
-    u32-at-requires-23
-    error-at-requires-2
-    u64-at-requires-7
-    u8-at-requires-3
-    u8-at-requires-4
-    u8-at-requires-5
-    u8-at-requires-6
-    u16-at-requires-4
+    (λ c κs. tt)
+    (λ c κs. tt)
+    (λ c κs. tt)
+    (λ c κs. tt)
+    (λ c κs. tt)
+    (λ c κs. tt)
+    (λ c κs. tt)
+    (λ c κs. tt)
+    (λ c κs. tt)
+    (λ c κs. tt)
+    (λ c κs. tt)
+    (λ c κs. tt)
+    (λ c κs. tt)
+    (λ c κs. tt)
+    (λ c κs. tt)
+    (λ c κs. tt)
+    (λ c κs. tt)
+    (λ c κs. tt)
+    (λ c κs. tt)
+    (λ c κs. tt)
+    (λ c κs. tt)
+    (λ c κs. tt)
+    (λ c κs. tt)
+    (λ c κs. tt)
+    (λ c κs. tt)
+    (λ c κs. tt)
+    (λ c κs. tt)
+    (λ c κs. tt)
+    (λ c κs. tt)
+    (λ c κs. tt)
+    (λ c κs. tt)
+    (λ c κs. tt)
+    (λ c κs. tt)
+    (λ c κs. tt)
+    (λ c κs. tt)
+    (λ c κs. tt)
+    (λ c κs. tt)
+    (λ c κs. tt)
+    (λ c κs. tt)
+    (λ c κs. tt)
+    (λ c κs. tt)
+    (λ c κs. tt)
     returns
     returns-2
     returns-3

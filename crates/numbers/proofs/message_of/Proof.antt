@@ -7,20 +7,8 @@ use Rattle.numbers.proofs.message_of.Tie as tie
 returns : tie.Need-returns
 returns c = made-wide-tag (c .before .before .args .n) (c .if1 .taken)
 
-cast-narrowed : tie.Need-cast-narrowed
-cast-narrowed c = search needs
-
-narrowed-requires : tie.Need-narrowed-requires
-narrowed-requires c κs = search needs
-
-form-of-requires : tie.Need-form-of-requires
-form-of-requires c κs = search needs
-
 returns-2 : tie.Need-returns-2
 returns-2 c = made (c .before .before .before .before .before .before .before .args .n) (c .before .before .before .narrowed .ensures) (c .before .before .form-of .ensures) .unknown (c .if2 .taken)
-
-same-numbers-requires : tie.Need-same-numbers-requires
-same-numbers-requires c κs = search needs
 
 returns-3 : tie.Need-returns-3
 returns-3 c = made (c .before .before .before .before .before .before .before .before .before .args .n) (c .before .before .before .before .before .narrowed .ensures) (c .before .before .before .before .form-of .ensures) .lost (c .before .before .if2 .left) (c .before .same-numbers .ensures) (c .if3 .taken)
@@ -33,10 +21,10 @@ message-of-spec =
     tie.close
     (tie.spec
     returns
-    cast-narrowed
-    narrowed-requires
-    form-of-requires
+    (λ c. search needs)
+    (λ c κs. search needs)
+    (λ c κs. search needs)
     returns-2
-    same-numbers-requires
+    (λ c κs. search needs)
     returns-3
     returns-4)

@@ -8,30 +8,6 @@ use borrow.Author.Needs.{needs}
 use Rattle.numbers.proofs.narrowed.Statement.{statement}
 use Rattle.numbers.proofs.narrowed.Tie as tie
 
-cast-a8 : tie.Need-cast-a8
-cast-a8 c = search needs
-
-cast-a16 : tie.Need-cast-a16
-cast-a16 c = search needs
-
-cast-a32 : tie.Need-cast-a32
-cast-a32 c = search needs
-
-cast-b8 : tie.Need-cast-b8
-cast-b8 c = search needs
-
-cast-b16 : tie.Need-cast-b16
-cast-b16 c = search needs
-
-cast-b32 : tie.Need-cast-b32
-cast-b32 c = search needs
-
-cast-c32 : tie.Need-cast-c32
-cast-c32 c = search needs
-
-cast-d32 : tie.Need-cast-d32
-cast-d32 c = search needs
-
 returns : tie.Need-returns
 unfolding paper
 returns c = rw (c .match .keys1)
@@ -136,14 +112,14 @@ pub narrowed-spec : {M : Type 1} → statement M
 narrowed-spec =
     tie.close
     (tie.spec
-    cast-a8
-    cast-a16
-    cast-a32
-    cast-b8
-    cast-b16
-    cast-b32
-    cast-c32
-    cast-d32
+    (λ c. search needs)
+    (λ c. search needs)
+    (λ c. search needs)
+    (λ c. search needs)
+    (λ c. search needs)
+    (λ c. search needs)
+    (λ c. search needs)
+    (λ c. search needs)
     returns
     returns-2
     returns-3

@@ -7,84 +7,27 @@ use borrow.Author.Needs.{needs}
 use Rattle.payloads.proofs.body.Statement.{statement}
 use Rattle.payloads.proofs.body.Tie as tie
 
-snapshot-meta-requires : tie.Need-snapshot-meta-requires
-snapshot-meta-requires c κs = search needs
-
-plain-requires : tie.Need-plain-requires
-plain-requires c κs = search needs
-
-cpu-state-requires : tie.Need-cpu-state-requires
-cpu-state-requires c κs = search needs
-
-plain-requires-2 : tie.Need-plain-requires-2
-plain-requires-2 c κs = search needs
-
-mmu-state-requires : tie.Need-mmu-state-requires
-mmu-state-requires c κs = search needs
-
-plain-requires-3 : tie.Need-plain-requires-3
-plain-requires-3 c κs = search needs
-
-index-requires : tie.Need-index-requires
-index-requires c κs = search needs
-
-index-requires-2 : tie.Need-index-requires-2
-index-requires-2 c κs = search needs
-
-index-requires-3 : tie.Need-index-requires-3
-index-requires-3 c κs = search needs
-
-index-requires-4 : tie.Need-index-requires-4
-index-requires-4 c κs = search needs
-
-plain-requires-4 : tie.Need-plain-requires-4
-plain-requires-4 c κs = search needs
-
-same-length : tie.Need-same-length
-same-length c = search needs
-
 returns : tie.Need-returns
 returns c = let t = c .before .before .before .before .before .before .before .before in let a = t .args in kept-plain (a .version) (a .p .now) (c .before .before .before .before .before .match .keys1) meta refl refl (t .pre) (c .before .before .before .before .snapshot-meta .ensures) (c .before .before .plain .ensures)
-
-same-length-2 : tie.Need-same-length-2
-same-length-2 c = search needs
 
 returns-2 : tie.Need-returns-2
 unfolding payload
 returns-2 c = let t = c .before .before .before .before .before .before .before .before in let a = t .args in kept-plain (a .version) (a .p .now) (c .before .before .before .before .before .match .keys2) (cpu (a .version)) refl refl (t .pre) (c .before .before .before .before .cpu-state .ensures) (c .before .before .plain2 .ensures)
 
-same-length-3 : tie.Need-same-length-3
-same-length-3 c = search needs
-
 returns-3 : tie.Need-returns-3
 returns-3 c = let t = c .before .before .before .before .before .before .before .before in let a = t .args in kept-plain (a .version) (a .p .now) (c .before .before .before .before .before .match .keys3) (mmu (a .version)) refl refl (t .pre) (c .before .before .before .before .mmu-state .ensures) (c .before .before .plain3 .ensures)
-
-same-length-4 : tie.Need-same-length-4
-same-length-4 c = search needs
 
 returns-4 : tie.Need-returns-4
 returns-4 c = let a = c .before .before .before .before .before .before .before .args in kept-list (a .version) (a .p .now) (c .before .before .before .before .match .keys4) devices refl (c .before .before .index .ensures)
 
-same-length-5 : tie.Need-same-length-5
-same-length-5 c = search needs
-
 returns-5 : tie.Need-returns-5
 returns-5 c = let a = c .before .before .before .before .before .before .before .args in kept-list (a .version) (a .p .now) (c .before .before .before .before .match .keys5) disks refl (c .before .before .index2 .ensures)
-
-same-length-6 : tie.Need-same-length-6
-same-length-6 c = search needs
 
 returns-6 : tie.Need-returns-6
 returns-6 c = let a = c .before .before .before .before .before .before .before .args in kept-list (a .version) (a .p .now) (c .before .before .before .before .match .keys6) (cpus (a .version)) refl (c .before .before .index3 .ensures)
 
-same-length-7 : tie.Need-same-length-7
-same-length-7 c = search needs
-
 returns-7 : tie.Need-returns-7
 returns-7 c = let a = c .before .before .before .before .before .before .before .args in kept-list (a .version) (a .p .now) (c .before .before .before .before .match .keys7) (mmus (a .version)) refl (c .before .before .index4 .ensures)
-
-same-length-8 : tie.Need-same-length-8
-same-length-8 c = search needs
 
 returns-8 : tie.Need-returns-8
 unfolding payload
@@ -94,30 +37,30 @@ pub body-spec : {M : Type 1} → statement M
 body-spec =
     tie.close
     (tie.spec
-    snapshot-meta-requires
-    plain-requires
-    cpu-state-requires
-    plain-requires-2
-    mmu-state-requires
-    plain-requires-3
-    index-requires
-    index-requires-2
-    index-requires-3
-    index-requires-4
-    plain-requires-4
-    same-length
+    (λ c κs. search needs)
+    (λ c κs. search needs)
+    (λ c κs. search needs)
+    (λ c κs. search needs)
+    (λ c κs. search needs)
+    (λ c κs. search needs)
+    (λ c κs. search needs)
+    (λ c κs. search needs)
+    (λ c κs. search needs)
+    (λ c κs. search needs)
+    (λ c κs. search needs)
+    (λ c. search needs)
     returns
-    same-length-2
+    (λ c. search needs)
     returns-2
-    same-length-3
+    (λ c. search needs)
     returns-3
-    same-length-4
+    (λ c. search needs)
     returns-4
-    same-length-5
+    (λ c. search needs)
     returns-5
-    same-length-6
+    (λ c. search needs)
     returns-6
-    same-length-7
+    (λ c. search needs)
     returns-7
-    same-length-8
+    (λ c. search needs)
     returns-8)

@@ -6,26 +6,14 @@ use borrow.Author.Needs.{needs}
 use Rattle.payloads.proofs.label_at.Statement.{statement}
 use Rattle.payloads.proofs.label_at.Tie as tie
 
-flag-at-requires : tie.Need-flag-at-requires
-flag-at-requires c κs = search needs
-
-enum-known-number : tie.Need-enum-known-number
-enum-known-number c = search needs
-
 enum-told : tie.Need-enum-told
 enum-told c = search needs
 
 add-t7 : tie.Need-add-t7
 add-t7 c = let a = c .before .before .before .before .args in omega (arith, flag-inside (a .s .now) (a .at) (rw (c .enum-told .given .1) at (c .before .before .flag-at .ensures)))
 
-enum-told-2 : tie.Need-enum-told-2
-enum-told-2 c = search needs
-
 add-text-at : tie.Need-add-text-at
 add-text-at c = let a = c .before .before .before .before .args in omega (arith, flag-inside (a .s .now) (a .at) (rw (c .enum-told2 .given .1) at (c .before .before .flag-at .ensures)))
-
-text-at-requires : tie.Need-text-at-requires
-text-at-requires c κs = search needs
 
 returns : tie.Need-returns
 returns c = let a = c .before .before .before .before .before .args in option-bad (a .s .now) (a .at) (text 4096) (rw (c .before .number .given .1) at (c .before .before .before .flag-at .ensures))
@@ -40,13 +28,13 @@ pub label-at-spec : {M : Type 1} → statement M
 label-at-spec =
     tie.close
     (tie.spec
-    flag-at-requires
-    enum-known-number
+    (λ c κs. search needs)
+    (λ c. search needs)
     enum-told
     add-t7
-    enum-told-2
+    (λ c. search needs)
     add-text-at
-    text-at-requires
+    (λ c κs. search needs)
     returns
     returns-2
     returns-3)

@@ -3,18 +3,6 @@ use borrow.Author.Needs.{needs}
 use Rattle.payloads.proofs.plain.Statement.{statement}
 use Rattle.payloads.proofs.plain.Tie as tie
 
-enum-known-t : tie.Need-enum-known-t
-enum-known-t c = search needs
-
-forget-requires : tie.Need-forget-requires
-forget-requires c κs = search needs
-
-enum-told : tie.Need-enum-told
-enum-told c = search needs
-
-same-length : tie.Need-same-length
-same-length c = search needs
-
 returns : tie.Need-returns
 returns c = rw (c .before .before .before .before .before .t .given .1) (record { answers = refl; leaves = c .before .before .forget .ensures })
 
@@ -23,4 +11,4 @@ returns-2 c = rw (c .enum-told .given .1) (record { answers = refl; leaves = ref
 
 pub plain-spec : {M : Type 1} → statement M
 plain-spec =
-    tie.close (tie.spec enum-known-t forget-requires enum-told same-length returns returns-2)
+    tie.close (tie.spec (λ c. search needs) (λ c κs. search needs) (λ c. search needs) (λ c. search needs) returns returns-2)

@@ -3,15 +3,6 @@ use borrow.Author.Needs.{needs}
 use Rattle.payloads.proofs.snapshot_meta.Statement.{statement}
 use Rattle.payloads.proofs.snapshot_meta.Tie as tie
 
-fields-requires : tie.Need-fields-requires
-fields-requires c κs = search needs
-
-enum-known-number : tie.Need-enum-known-number
-enum-known-number c = search needs
-
-enum-known-e : tie.Need-enum-known-e
-enum-known-e c = search needs
-
 returns : tie.Need-returns
 returns c = let a = c .before .before .before .before .before .before .args in meta-left (a .p .now) (c .before .before .e .given .0 .0) (rw (c .before .before .e .given .1) at (c .before .before .before .before .fields .ensures)) (c .if1 .taken)
 
@@ -23,4 +14,4 @@ returns-3 c = let a = c .before .before .before .before .before .before .args in
 
 pub snapshot-meta-spec : {M : Type 1} → statement M
 snapshot-meta-spec =
-    tie.close (tie.spec fields-requires enum-known-number enum-known-e returns returns-2 returns-3)
+    tie.close (tie.spec (λ c κs. search needs) (λ c. search needs) (λ c. search needs) returns returns-2 returns-3)

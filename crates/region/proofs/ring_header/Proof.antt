@@ -4,18 +4,6 @@ use borrow.Author.Needs.{needs}
 use Rattle.region.proofs.ring_header.Statement.{statement}
 use Rattle.region.proofs.ring_header.Tie as tie
 
-offset-of-requires : tie.Need-offset-of-requires
-offset-of-requires c κs = search needs
-
-ring-at-requires : tie.Need-ring-at-requires
-ring-at-requires c κs = search needs
-
-capacity-of-requires : tie.Need-capacity-of-requires
-capacity-of-requires c κs = search needs
-
-ring-fields-requires : tie.Need-ring-fields-requires
-ring-fields-requires c κs = search needs
-
 returns : tie.Need-returns
 returns c =
     let a = c .before .before .before .before .before .args in
@@ -24,4 +12,4 @@ returns c =
 pub ring-header-spec : {M : Type 1} → statement M
 ring-header-spec =
     tie.close
-    (tie.spec offset-of-requires ring-at-requires capacity-of-requires ring-fields-requires returns)
+    (tie.spec (λ c κs. search needs) (λ c κs. search needs) (λ c κs. search needs) (λ c κs. search needs) returns)

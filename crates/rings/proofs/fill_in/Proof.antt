@@ -17,20 +17,8 @@ passed c =
     let a = c .before .before .before .before .before .before .before .args in
     asked-pass (fillChecks (ringAt (a .region .now) (a .at)) (a .start) (a .end) (length (a .payload .now))) (rw (c .before .before .before .ring-at .ensures) at (sym (ap testOf (c .enum-told .given .1)) ∙ c .before .before .may-fill .ensures))
 
-ring-at-requires : tie.Need-ring-at-requires
-ring-at-requires c κs = search needs
-
 may-fill-requires : tie.Need-may-fill-requires
 may-fill-requires c κs = let s = c .before .before .before .before .pre in rw (c .ring-at .ensures) (s .capacity, s .cursors)
-
-enum-known-number : tie.Need-enum-known-number
-enum-known-number c = search needs
-
-refusal-requires : tie.Need-refusal-requires
-refusal-requires c κs = search needs
-
-enum-told : tie.Need-enum-told
-enum-told c = search needs
 
 put-filled-requires : tie.Need-put-filled-requires
 put-filled-requires c κs =
@@ -42,17 +30,11 @@ put-filled-requires c κs =
     let near = s .cursors .near in
     rw (c .before .before .before .before .ring-at .ensures) (record { fits = s .fits; capacity = s .capacity; four = y .0; room = omega arith })
 
-same-length : tie.Need-same-length
-same-length c = search needs
-
 returns : tie.Need-returns
 returns c =
     let a = c .before .before .before .before .before .before .before .before .before .args in
     let e = rw (c .before .before .before .before .before .ring-at .ensures) at (sym (ap testOf (c .before .before .number .given .1)) ∙ c .before .before .before .before .may-fill .ensures) in
     end-refused asAnswer (a .region .now) (asked-stop (fillChecks (ringAt (a .region .now) (a .at)) (a .start) (a .end) (length (a .payload .now))) _ e) (c .refusal .ensures)
-
-same-length-2 : tie.Need-same-length-2
-same-length-2 c = search needs
 
 returns-2 : tie.Need-returns-2
 returns-2 c =
@@ -64,13 +46,13 @@ pub fill-in-spec : {M : Type 1} → statement M
 fill-in-spec =
     tie.close
     (tie.spec
-    ring-at-requires
+    (λ c κs. search needs)
     may-fill-requires
-    enum-known-number
-    refusal-requires
-    enum-told
+    (λ c. search needs)
+    (λ c κs. search needs)
+    (λ c. search needs)
     put-filled-requires
-    same-length
+    (λ c. search needs)
     returns
-    same-length-2
+    (λ c. search needs)
     returns-2)

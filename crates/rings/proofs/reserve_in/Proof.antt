@@ -17,20 +17,8 @@ passed c =
     let a = c .before .before .before .before .before .before .args in
     asked-pass (reserveChecks (ringAt (a .region .now) (a .at)) (a .len)) (rw (c .before .before .before .ring-at .ensures) at (sym (ap testOf (c .enum-told .given .1)) ∙ c .before .before .may-reserve .ensures))
 
-ring-at-requires : tie.Need-ring-at-requires
-ring-at-requires c κs = search needs
-
 may-reserve-requires : tie.Need-may-reserve-requires
 may-reserve-requires c κs = rw (c .ring-at .ensures) (c .before .before .before .pre .capacity)
-
-enum-known-number : tie.Need-enum-known-number
-enum-known-number c = search needs
-
-no-pair-requires : tie.Need-no-pair-requires
-no-pair-requires c κs = search needs
-
-enum-told : tie.Need-enum-told
-enum-told c = search needs
 
 need-of-requires : tie.Need-need-of-requires
 need-of-requires c κs =
@@ -45,26 +33,11 @@ cast-wrapping-add-u32 c =
     let y = pass-reserve (ringAt (a .region .now) (a .at)) (a .len) (passed (c .before)) .1 in
     omega arith
 
-wrapping-add-u32-requires : tie.Need-wrapping-add-u32-requires
-wrapping-add-u32-requires c κs = search needs
-
-add-put-u32 : tie.Need-add-put-u32
-add-put-u32 c = search needs
-
-put-u32-requires : tie.Need-put-u32-requires
-put-u32-requires c κs = search needs
-
-same-length : tie.Need-same-length
-same-length c = search needs
-
 returns : tie.Need-returns
 returns c =
     let a = c .before .before .before .before .before .before .before .before .args in
     let e = rw (c .before .before .before .before .before .ring-at .ensures) at (sym (ap testOf (c .before .before .number .given .1)) ∙ c .before .before .before .before .may-reserve .ensures) in
     end-refused asPair (a .region .now) (asked-stop (reserveChecks (ringAt (a .region .now) (a .at)) (a .len)) _ e) (c .no-pair .ensures)
-
-same-length-2 : tie.Need-same-length-2
-same-length-2 c = search needs
 
 returns-2 : tie.Need-returns-2
 returns-2 c =
@@ -78,17 +51,17 @@ pub reserve-in-spec : {M : Type 1} → statement M
 reserve-in-spec =
     tie.close
     (tie.spec
-    ring-at-requires
+    (λ c κs. search needs)
     may-reserve-requires
-    enum-known-number
-    no-pair-requires
-    enum-told
+    (λ c. search needs)
+    (λ c κs. search needs)
+    (λ c. search needs)
     need-of-requires
     cast-wrapping-add-u32
-    wrapping-add-u32-requires
-    add-put-u32
-    put-u32-requires
-    same-length
+    (λ c κs. search needs)
+    (λ c. search needs)
+    (λ c κs. search needs)
+    (λ c. search needs)
     returns
-    same-length-2
+    (λ c. search needs)
     returns-2)

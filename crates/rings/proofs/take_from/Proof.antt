@@ -18,29 +18,8 @@ passed c =
     let a = c .before .before .before .before .before .before .before .before .args in
     asked-pass (takeChecks (ringAt (a .region .now) (a .at)) (a .skip) (leAt 4 (a .region .now) (a .from))) (rw (c .before .before .before .before .before .ring-at .ensures, c .before .before .before .u32-at .ensures) at (sym (ap testOf (c .enum-told .given .1)) ∙ c .before .before .may-take .ensures))
 
-ring-at-requires : tie.Need-ring-at-requires
-ring-at-requires c κs = search needs
-
-u32-at-requires : tie.Need-u32-at-requires
-u32-at-requires c κs = search needs
-
 may-take-requires : tie.Need-may-take-requires
 may-take-requires c κs = rw (c .before .before .ring-at .ensures) (c .before .before .before .before .before .pre .0 .capacity)
-
-enum-known-number : tie.Need-enum-known-number
-enum-known-number c = search needs
-
-no-record-requires : tie.Need-no-record-requires
-no-record-requires c κs = search needs
-
-enum-told : tie.Need-enum-told
-enum-told c = search needs
-
-size-of-requires : tie.Need-size-of-requires
-size-of-requires c κs = search needs
-
-add-behind : tie.Need-add-behind
-add-behind c = search needs
 
 cast-wrapping-add-u32 : tie.Need-cast-wrapping-add-u32
 cast-wrapping-add-u32 c =
@@ -50,26 +29,11 @@ cast-wrapping-add-u32 c =
     let y = pass-take (ringAt (a .region .now) (a .at)) (a .skip) (leAt 4 (a .region .now) (a .from)) (passed (c .before)) .1 in
     omega arith
 
-wrapping-add-u32-requires : tie.Need-wrapping-add-u32-requires
-wrapping-add-u32-requires c κs = search needs
-
-put-u32-requires : tie.Need-put-u32-requires
-put-u32-requires c κs = search needs
-
-add-t18 : tie.Need-add-t18
-add-t18 c = search needs
-
-same-length : tie.Need-same-length
-same-length c = search needs
-
 returns : tie.Need-returns
 returns c =
     let a = c .before .before .before .before .before .before .before .before .before .before .args in
     let e = rw (c .before .before .before .before .before .before .before .ring-at .ensures, c .before .before .before .before .before .u32-at .ensures) at (sym (ap testOf (c .before .before .number .given .1)) ∙ c .before .before .before .before .may-take .ensures) in
     end-refused asRecord (a .region .now) (asked-stop (takeChecks (ringAt (a .region .now) (a .at)) (a .skip) (leAt 4 (a .region .now) (a .from))) _ e) (c .no-record .ensures)
-
-same-length-2 : tie.Need-same-length-2
-same-length-2 c = search needs
 
 returns-2 : tie.Need-returns-2
 returns-2 c =
@@ -82,20 +46,20 @@ pub take-from-spec : {M : Type 1} → statement M
 take-from-spec =
     tie.close
     (tie.spec
-    ring-at-requires
-    u32-at-requires
+    (λ c κs. search needs)
+    (λ c κs. search needs)
     may-take-requires
-    enum-known-number
-    no-record-requires
-    enum-told
-    size-of-requires
-    add-behind
-    cast-wrapping-add-u32
-    wrapping-add-u32-requires
-    put-u32-requires
-    add-t18
     (λ c. search needs)
-    same-length
+    (λ c κs. search needs)
+    (λ c. search needs)
+    (λ c κs. search needs)
+    (λ c. search needs)
+    cast-wrapping-add-u32
+    (λ c κs. search needs)
+    (λ c κs. search needs)
+    (λ c. search needs)
+    (λ c. search needs)
+    (λ c. search needs)
     returns
-    same-length-2
+    (λ c. search needs)
     returns-2)

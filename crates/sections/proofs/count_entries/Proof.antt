@@ -54,20 +54,11 @@ add-n c = omega (arith, (c .before .before .before .before .loop .inv) .few, (c 
 add-u64-at : tie.Need-add-u64-at Inv-loop μ-loop
 add-u64-at c = omega (arith, within (c .before))
 
-u64-at-requires : tie.Need-u64-at-requires Inv-loop μ-loop
-u64-at-requires c κs = search needs
-
 add-at : tie.Need-add-at Inv-loop μ-loop
 add-at c = omega (arith, within (c .before .before), c .u64-at .ensures)
 
 add-at-2 : tie.Need-add-at-2 Inv-loop μ-loop
 add-at-2 c = omega (arith, within (c .before .before), c .u64-at .ensures)
-
-add-i : tie.Need-add-i Inv-loop μ-loop
-add-i c = omega arith
-
-loop-less : tie.Need-loop-less Inv-loop μ-loop
-loop-less c = omega arith
 
 loop-again : tie.Need-loop-again Inv-loop μ-loop
 loop-again c =
@@ -90,10 +81,10 @@ count-entries-spec =
     entries-at-requires
     add-n
     add-u64-at
-    u64-at-requires
+    (λ c κs. search needs)
     add-at
     add-at-2
-    add-i
-    loop-less
+    (λ c. omega arith)
+    (λ c. omega arith)
     loop-again
     returns-3)

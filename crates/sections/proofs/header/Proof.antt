@@ -52,35 +52,20 @@ returns c = let s = text (c .before) in left-fail (head-all s) (lt-leb (length s
 returns-2 : tie.Need-returns-2
 returns-2 c = left-fail (fits (c .before)) (lt-leb 16 (length (text (c .before .before))) (c .if2 .taken))
 
-u64-at-requires : tie.Need-u64-at-requires
-u64-at-requires c κs = search needs
-
 returns-3 : tie.Need-returns-3
 returns-3 c =
     let e = c .before .before in
     let k = e .before .before in
     left-fail (long e) (letters-number (text k) (e .if2 .left) (bytes k) (c .before .u64-at .ensures) ∙ ne-eqb _ _ (c .if3 .taken))
 
-u16-at-requires : tie.Need-u16-at-requires
-u16-at-requires c κs = search needs
-
 returns-4 : tie.Need-returns-4
 returns-4 c = left-fail (lettered (c .before .before)) (read-not (c .before .u16-at .ensures) (c .if4 .taken))
-
-u8-at-requires : tie.Need-u8-at-requires
-u8-at-requires c κs = search needs
 
 returns-5 : tie.Need-returns-5
 returns-5 c = left-fail (versioned (c .before .before)) (read-not (c .before .u8-at .ensures) (c .if5 .taken))
 
-u8-at-requires-2 : tie.Need-u8-at-requires-2
-u8-at-requires-2 c κs = search needs
-
 returns-6 : tie.Need-returns-6
 returns-6 c = left-fail (ended (c .before .before)) (read-not (c .before .u8-at2 .ensures) (c .if6 .taken))
-
-u32-at-requires : tie.Need-u32-at-requires
-u32-at-requires c κs = search needs
 
 returns-7 : tie.Need-returns-7
 returns-7 c = left-fail (zero-byte (c .before .before)) (read-not (c .before .u32-at .ensures) (c .if7 .taken))
@@ -94,14 +79,14 @@ header-spec =
     (tie.spec
     returns
     returns-2
-    u64-at-requires
+    (λ c κs. search needs)
     returns-3
-    u16-at-requires
+    (λ c κs. search needs)
     returns-4
-    u8-at-requires
+    (λ c κs. search needs)
     returns-5
-    u8-at-requires-2
+    (λ c κs. search needs)
     returns-6
-    u32-at-requires
+    (λ c κs. search needs)
     returns-7
     returns-8)

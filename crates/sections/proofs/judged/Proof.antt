@@ -11,12 +11,6 @@ use borrow.Author.Needs.{needs}
 use Rattle.sections.proofs.judged.Statement.{statement}
 use Rattle.sections.proofs.judged.Tie as tie
 
-u32-at-requires : tie.Need-u32-at-requires
-u32-at-requires c κs = search needs
-
-known-requires : tie.Need-known-requires
-known-requires c κs = search needs
-
 returns : tie.Need-returns
 returns c =
     let id = c .before .before in
@@ -26,41 +20,11 @@ returns c =
     let none = none-kept (leAt 4 s (a .at)) (leAt 2 s (a .at + 4)) (length (a .index .now)) (take (a .m) (drop (a .at + 16) s)) (a .index .now) unknown in
     λ l n m. keeps-done (ruled-not l (a .at) _ _ _ _ unknown) (none .0) (none .1)
 
-add-u16-at : tie.Need-add-u16-at
-add-u16-at c = search needs
-
-u16-at-requires : tie.Need-u16-at-requires
-u16-at-requires c κs = search needs
-
-add-u16-at-2 : tie.Need-add-u16-at-2
-add-u16-at-2 c = search needs
-
-u16-at-requires-2 : tie.Need-u16-at-requires-2
-u16-at-requires-2 c κs = search needs
-
-add-b : tie.Need-add-b
-add-b c = search needs
-
-add-e : tie.Need-add-e
-add-e c = search needs
-
-sub-ruled : tie.Need-sub-ruled
-sub-ruled c = search needs
-
-part-ruled-start : tie.Need-part-ruled-start
-part-ruled-start c = search needs
-
-part-ruled-end : tie.Need-part-ruled-end
-part-ruled-end c = search needs
-
 ruled-requires : tie.Need-ruled-requires
 ruled-requires c κs =
     let e = c .before .before .before .before in
     let a = e .before .before .before .before .before .args in
     (sym (e .before .known .ensures) ∙ not-false _ (e .if1 .left), omega (arith, part-length (a .s .now) (a .at + 16) (a .m) (omega arith)))
-
-same-length : tie.Need-same-length
-same-length c = search needs
 
 returns-2 : tie.Need-returns-2
 returns-2 c =
@@ -73,18 +37,18 @@ pub judged-spec : {M : Type 1} → statement M
 judged-spec =
     tie.close
     (tie.spec
-    u32-at-requires
-    known-requires
+    (λ c κs. search needs)
+    (λ c κs. search needs)
     returns
-    add-u16-at
-    u16-at-requires
-    add-u16-at-2
-    u16-at-requires-2
-    add-b
-    add-e
-    sub-ruled
-    part-ruled-start
-    part-ruled-end
+    (λ c. search needs)
+    (λ c κs. search needs)
+    (λ c. search needs)
+    (λ c κs. search needs)
+    (λ c. search needs)
+    (λ c. search needs)
+    (λ c. search needs)
+    (λ c. search needs)
+    (λ c. search needs)
     ruled-requires
-    same-length
+    (λ c. search needs)
     returns-2)

@@ -4,14 +4,8 @@ use borrow.Author.Needs.{needs}
 use Rattle.sections.proofs.note.Statement.{statement}
 use Rattle.sections.proofs.note.Tie as tie
 
-known-requires : tie.Need-known-requires
-known-requires c κs = search needs
-
 slot-requires : tie.Need-slot-requires
 slot-requires c κs = sym (c .before .known .ensures) ∙ c .if1 .taken
-
-element-write-seen : tie.Need-element-write-seen
-element-write-seen c = search needs
 
 returns : tie.Need-returns
 returns c = let a = c .before .before .before .args in λ l n e d h. noted-one (a .seen .now) l n (a .id) e d h (c .slot .result) (c .slot .ensures .0) (c .slot .ensures .2)
@@ -20,4 +14,4 @@ returns-2 : tie.Need-returns-2
 returns-2 c = let a = c .before .before .args in λ l n e d h. noted-not (a .seen .now) l n (a .id) e d h (sym (c .before .known .ensures) ∙ c .if1 .left)
 
 pub note-spec : {M : Type 1} → statement M
-note-spec = tie.close (tie.spec known-requires slot-requires element-write-seen returns returns-2)
+note-spec = tie.close (tie.spec (λ c κs. search needs) slot-requires (λ c. search needs) returns returns-2)

@@ -73,26 +73,11 @@ took c =
     let a = judged (asked i) .args in
     read-took (a .id) (a .version) (a .p .now) (a .index .now) (i .index .ensures) (c .n .given .1)
 
-takes-requires : tie.Need-takes-requires
-takes-requires c κs = search needs
-
-add-t14 : tie.Need-add-t14
-add-t14 c = search needs
-
 returns : tie.Need-returns
 returns c = λ l n m. keeps-stop (left-fail (all (c .before .before .before .before) l) (sym (c .before .takes .ensures) ∙ not-true _ (c .if1 .taken)))
 
-add-t15 : tie.Need-add-t15
-add-t15 c = search needs
-
 returns-2 : tie.Need-returns-2
 returns-2 c = λ l n m. keeps-stop (left-fail (versioned (c .before) l) (some-flags (start (c .before) .args .flags) (c .if2 .taken)))
-
-slot-requires : tie.Need-slot-requires
-slot-requires c κs = search needs
-
-element-copy-out-if3 : tie.Need-element-copy-out-if3
-element-copy-out-if3 c = search needs
 
 returns-3 : tie.Need-returns-3
 returns-3 c =
@@ -101,23 +86,8 @@ returns-3 c =
     let e = k .slot .ensures in
     λ l n m. keeps-stop (left-fail (unflagged (k .before) l) (marked (a .seen .now) l n (a .id) _ m (e .0) (e .1) (e .2) (c .if3 .taken)))
 
-small-requires : tie.Need-small-requires
-small-requires c κs = search needs
-
-add-t20 : tie.Need-add-t20
-add-t20 c = search needs
-
 returns-4 : tie.Need-returns-4
 returns-4 c = λ l n m. keeps-stop (left-fail (alone (c .before .before) l n m) (sym (c .before .small .ensures) ∙ not-true _ (c .if4 .taken)))
-
-index-requires : tie.Need-index-requires
-index-requires c κs = search needs
-
-enum-known-number : tie.Need-enum-known-number
-enum-known-number c = search needs
-
-add-t25 : tie.Need-add-t25
-add-t25 c = search needs
 
 add-t26 : tie.Need-add-t26
 add-t26 c =
@@ -125,20 +95,11 @@ add-t26 c =
     let a = t .args in
     omega (arith, fault-place (a .id) (a .version) (a .p .now) (omega (arith, t .pre .1)) (stopped (c .before)))
 
-enum-known-n : tie.Need-enum-known-n
-enum-known-n c = search needs
-
-same-length : tie.Need-same-length
-same-length c = search needs
-
 returns-5 : tie.Need-returns-5
 returns-5 c =
     let e = asked (refused-by (c .before)) in
     let a = judged e .args in
     λ l n m. keeps-stop (ruled-fault (a .at) (a .id) (a .version) (a .p .now) (small e l n m) (omega (arith, judged e .pre .1)) (stopped (c .before)))
-
-same-length-2 : tie.Need-same-length-2
-same-length-2 c = search needs
 
 returns-6 : tie.Need-returns-6
 returns-6 c =
@@ -152,23 +113,23 @@ pub ruled-spec : {M : Type 1} → statement M
 ruled-spec =
     tie.close
     (tie.spec
-    takes-requires
-    add-t14
+    (λ c κs. search needs)
+    (λ c. search needs)
     returns
-    add-t15
+    (λ c. search needs)
     returns-2
-    slot-requires
-    element-copy-out-if3
+    (λ c κs. search needs)
+    (λ c. search needs)
     returns-3
-    small-requires
-    add-t20
+    (λ c κs. search needs)
+    (λ c. search needs)
     returns-4
-    index-requires
-    enum-known-number
-    add-t25
+    (λ c κs. search needs)
+    (λ c. search needs)
+    (λ c. search needs)
     add-t26
-    enum-known-n
-    same-length
+    (λ c. search needs)
+    (λ c. search needs)
     returns-5
-    same-length-2
+    (λ c. search needs)
     returns-6)

@@ -17,32 +17,14 @@ headed c = c .before .before
 passed : (c : tie.After-enum-told) → taken tt ≡ asked (headerChecks (start (headed c) .args .file .now))
 passed c = sym (ap testOf (c .enum-told .given .1)) ∙ headed c .header .ensures
 
-header-requires : tie.Need-header-requires
-header-requires c κs = search needs
-
-enum-known-number : tie.Need-enum-known-number
-enum-known-number c = search needs
-
-forget-requires : tie.Need-forget-requires
-forget-requires c κs = search needs
-
-enum-told : tie.Need-enum-told
-enum-told c = search needs
-
 walk-requires : tie.Need-walk-requires
 walk-requires c κs = scan-fits (start (headed (c .before)) .args .file .now) (passed (c .before))
-
-same-length : tie.Need-same-length
-same-length c = search needs
 
 returns : tie.Need-returns
 returns c =
     let n = c .before .before .before .before .before in
     let h = n .before .before in
     scan-stop (start h .args .file .now) (rw (n .number .given .1) at (h .header .ensures)) (c .before .before .forget .ensures)
-
-same-length-2 : tie.Need-same-length-2
-same-length-2 c = search needs
 
 returns-2 : tie.Need-returns-2
 returns-2 c =
@@ -53,12 +35,12 @@ pub scan-spec : {M : Type 1} → statement M
 scan-spec =
     tie.close
     (tie.spec
-    header-requires
-    enum-known-number
-    forget-requires
-    enum-told
+    (λ c κs. search needs)
+    (λ c. search needs)
+    (λ c κs. search needs)
+    (λ c. search needs)
     walk-requires
-    same-length
+    (λ c. search needs)
     returns
-    same-length-2
+    (λ c. search needs)
     returns-2)

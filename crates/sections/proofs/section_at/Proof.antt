@@ -37,35 +37,14 @@ counted c = c .before .before
 whole : (c : tie.Else3) (l : List (List ℕ)) → let t = start (counted c .before) in Seen t l → Rest t l 3
 whole c l k = left-pass (few (counted c) l k) (let a = start (counted c .before) .args in le-leb (leAt 8 (a .s .now) (a .at + 8)) (length (a .s .now) - a .at - 16) (omega (arith, c .before .u64-at .ensures)))
 
-sub-if1 : tie.Need-sub-if1
-sub-if1 c = search needs
-
 returns : tie.Need-returns
 returns c = λ l k. keeps-stop (left-fail (all (c .before .before .before) l) (lt-leb _ _ (c .if1 .taken)))
 
 returns-2 : tie.Need-returns-2
 returns-2 c = λ l k. keeps-stop (left-fail (headed (c .before) l) (le-ltb (length l) 64 (omega (arith, k .count))))
 
-add-u64-at : tie.Need-add-u64-at
-add-u64-at c = search needs
-
-u64-at-requires : tie.Need-u64-at-requires
-u64-at-requires c κs = search needs
-
-add-left : tie.Need-add-left
-add-left c = search needs
-
-sub-left : tie.Need-sub-left
-sub-left c = search needs
-
 returns-3 : tie.Need-returns-3
 returns-3 c = λ l k. keeps-stop (left-fail (few (c .before .before) l k) (let a = start (c .before .before .before) .args in lt-leb (leAt 8 (a .s .now) (a .at + 8)) (length (a .s .now) - a .at - 16) (omega (arith, c .before .u64-at .ensures))))
-
-judged-requires : tie.Need-judged-requires
-judged-requires c κs = search needs
-
-same-length : tie.Need-same-length
-same-length c = search needs
 
 returns-4 : tie.Need-returns-4
 returns-4 c =
@@ -77,14 +56,14 @@ pub section-at-spec : {M : Type 1} → statement M
 section-at-spec =
     tie.close
     (tie.spec
-    sub-if1
+    (λ c. search needs)
     returns
     returns-2
-    add-u64-at
-    u64-at-requires
-    add-left
-    sub-left
+    (λ c. search needs)
+    (λ c κs. search needs)
+    (λ c. search needs)
+    (λ c. search needs)
     returns-3
-    judged-requires
-    same-length
+    (λ c κs. search needs)
+    (λ c. search needs)
     returns-4)

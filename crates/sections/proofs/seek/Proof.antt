@@ -16,9 +16,6 @@ abbrev μ-loop : tie.MeasureT-loop
 loop-holds : tie.Need-loop-holds Inv-loop μ-loop
 loop-holds c = seeking-start _ _ _ (c .before .pre)
 
-u32-at-requires : tie.Need-u32-at-requires Inv-loop μ-loop
-u32-at-requires c κs = search needs
-
 returns : tie.Need-returns Inv-loop μ-loop
 returns c = seeking-found (c .before .before .before .loop .inv) (c .before .before .loop-test .taken) (c .before .u32-at .ensures) (c .if1 .taken)
 
@@ -30,9 +27,6 @@ add-first c = omega (arith, seeking-few (c .before .before .before .before .loop
 
 add-u64-at : tie.Need-add-u64-at Inv-loop μ-loop
 add-u64-at c = let g = seeking-goes (c .before .before .before .before .loop .inv) (c .before .before .before .loop-test .taken) in omega (arith, g .0, g .1, g .2)
-
-u64-at-requires : tie.Need-u64-at-requires Inv-loop μ-loop
-u64-at-requires c κs = search needs
 
 add-at : tie.Need-add-at Inv-loop μ-loop
 add-at c = let g = seeking-goes (c .before .before .before .before .before .loop .inv) (c .before .before .before .before .loop-test .taken) in omega (arith, g .1, g .2, c .u64-at .ensures)
@@ -56,12 +50,12 @@ seek-spec =
     Inv-loop
     μ-loop
     loop-holds
-    u32-at-requires
+    (λ c κs. search needs)
     returns
     entries-at-requires
     add-first
     add-u64-at
-    u64-at-requires
+    (λ c κs. search needs)
     add-at
     add-at-2
     loop-less

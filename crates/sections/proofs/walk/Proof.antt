@@ -49,17 +49,8 @@ sub-section-at c = walks-at (c .before .before .loop .inv)
 part-section-at-start : tie.Need-part-section-at-start Inv-loop μ-loop
 part-section-at-start c = walks-at (c .before .before .loop .inv)
 
-part-section-at-end : tie.Need-part-section-at-end Inv-loop μ-loop
-part-section-at-end c = omega arith
-
 section-at-requires : tie.Need-section-at-requires Inv-loop μ-loop
 section-at-requires c κs = ((c .before .before .before .loop .inv) .inside, c .before .before .before .before .before .before .pre .1)
-
-enum-known-number : tie.Need-enum-known-number Inv-loop μ-loop
-enum-known-number c = search needs
-
-forget-requires : tie.Need-forget-requires Inv-loop μ-loop
-forget-requires c κs = search needs
 
 same-length : tie.Need-same-length Inv-loop μ-loop
 same-length c =
@@ -74,22 +65,10 @@ returns c =
     let long = walks-back v (k .section-at .last .1 .1 .1 .1 .0) (k .section-at .kept .1 .1 .1 .1 .0) in
     walks-stop v (turn k .loop-test .taken) stop (c .before .before .forget .ensures ∙ ap zeros long)
 
-enum-known-n : tie.Need-enum-known-n Inv-loop μ-loop
-enum-known-n c = search needs
-
-u32-at-requires : tie.Need-u32-at-requires Inv-loop μ-loop
-u32-at-requires c κs = search needs
-
-note-requires : tie.Need-note-requires Inv-loop μ-loop
-note-requires c κs = search needs
-
 add-u64-at : tie.Need-add-u64-at Inv-loop μ-loop
 add-u64-at c =
     let t = turn (read (c .before .before .before .before)) in
     omega (arith, t .before .loop .inv .inside, start t .pre .1)
-
-u64-at-requires : tie.Need-u64-at-requires Inv-loop μ-loop
-u64-at-requires c κs = search needs
 
 add-at : tie.Need-add-at Inv-loop μ-loop
 add-at c =
@@ -144,17 +123,17 @@ walk-spec =
     mul-section-at
     sub-section-at
     part-section-at-start
-    part-section-at-end
+    (λ c. omega arith)
     section-at-requires
-    enum-known-number
-    forget-requires
+    (λ c. search needs)
+    (λ c κs. search needs)
     same-length
     returns
-    enum-known-n
-    u32-at-requires
-    note-requires
+    (λ c. search needs)
+    (λ c κs. search needs)
+    (λ c κs. search needs)
     add-u64-at
-    u64-at-requires
+    (λ c κs. search needs)
     add-at
     add-at-2
     add-i

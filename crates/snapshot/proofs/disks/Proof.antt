@@ -6,20 +6,8 @@ use borrow.Author.Needs.{needs}
 use Rattle.snapshot.proofs.disks.Statement.{statement}
 use Rattle.snapshot.proofs.disks.Tie as tie
 
-check-requires : tie.Need-check-requires
-check-requires c κs = search needs
-
 returns : tie.Need-returns
 returns c = let a = c .before .before .before .before .args in bare-table (a .file .now) (listRows Disks DISKS) (a .table .now) (c .before .if1 .taken) (c .check .ensures)
 
-list-table-requires : tie.Need-list-table-requires
-list-table-requires c κs = search needs
-
-same-length : tie.Need-same-length
-same-length c = search needs
-
-returns-2 : tie.Need-returns-2
-returns-2 c = search needs
-
 pub disks-spec : {M : Type 1} → statement M
-disks-spec = tie.close (tie.spec check-requires returns list-table-requires same-length returns-2)
+disks-spec = tie.close (tie.spec (λ c κs. search needs) returns (λ c κs. search needs) (λ c. search needs) (λ c. search needs))

@@ -14,18 +14,6 @@ found c = c .before .before .before .before
 opened : (c : tie.After-at) → let f = found c in let a = sought f .args in Opened (a .id) (a .file .now) (f .check-and-find .last .1 .1 .0) (c .at .given .0 .0) (c .at .given .0 .1 .0)
 opened c = let f = found c in let t = sought f in spot-opened (t .args .id) (t .args .file .now) (t .args .index .now) (t .pre .2) (f .check-and-find .ensures) (c .at .given .1)
 
-check-and-find-requires : tie.Need-check-and-find-requires
-check-and-find-requires c κs = search needs
-
-enum-known-number : tie.Need-enum-known-number
-enum-known-number c = search needs
-
-enum-known-at : tie.Need-enum-known-at
-enum-known-at c = search needs
-
-same-length : tie.Need-same-length
-same-length c = search needs
-
 returns : tie.Need-returns
 returns c =
     let y = opened (c .before .before) in
@@ -38,33 +26,21 @@ put-table-requires c κs =
     let t = sought (found (c .before .before .before .before)) in
     record { read = y .site .read; is-known = t .pre .0; body = t .pre .1; place = y .site .place; there = c .before .before .if1 .left; starts = y .starts; front = y .site .first }
 
-same-length-2 : tie.Need-same-length-2
-same-length-2 c = search needs
-
 returns-2 : tie.Need-returns-2
 returns-2 c = let t = c .before .before .before .before .before .before .before .before .before .before in let a = t .args in list-stop (a .file .now) (a .t) (a .id) (a .table .now) (rw (c .before .number .given .1) at (c .before .before .before .before .before .check-and-find .ensures .answers))
-
-same-length-3 : tie.Need-same-length-3
-same-length-3 c = search needs
-
-same-length-4 : tie.Need-same-length-4
-same-length-4 c = search needs
-
-returns-3 : tie.Need-returns-3
-returns-3 c = search needs
 
 pub list-table-in-spec : {M : Type 1} → statement M
 list-table-in-spec =
     tie.close
     (tie.spec
-    check-and-find-requires
-    enum-known-number
-    enum-known-at
-    same-length
+    (λ c κs. search needs)
+    (λ c. search needs)
+    (λ c. search needs)
+    (λ c. search needs)
     returns
     put-table-requires
-    same-length-2
+    (λ c. search needs)
     returns-2
-    same-length-3
-    same-length-4
-    returns-3)
+    (λ c. search needs)
+    (λ c. search needs)
+    (λ c. search needs))

@@ -50,12 +50,6 @@ part-put-section-end c = omega (arith, room c)
 cast-put-section : tie.Need-cast-put-section Inv-loop μ-loop
 cast-put-section c = let g = on (c .before) in omega (arith, g .0, g .1, g .2)
 
-tail-requires : tie.Need-tail-requires Inv-loop μ-loop
-tail-requires c κs = search needs
-
-put-section-requires : tie.Need-put-section-requires Inv-loop μ-loop
-put-section-requires c κs = search needs
-
 end-at-requires : tie.Need-end-at-requires Inv-loop μ-loop
 end-at-requires c κs = let g = on (c .before .before .before .before .before) in omega (arith, g .1, g .2)
 
@@ -88,8 +82,8 @@ put-rows-spec =
     part-put-section-start
     part-put-section-end
     cast-put-section
-    tail-requires
-    put-section-requires
+    (λ c κs. search needs)
+    (λ c κs. search needs)
     end-at-requires
     add-t
     loop-less

@@ -17,20 +17,8 @@ start c = c .before .before .before .before .before
 inside : (c : tie.After-u32-at) → let a = start c .args in a .first + c .u32-at .result ≤ length (a .index .now)
 inside c = list-inside (start c .pre) (c .u32-at .ensures)
 
-add-b : tie.Need-add-b
-add-b c = search needs
-
 end-at-requires : tie.Need-end-at-requires
 end-at-requires c κs = omega (arith, within (c .before .before .before))
-
-u32-at-requires : tie.Need-u32-at-requires
-u32-at-requires c κs = search needs
-
-cast-n : tie.Need-cast-n
-cast-n c = search needs
-
-mul-need : tie.Need-mul-need
-mul-need c = search needs
 
 returns : tie.Need-returns
 returns c =
@@ -41,12 +29,6 @@ returns c =
 add-last : tie.Need-add-last
 add-last c = omega (arith, inside (c .before), start (c .before) .fits)
 
-sub-put-rows : tie.Need-sub-put-rows
-sub-put-rows c = search needs
-
-part-put-rows-start : tie.Need-part-put-rows-start
-part-put-rows-start c = search needs
-
 part-put-rows-end : tie.Need-part-put-rows-end
 part-put-rows-end c = omega (arith, within (start (c .before)), c .before .before .end-at .ensures)
 
@@ -56,20 +38,8 @@ cast-put-rows c = omega (arith, within (start (c .before .before)))
 mul-put-rows : tie.Need-mul-put-rows
 mul-put-rows c = omega (arith, inside (c .before .before))
 
-sub-put-rows-2 : tie.Need-sub-put-rows-2
-sub-put-rows-2 c = search needs
-
-part-put-rows-start-2 : tie.Need-part-put-rows-start-2
-part-put-rows-start-2 c = search needs
-
 part-put-rows-end-2 : tie.Need-part-put-rows-end-2
 part-put-rows-end-2 c = inside (c .before .before)
-
-put-rows-requires : tie.Need-put-rows-requires
-put-rows-requires c κs = search needs
-
-same-length : tie.Need-same-length
-same-length c = search needs
 
 returns-2 : tie.Need-returns-2
 returns-2 c =
@@ -81,21 +51,21 @@ pub put-table-spec : {M : Type 1} → statement M
 put-table-spec =
     tie.close
     (tie.spec
-    add-b
+    (λ c. search needs)
     end-at-requires
-    u32-at-requires
-    cast-n
-    mul-need
+    (λ c κs. search needs)
+    (λ c. search needs)
+    (λ c. search needs)
     returns
     add-last
-    sub-put-rows
-    part-put-rows-start
+    (λ c. search needs)
+    (λ c. search needs)
     part-put-rows-end
     cast-put-rows
     mul-put-rows
-    sub-put-rows-2
-    part-put-rows-start-2
+    (λ c. search needs)
+    (λ c. search needs)
     part-put-rows-end-2
-    put-rows-requires
-    same-length
+    (λ c κs. search needs)
+    (λ c. search needs)
     returns-2)

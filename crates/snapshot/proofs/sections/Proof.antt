@@ -19,21 +19,6 @@ scanned c = c .before .before .before
 read : (c : tie.After-n) → taken (c .n .given .0 .0) ≡ counted (fileOf (start (scanned c) .args .file .now))
 read c = sym (ap pieceOf (c .n .given .1)) ∙ scanned c .scan .ensures .answers
 
-array-borrow-prefix-index : tie.Need-array-borrow-prefix-index
-array-borrow-prefix-index c = search needs
-
-slice-aggregate-scan : tie.Need-slice-aggregate-scan
-slice-aggregate-scan c = search needs
-
-scan-requires : tie.Need-scan-requires
-scan-requires c κs = search needs
-
-enum-known-number : tie.Need-enum-known-number
-enum-known-number c = search needs
-
-enum-known-n : tie.Need-enum-known-n
-enum-known-n c = search needs
-
 mul-need : tie.Need-mul-need
 mul-need c = let a = start (scanned (c .before)) .args in omega (arith, sections-few (a .file .now) (a .table .now) (read (c .before)))
 
@@ -46,9 +31,6 @@ put-rows-requires c κs = let n = c .before .before .before in let a = start (sc
 returns-2 : tie.Need-returns-2
 returns-2 c = let k = c .before .before .before .before in let a = start k .args in sections-stop (a .file .now) (a .table .now) (rw (c .before .number .given .1) at (k .scan .ensures .answers))
 
-same-length : tie.Need-same-length
-same-length c = search needs
-
 returns-3 : tie.Need-returns-3
 returns-3 c =
     let room = c .before .before .before .before in
@@ -60,14 +42,14 @@ pub sections-spec : {M : Type 1} → statement M
 sections-spec =
     tie.close
     (tie.spec
-    array-borrow-prefix-index
-    slice-aggregate-scan
-    scan-requires
-    enum-known-number
-    enum-known-n
+    (λ c. search needs)
+    (λ c. search needs)
+    (λ c κs. search needs)
+    (λ c. search needs)
+    (λ c. search needs)
     mul-need
     returns
     put-rows-requires
     returns-2
-    same-length
+    (λ c. search needs)
     returns-3)

@@ -17,29 +17,8 @@ abbrev μ-loop : tie.MeasureT-loop
 loop-holds : tie.Need-loop-holds Inv-loop μ-loop
 loop-holds c = passes-here _ (omega arith)
 
-sub-loop : tie.Need-sub-loop Inv-loop μ-loop
-sub-loop c = omega arith
-
-add-end : tie.Need-add-end Inv-loop μ-loop
-add-end c = omega arith
-
-sub-highest : tie.Need-sub-highest Inv-loop μ-loop
-sub-highest c = omega arith
-
-part-highest-start : tie.Need-part-highest-start Inv-loop μ-loop
-part-highest-start c = omega arith
-
-part-highest-end : tie.Need-part-highest-end Inv-loop μ-loop
-part-highest-end c = omega arith
-
-highest-requires : tie.Need-highest-requires Inv-loop μ-loop
-highest-requires c κs = search needs
-
 returns : tie.Need-returns Inv-loop μ-loop
 returns c = c .before .before .before .before .loop .inv
-
-loop-less : tie.Need-loop-less Inv-loop μ-loop
-loop-less c = omega arith
 
 loop-again : tie.Need-loop-again Inv-loop μ-loop
 loop-again c =
@@ -56,13 +35,13 @@ blocks-spec =
     Inv-loop
     μ-loop
     loop-holds
-    sub-loop
-    add-end
-    sub-highest
-    part-highest-start
-    part-highest-end
-    highest-requires
+    (λ c. omega arith)
+    (λ c. omega arith)
+    (λ c. omega arith)
+    (λ c. omega arith)
+    (λ c. omega arith)
+    (λ c κs. search needs)
     returns
-    loop-less
+    (λ c. omega arith)
     loop-again
     returns-2)

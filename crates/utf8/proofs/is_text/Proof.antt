@@ -4,15 +4,6 @@ use borrow.Author.Needs.{needs}
 use Rattle.utf8.proofs.is_text.Statement.{statement}
 use Rattle.utf8.proofs.is_text.Tie as tie
 
-text-requires : tie.Need-text-requires
-text-requires c κs = tt
-
-enum-told : tie.Need-enum-told
-enum-told c = search needs
-
-enum-told-2 : tie.Need-enum-told-2
-enum-told-2 c = search needs
-
 returns : tie.Need-returns
 returns c = sym (whole-is (c .before .before .text .ensures) (c .enum-told .given .1))
 
@@ -20,4 +11,4 @@ returns-2 : tie.Need-returns-2
 returns-2 c = sym (broken-is (c .before .before .text .ensures) (c .enum-told2 .given .1))
 
 pub is-text-spec : {M : Type 1} → statement M
-is-text-spec = tie.close (tie.spec text-requires enum-told enum-told-2 returns returns-2)
+is-text-spec = tie.close (tie.spec (λ c κs. tt) (λ c. search needs) (λ c. search needs) returns returns-2)

@@ -17,23 +17,11 @@ loop-holds c = record { within = c .pre; count = refl; same = refl }
 returns : tie.Need-returns Inv-loop μ-loop
 returns c = came-end (c .before .before .loop .inv) (omega arith) (omega arith)
 
-shared-slice-read-b : tie.Need-shared-slice-read-b Inv-loop μ-loop
-shared-slice-read-b c = omega arith
-
 returns-2 : tie.Need-returns-2 Inv-loop μ-loop
 returns-2 c = came-out (c .before .before .before .before .loop .inv) (omega arith) (omega arith) (omega arith)
 
 returns-3 : tie.Need-returns-3 Inv-loop μ-loop
 returns-3 c = came-out (c .before .before .before .before .before .loop .inv) (omega arith) (omega arith) (omega arith)
-
-sub-left : tie.Need-sub-left Inv-loop μ-loop
-sub-left c = omega arith
-
-add-i : tie.Need-add-i Inv-loop μ-loop
-add-i c = omega arith
-
-loop-less : tie.Need-loop-less Inv-loop μ-loop
-loop-less c = omega arith
 
 loop-again : tie.Need-loop-again Inv-loop μ-loop
 loop-again c =
@@ -51,11 +39,11 @@ rest-spec =
     μ-loop
     loop-holds
     returns
-    shared-slice-read-b
+    (λ c. omega arith)
     returns-2
     returns-3
-    sub-left
-    add-i
-    loop-less
+    (λ c. omega arith)
+    (λ c. omega arith)
+    (λ c. omega arith)
     loop-again
     returns-4)

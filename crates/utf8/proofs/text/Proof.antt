@@ -6,17 +6,11 @@ use Rattle.utf8.proofs.Turns.{run-whole}
 use Rattle.utf8.proofs.text.Statement.{statement}
 use Rattle.utf8.proofs.text.Tie as tie
 
-peak-requires : tie.Need-peak-requires
-peak-requires c κs = search needs
-
 returns : tie.Need-returns
 returns c = scan-reads _ _ (sym (run-whole _ _ (c .if1 .taken) (c .before .peak .ensures)))
-
-walk-requires : tie.Need-walk-requires
-walk-requires c κs = search needs
 
 returns-2 : tie.Need-returns-2
 returns-2 c = scan-reads _ _ (c .walk .ensures)
 
 pub text-spec : {M : Type 1} → statement M
-text-spec = tie.close (tie.spec peak-requires returns walk-requires returns-2)
+text-spec = tie.close (tie.spec (λ c κs. search needs) returns (λ c κs. search needs) returns-2)

@@ -19,15 +19,6 @@ abbrev μ-loop : tie.MeasureT-loop
 loop-holds : tie.Need-loop-holds Inv-loop μ-loop
 loop-holds c = passes-here 0 (omega arith)
 
-shared-slice-read-b : tie.Need-shared-slice-read-b Inv-loop μ-loop
-shared-slice-read-b c = omega arith
-
-add-next : tie.Need-add-next Inv-loop μ-loop
-add-next c = omega arith
-
-plain-requires : tie.Need-plain-requires Inv-loop μ-loop
-plain-requires c κs = search needs
-
 loop-less : tie.Need-loop-less Inv-loop μ-loop
 loop-less c = omega (arith, c .plain .ensures)
 
@@ -35,15 +26,6 @@ loop-again : tie.Need-loop-again Inv-loop μ-loop
 loop-again c =
     passes-then (c .before .before .before .before .loop .inv)
     (passes-first (omega arith) (hit 0 _ (omega arith)) (c .plain .ensures))
-
-lead-requires : tie.Need-lead-requires Inv-loop μ-loop
-lead-requires c κs = search needs
-
-enum-known-left : tie.Need-enum-known-left Inv-loop μ-loop
-enum-known-left c = search needs
-
-rest-requires : tie.Need-rest-requires Inv-loop μ-loop
-rest-requires c κs = search needs
 
 enum-told : tie.Need-enum-told Inv-loop μ-loop
 enum-told c = search needs
@@ -62,18 +44,12 @@ loop-again-2 c =
     (passes-first (omega arith) (sym (l .lead .ensures) ∙ m .left .given .1)
     (ends-passes (c .before .before .rest .ensures) (c .enum-told .given .1)))
 
-enum-known-k : tie.Need-enum-known-k Inv-loop μ-loop
-enum-known-k c = search needs
-
 returns : tie.Need-returns Inv-loop μ-loop
 returns c =
     let m = c .before .before .before .before .before in
     let l = m .before .before in
     walk-broken (l .before .before .before .before .loop .inv) (omega arith) (sym (l .lead .ensures) ∙ m .left .given .1)
     (ends-breaks (c .before .before .before .rest .ensures) (c .before .k .given .1))
-
-enum-told-2 : tie.Need-enum-told-2 Inv-loop μ-loop
-enum-told-2 c = search needs
 
 returns-2 : tie.Need-returns-2 Inv-loop μ-loop
 returns-2 c =
@@ -91,20 +67,20 @@ walk-spec =
     Inv-loop
     μ-loop
     loop-holds
-    shared-slice-read-b
-    add-next
-    plain-requires
+    (λ c. omega arith)
+    (λ c. omega arith)
+    (λ c κs. search needs)
     loop-less
     loop-again
-    lead-requires
-    enum-known-left
-    rest-requires
+    (λ c κs. search needs)
+    (λ c. search needs)
+    (λ c κs. search needs)
     enum-told
     add-i
     loop-less-2
     loop-again-2
-    enum-known-k
+    (λ c. search needs)
     returns
-    enum-told-2
+    (λ c. search needs)
     returns-2
     returns-3)

@@ -11,32 +11,8 @@ Inv-loop b n₀ n = n ≤ 10
 abbrev μ-loop : tie.MeasureT-loop
 μ-loop b n₀ n = 10 - n
 
-loop-holds : tie.Need-loop-holds Inv-loop μ-loop
-loop-holds c = omega arith
-
-array-share-prefix-b : tie.Need-array-share-prefix-b Inv-loop μ-loop
-array-share-prefix-b c = omega arith
-
 slice-aggregate-read : tie.Need-slice-aggregate-read Inv-loop μ-loop
 slice-aggregate-read c = simp length-take (omega arith)
-
-read-requires : tie.Need-read-requires Inv-loop μ-loop
-read-requires c κs = tt
-
-show-requires : tie.Need-show-requires Inv-loop μ-loop
-show-requires c κs = tt
-
-add-n : tie.Need-add-n Inv-loop μ-loop
-add-n c = omega arith
-
-loop-less : tie.Need-loop-less Inv-loop μ-loop
-loop-less c = omega arith
-
-loop-again : tie.Need-loop-again Inv-loop μ-loop
-loop-again c = omega arith
-
-returns : tie.Need-returns Inv-loop μ-loop
-returns c = tt
 
 pub cuts-spec : {M : Type 1} → statement M
 cuts-spec =
@@ -44,12 +20,12 @@ cuts-spec =
     (tie.spec
     Inv-loop
     μ-loop
-    loop-holds
-    array-share-prefix-b
+    (λ c. omega arith)
+    (λ c. omega arith)
     slice-aggregate-read
-    read-requires
-    show-requires
-    add-n
-    loop-less
-    loop-again
-    returns)
+    (λ c κs. tt)
+    (λ c κs. tt)
+    (λ c. omega arith)
+    (λ c. omega arith)
+    (λ c. omega arith)
+    (λ c. tt))

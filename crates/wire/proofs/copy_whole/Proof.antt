@@ -20,54 +20,12 @@ loop-holds c =
     let a = c .before .before .args in
     (omega arith, no-part (a .out .now) (a .at) (omega arith), refl)
 
-sub-loop : tie.Need-sub-loop Inv-loop μ-loop
-sub-loop c = omega arith
-
-add-e : tie.Need-add-e Inv-loop μ-loop
-add-e c = omega arith
-
-add-copy-part : tie.Need-add-copy-part Inv-loop μ-loop
-add-copy-part c = omega arith
-
-sub-copy-part : tie.Need-sub-copy-part Inv-loop μ-loop
-sub-copy-part c = omega arith
-
-part-copy-part-start : tie.Need-part-copy-part-start Inv-loop μ-loop
-part-copy-part-start c = omega arith
-
-part-copy-part-end : tie.Need-part-copy-part-end Inv-loop μ-loop
-part-copy-part-end c = omega arith
-
-copy-part-requires : tie.Need-copy-part-requires Inv-loop μ-loop
-copy-part-requires c κs = omega arith
-
-loop-less : tie.Need-loop-less Inv-loop μ-loop
-loop-less c = omega arith
-
 loop-again : tie.Need-loop-again Inv-loop μ-loop
 loop-again c =
     let p = c .before .before in
     let l = p .before .before .before .before in
     let a = l .before .before .before .args in
     (omega arith, next-part (a .src .now) (a .at) (l .loop .i) (l .loop .i + 65536) (omega arith) (omega arith) (l .loop .inv .1) (p .copy-part .ensures), omega arith)
-
-add-copy-part-2 : tie.Need-add-copy-part-2 Inv-loop μ-loop
-add-copy-part-2 c = omega arith
-
-sub-copy-part-2 : tie.Need-sub-copy-part-2 Inv-loop μ-loop
-sub-copy-part-2 c = omega arith
-
-part-copy-part-start-2 : tie.Need-part-copy-part-start-2 Inv-loop μ-loop
-part-copy-part-start-2 c = omega arith
-
-part-copy-part-end-2 : tie.Need-part-copy-part-end-2 Inv-loop μ-loop
-part-copy-part-end-2 c = omega arith
-
-copy-part-requires-2 : tie.Need-copy-part-requires-2 Inv-loop μ-loop
-copy-part-requires-2 c κs = omega arith
-
-same-length : tie.Need-same-length Inv-loop μ-loop
-same-length c = omega arith
 
 returns : tie.Need-returns Inv-loop μ-loop
 returns c =
@@ -84,19 +42,19 @@ copy-whole-spec =
     Inv-loop
     μ-loop
     loop-holds
-    sub-loop
-    add-e
-    add-copy-part
-    sub-copy-part
-    part-copy-part-start
-    part-copy-part-end
-    copy-part-requires
-    loop-less
+    (λ c. omega arith)
+    (λ c. omega arith)
+    (λ c. omega arith)
+    (λ c. omega arith)
+    (λ c. omega arith)
+    (λ c. omega arith)
+    (λ c κs. omega arith)
+    (λ c. omega arith)
     loop-again
-    add-copy-part-2
-    sub-copy-part-2
-    part-copy-part-start-2
-    part-copy-part-end-2
-    copy-part-requires-2
-    same-length
+    (λ c. omega arith)
+    (λ c. omega arith)
+    (λ c. omega arith)
+    (λ c. omega arith)
+    (λ c κs. omega arith)
+    (λ c. omega arith)
     returns)

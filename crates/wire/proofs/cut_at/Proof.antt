@@ -18,26 +18,11 @@ abbrev μ-loop : tie.MeasureT-loop
 loop-holds : tie.Need-loop-holds Inv-loop μ-loop
 loop-holds c = (omega arith, omega arith, cut-none _)
 
-sub-i : tie.Need-sub-i Inv-loop μ-loop
-sub-i c = omega arith
-
 mul-x : tie.Need-mul-x Inv-loop μ-loop
 mul-x c = let l = c .before in let t = cut-turn (l .before .before .args .s .now) (l .loop .i) (l .loop .x) (λ i. l .before .shared-slice-known .given i .fits) (omega arith) (omega arith) (l .loop .inv .2) in omega arith
 
-shared-slice-read-wide : tie.Need-shared-slice-read-wide Inv-loop μ-loop
-shared-slice-read-wide c = omega arith
-
-wide-requires : tie.Need-wide-requires Inv-loop μ-loop
-wide-requires c κs = search needs
-
-cast-x : tie.Need-cast-x Inv-loop μ-loop
-cast-x c = search needs
-
 add-x : tie.Need-add-x Inv-loop μ-loop
 add-x c = let l = c .before .before .before in let t = cut-turn (l .before .before .args .s .now) (l .loop .i) (l .loop .x) (λ i. l .before .shared-slice-known .given i .fits) (omega arith) (omega arith) (l .loop .inv .2) in omega arith
-
-loop-less : tie.Need-loop-less Inv-loop μ-loop
-loop-less c = omega arith
 
 loop-again : tie.Need-loop-again Inv-loop μ-loop
 loop-again c = let l = c .before .before .before in let t = cut-turn (l .before .before .args .s .now) (l .loop .i) (l .loop .x) (λ i. l .before .shared-slice-known .given i .fits) (omega arith) (omega arith) (l .loop .inv .2) in (omega arith, omega arith, omega arith)
@@ -52,12 +37,12 @@ cut-at-spec =
     Inv-loop
     μ-loop
     loop-holds
-    sub-i
+    (λ c. omega arith)
     mul-x
-    shared-slice-read-wide
-    wide-requires
-    cast-x
+    (λ c. omega arith)
+    (λ c κs. search needs)
+    (λ c. search needs)
     add-x
-    loop-less
+    (λ c. omega arith)
     loop-again
     returns)

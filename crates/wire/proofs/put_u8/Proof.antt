@@ -10,14 +10,8 @@ use borrow.Author.Needs.{needs}
 use Rattle.wire.proofs.put_u8.Statement.{statement}
 use Rattle.wire.proofs.put_u8.Tie as tie
 
-fits-requires : tie.Need-fits-requires
-fits-requires c κs = search needs
-
 slice-write-out : tie.Need-slice-write-out
 slice-write-out c = let a = c .before .before .before .args in omega (arith, leb-true (a .at + 1) (length (a .out .now)) (sym (c .before .fits2 .ensures) ∙ c .if1 .taken))
-
-same-length : tie.Need-same-length
-same-length c = search needs
 
 returns : tie.Need-returns
 returns c = let a = c .before .before .before .args in let t = sym (c .before .fits2 .ensures) ∙ c .if1 .taken in put-tested (a .at) (bytesOf 1 (a .x)) (a .out .now) (length-bytesOf 1 (a .x)) t (stored-one (a .x) (a .out .now) (a .at) (omega arith) (leb-true (a .at + 1) (length (a .out .now)) t))
@@ -26,4 +20,4 @@ returns-2 : tie.Need-returns-2
 returns-2 c = let a = c .before .before .before .args in put-refused (a .at) (bytesOf 1 (a .x)) (a .out .now) (length-bytesOf 1 (a .x)) (sym (c .before .fits2 .ensures) ∙ c .if1 .left) refl
 
 pub put-u8-spec : {M : Type 1} → statement M
-put-u8-spec = tie.close (tie.spec fits-requires slice-write-out same-length returns returns-2)
+put-u8-spec = tie.close (tie.spec (λ c κs. search needs) slice-write-out (λ c. search needs) returns returns-2)

@@ -8,14 +8,8 @@ use borrow.Author.Needs.{needs}
 use Rattle.wire.proofs.u32_at.Statement.{statement}
 use Rattle.wire.proofs.u32_at.Tie as tie
 
-fits-requires : tie.Need-fits-requires
-fits-requires c κs = search needs
-
 whole-u32-requires : tie.Need-whole-u32-requires
 whole-u32-requires c κs = leb-true _ _ (sym (c .before .fits2 .ensures) ∙ c .if1 .taken)
-
-returns : tie.Need-returns
-returns c = search needs
 
 cut-at-requires : tie.Need-cut-at-requires
 cut-at-requires c κs = let a = c .before .before .before .args in omega (arith, leb-false (a .at + 4) (length (a .s .now)) (sym (c .before .fits2 .ensures) ∙ c .if1 .left))
@@ -29,4 +23,4 @@ returns-2 c = let k = c .before .before .before in let a = k .before .args in le
 pub u32-at-spec : {M : Type 1} → statement M
 u32-at-spec =
     tie.close
-    (tie.spec fits-requires whole-u32-requires returns cut-at-requires cast-result returns-2)
+    (tie.spec (λ c κs. search needs) whole-u32-requires (λ c. search needs) cut-at-requires cast-result returns-2)

@@ -4,9 +4,6 @@ use borrow.Author.Needs.{needs}
 use Rattle.wire.proofs.u8_at.Statement.{statement}
 use Rattle.wire.proofs.u8_at.Tie as tie
 
-shared-slice-read-result : tie.Need-shared-slice-read-result
-shared-slice-read-result c = search needs
-
 returns : tie.Need-returns
 returns c = sym (leAt-one _ _)
 
@@ -14,4 +11,4 @@ returns-2 : tie.Need-returns-2
 returns-2 c = sym (leAt-past 1 _ _ (c .if1 .left))
 
 pub u8-at-spec : {M : Type 1} → statement M
-u8-at-spec = tie.close (tie.spec shared-slice-read-result returns returns-2)
+u8-at-spec = tie.close (tie.spec (λ c. search needs) returns returns-2)

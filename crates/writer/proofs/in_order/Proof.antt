@@ -13,23 +13,8 @@ Inv-loop starts last₀ i₀ last i = inOrder starts ≡ inOrderFrom last (drop 
 abbrev μ-loop : tie.MeasureT-loop
 μ-loop starts last₀ i₀ last i = length starts - i
 
-loop-holds : tie.Need-loop-holds Inv-loop μ-loop
-loop-holds c = refl
-
-mul-y : tie.Need-mul-y Inv-loop μ-loop
-mul-y c = omega arith
-
-shared-slice-read-y : tie.Need-shared-slice-read-y Inv-loop μ-loop
-shared-slice-read-y c = omega arith
-
 returns : tie.Need-returns Inv-loop μ-loop
 returns c = sym (order-stop _ _ _ _ (c .before .before .before .loop .inv) (c .before .before .loop-test .taken) (c .if1 .taken))
-
-add-i : tie.Need-add-i Inv-loop μ-loop
-add-i c = omega arith
-
-loop-less : tie.Need-loop-less Inv-loop μ-loop
-loop-less c = omega arith
 
 loop-again : tie.Need-loop-again Inv-loop μ-loop
 loop-again c = order-next _ _ _ _ (c .before .before .before .loop .inv) (c .before .before .loop-test .taken) (c .if1 .left)
@@ -43,11 +28,11 @@ in-order-spec =
     (tie.spec
     Inv-loop
     μ-loop
-    loop-holds
-    mul-y
-    shared-slice-read-y
+    (λ c. refl)
+    (λ c. omega arith)
+    (λ c. omega arith)
     returns
-    add-i
-    loop-less
+    (λ c. omega arith)
+    (λ c. omega arith)
     loop-again
     returns-2)

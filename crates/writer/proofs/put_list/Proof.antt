@@ -23,15 +23,6 @@ returns c =
     let a = t .args in
     room-short (sortedBytes (describe (a .kind)) (a .s .now)) (a .out .now) (sorted-size (lawful (a .kind)) (t .pre)) (c .if1 .taken)
 
-in-order-requires : tie.Need-in-order-requires
-in-order-requires c κs = search needs
-
-copy-requires : tie.Need-copy-requires
-copy-requires c κs = search needs
-
-same-length : tie.Need-same-length
-same-length c = search needs
-
 returns-2 : tie.Need-returns-2
 returns-2 c =
     let roomy = c .before .before .before .before .before .before in
@@ -41,9 +32,6 @@ returns-2 c =
 
 cast-put-u32 : tie.Need-cast-put-u32
 cast-put-u32 c = let t = c .before .before .before .before .before .before .before in omega (arith, listed-few (lawful (t .args .kind)) (t .pre))
-
-put-u32-requires : tie.Need-put-u32-requires
-put-u32-requires c κs = search needs
 
 sub-put-run : tie.Need-sub-put-run
 sub-put-run c =
@@ -57,20 +45,11 @@ part-put-run-start c =
     let t = begun p in
     omega (arith, sorted-room (lawful (t .args .kind)) (t .pre) (t .args .out .now) (fits p) (p .put-u32 .ensures) .0)
 
-part-put-run-end : tie.Need-part-put-run-end
-part-put-run-end c = search needs
-
-put-run-requires : tie.Need-put-run-requires
-put-run-requires c κs = search needs
-
 add-t6 : tie.Need-add-t6
 add-t6 c =
     let p = c .before .before .before .before .before .before in
     let t = begun p in
     omega (arith, t .pre .short, sorted-end (lawful (t .args .kind)) (t .pre) (t .args .out .now) (fits p) (p .put-u32 .ensures) (c .before .before .put-run .ensures))
-
-same-length-2 : tie.Need-same-length-2
-same-length-2 c = search needs
 
 returns-3 : tie.Need-returns-3
 returns-3 c =
@@ -83,16 +62,16 @@ put-list-spec =
     tie.close
     (tie.spec
     returns
-    in-order-requires
-    copy-requires
-    same-length
+    (λ c κs. search needs)
+    (λ c κs. search needs)
+    (λ c. search needs)
     returns-2
     cast-put-u32
-    put-u32-requires
+    (λ c κs. search needs)
     sub-put-run
     part-put-run-start
-    part-put-run-end
-    put-run-requires
+    (λ c. search needs)
+    (λ c κs. search needs)
     add-t6
-    same-length-2
+    (λ c. search needs)
     returns-3)

@@ -20,12 +20,6 @@ abbrev μ-loop : tie.MeasureT-loop
 loop-holds : tie.Need-loop-holds Inv-loop μ-loop
 loop-holds c = fitting-none _ _
 
-mul-y : tie.Need-mul-y Inv-loop μ-loop
-mul-y c = omega arith
-
-shared-slice-read-y : tie.Need-shared-slice-read-y Inv-loop μ-loop
-shared-slice-read-y c = omega arith
-
 cast-y : tie.Need-cast-y Inv-loop μ-loop
 cast-y c = omega (arith, c .shared-slice-known3 .given (c .before .before .loop .i))
 
@@ -37,9 +31,6 @@ part-put-entry-start c = omega (arith, c .before .before .loop .inv .within, fit
 
 part-put-entry-end : tie.Need-part-put-entry-end Inv-loop μ-loop
 part-put-entry-end c = omega (arith, c .before .before .loop .inv .within, fitting-long (c .before .before .loop .inv))
-
-put-entry-requires : tie.Need-put-entry-requires Inv-loop μ-loop
-put-entry-requires c κs = search needs
 
 sub-if1 : tie.Need-sub-if1 Inv-loop μ-loop
 sub-if1 c = let l = c .before .before .before .before .before .before in omega (arith, l .loop .inv .within, fitting-long (l .loop .inv))
@@ -57,12 +48,6 @@ returns c =
 
 add-at : tie.Need-add-at Inv-loop μ-loop
 add-at c = let l = c .before .before .before .before .before .before .before in omega (arith, l .loop .inv .within, fitting-long (l .loop .inv))
-
-add-i : tie.Need-add-i Inv-loop μ-loop
-add-i c = omega arith
-
-loop-less : tie.Need-loop-less Inv-loop μ-loop
-loop-less c = omega arith
 
 loop-again : tie.Need-loop-again Inv-loop μ-loop
 loop-again c =
@@ -85,19 +70,19 @@ put-run-spec =
     Inv-loop
     μ-loop
     loop-holds
-    mul-y
-    shared-slice-read-y
+    (λ c. omega arith)
+    (λ c. omega arith)
     cast-y
     sub-put-entry
     part-put-entry-start
     part-put-entry-end
-    put-entry-requires
+    (λ c κs. search needs)
     sub-if1
     same-length
     returns
     add-at
-    add-i
-    loop-less
+    (λ c. omega arith)
+    (λ c. omega arith)
     loop-again
     same-length-2
     returns-2)

@@ -10,15 +10,6 @@ use borrow.Author.Needs.{needs}
 use Rattle.writer.proofs.write_in.Statement.{statement}
 use Rattle.writer.proofs.write_in.Tie as tie
 
-index-requires : tie.Need-index-requires
-index-requires c κs = search needs
-
-enum-known-number : tie.Need-enum-known-number
-enum-known-number c = search needs
-
-enum-known-n : tie.Need-enum-known-n
-enum-known-n c = search needs
-
 slice-reshare-prefix-put-list : tie.Need-slice-reshare-prefix-put-list
 slice-reshare-prefix-put-list c =
     let t = c .before .before .before .before .before .before .before .before .before .before in
@@ -37,20 +28,11 @@ put-list-requires c κs =
     let a = t .args in
     index-listed (lawful (a .kind)) (a .s .now) (t .pre) (rw (c .before .before .before .n .given .1) at (c .before .before .before .before .before .before .before .index .ensures))
 
-same-length : tie.Need-same-length
-same-length c = search needs
-
 returns : tie.Need-returns
 returns c =
     let t = c .before .before .before .before .before .before .before .before .before .before in
     let a = t .args in
     index-refused (lawful (a .kind)) (a .s .now) (t .pre) (rw (c .before .number .given .1) at (c .before .before .before .before .before .index .ensures)) (λ _. fitting (length (a .out .now)) (sortedBytes (describe (a .kind)) (a .s .now))) (a .out .now)
-
-same-length-2 : tie.Need-same-length-2
-same-length-2 c = search needs
-
-same-length-3 : tie.Need-same-length-3
-same-length-3 c = search needs
 
 returns-2 : tie.Need-returns-2
 returns-2 c =
@@ -62,14 +44,14 @@ pub write-in-spec : {M : Type 1} → statement M
 write-in-spec =
     tie.close
     (tie.spec
-    index-requires
-    enum-known-number
-    enum-known-n
+    (λ c κs. search needs)
+    (λ c. search needs)
+    (λ c. search needs)
     slice-reshare-prefix-put-list
     slice-aggregate-put-list
     put-list-requires
-    same-length
+    (λ c. search needs)
     returns
-    same-length-2
-    same-length-3
+    (λ c. search needs)
+    (λ c. search needs)
     returns-2)

@@ -71,11 +71,7 @@ pub fn chains(run: &mut Comparison) {
             run.file(&last);
             let mut again = vec![0; last.len()];
             let answer = reference::canonical(&last, &mut again);
-            assert!(
-                answer.number == 0 && again == last,
-                "not canonical: input {}",
-                run.inputs
-            );
+            assert!(answer.number == 0 && again == last, "not canonical: input {}", run.inputs);
         }
     }
 }

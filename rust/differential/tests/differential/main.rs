@@ -10,26 +10,26 @@
 mod adds;
 mod bounds;
 mod messages;
+mod rings;
 mod snapshots;
 mod wrappers;
 
 use std::time::Instant;
 
 use differential::compare::Comparison;
+use differential::counts::Counts;
+use reference::answer::ADDRESS;
 
 const SEED: u64 = 0x4149_5043_4145_524F;
 const AT_LEAST: u64 = 1_000_000;
 
 type Group = (&'static str, fn(&mut Comparison));
 
-const GROUPS: [Group; 27] = [
+const GROUPS: &[Group] = &[
     ("snapshots: valid files", snapshots::valid),
     ("snapshots: every byte changed", snapshots::every_byte),
     ("snapshots: every length cut", snapshots::every_cut),
-    (
-        "snapshots: every number at its extremes",
-        snapshots::extremes,
-    ),
+    ("snapshots: every number at its extremes", snapshots::extremes),
     ("snapshots: two faults at once", snapshots::pairs),
     ("snapshots: random damage", snapshots::damaged),
     ("snapshots: joined", snapshots::joined),
@@ -53,27 +53,37 @@ const GROUPS: [Group; 27] = [
     ("bounds: texts and messages", bounds::texts::all),
     ("bounds: payloads", bounds::payloads::all),
     ("bounds: the whole file", bounds::whole_file::all),
+    ("rings: valid regions", rings::valid),
+    ("rings: every byte changed", rings::every_byte),
+    ("rings: every length cut", rings::every_cut),
+    ("rings: every number at its extremes", rings::extremes),
+    ("rings: two faults at once", rings::pairs),
+    ("rings: random damage", rings::damaged),
+    ("rings: numbers of queues", rings::counts),
+    ("rings: rings that meet", rings::meetings),
+    ("rings: cursors apart", rings::distances),
+    ("rings: every reservation", rings::reservations),
+    ("rings: every fill", rings::fills),
+    ("rings: every commit", rings::commits),
+    ("rings: every record taken", rings::takes),
+    ("rings: lives beside a queue of messages", rings::lives),
+    ("rings: lives without order", rings::wild_lives),
 ];
 
 fn main() {
-    let wanted = std::env::args()
-        .skip(1)
-        .find(|argument| !argument.starts_with('-'));
+    let wanted = std::env::args().skip(1).find(|argument| !argument.starts_with('-'));
     let seed = seed();
     let start = Instant::now();
     let mut total = Total::default();
-    for (at, (name, run)) in GROUPS.into_iter().enumerate() {
-        if wanted
-            .as_ref()
-            .is_none_or(|word| name.contains(word.as_str()))
-        {
+    for (at, (name, run)) in GROUPS.iter().enumerate() {
+        if wanted.as_ref().is_none_or(|word| name.contains(word.as_str())) {
             let mut comparison = Comparison::new(name, seed.wrapping_add(at as u64));
             let begun = Instant::now();
             run(&mut comparison);
             total.add(&comparison, begun.elapsed().as_secs_f64());
         }
     }
-    println!("answers by number: {:?}", total.answers);
+    println!("answers by number: {}", total.answers);
     println!(
         "{} inputs, {} calls, no difference, {:.1} s",
         total.inputs,
@@ -98,29 +108,19 @@ fn seed() -> u64 {
 struct Total {
     inputs: u64,
     calls: u64,
-    answers: [u64; 20],
+    answers: Counts,
 }
 
 impl Total {
     fn add(&mut self, group: &Comparison, seconds: f64) {
-        println!(
-            "{}: {} inputs, {} calls, {seconds:.1} s",
-            group.name, group.inputs, group.calls
-        );
+        println!("{}: {} inputs, {} calls, {seconds:.1} s", group.name, group.inputs, group.calls);
         self.inputs += group.inputs;
         self.calls += group.calls;
-        for (sum, count) in self.answers.iter_mut().zip(group.answers) {
-            *sum += count;
-        }
+        self.answers.add_all(&group.answers);
     }
 
     fn suffices(&self) {
         assert!(self.inputs >= AT_LEAST, "fewer than {AT_LEAST} inputs");
-        let (address, others) = self.answers.split_last().expect("twenty numbers");
-        assert!(
-            others.iter().all(|count| *count > 0),
-            "some refusal never came"
-        );
-        assert_eq!(*address, 0, "ADDRESS came");
+        assert_eq!(self.answers.missing(), [ADDRESS], "the refusals that never came");
     }
 }

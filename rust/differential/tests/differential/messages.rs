@@ -42,11 +42,7 @@ fn short_message(random: &mut Random, tag: u16) -> Vec<u8> {
     let mut message = tag.to_le_bytes().to_vec();
     while message.len() < SHORT {
         let byte = random.u8();
-        message.push(if small {
-            random.pick(&[0, 0, 0, 1, 2, 4, 5, 16, byte])
-        } else {
-            byte
-        });
+        message.push(if small { random.pick(&[0, 0, 0, 1, 2, 4, 5, 16, byte]) } else { byte });
     }
     message
 }
@@ -83,9 +79,7 @@ pub fn long_texts(run: &mut Comparison) {
                 let text = [&[b'x'; 40][..before], &[one, two], &[b'y'; 40][..after]].concat();
                 run.message(&panic(&text));
                 let middle = text::either(&mut run.random, 4, 2);
-                run.message(&panic(
-                    &[&text[..before], &middle, &text[before + 2..]].concat(),
-                ));
+                run.message(&panic(&[&text[..before], &middle, &text[before + 2..]].concat()));
             }
         }
     }
@@ -200,11 +194,7 @@ fn write(run: &mut Comparison, tag: u32, numbers: [u64; 4], data: &[u8]) {
     if answer.number == 0 {
         let message = out[..answer.place as usize].to_vec();
         let reading = run.message(&message);
-        let read = (
-            reading.number,
-            reading.tag,
-            [reading.a, reading.b, reading.c, reading.d],
-        );
+        let read = (reading.number, reading.tag, [reading.a, reading.b, reading.c, reading.d]);
         assert_eq!(read, (0, tag, numbers), "a message that was written");
     }
 }

@@ -15,8 +15,7 @@ fn small(random: &mut Random) -> Made {
     made.section(5, 1, 0, |made| {
         made.number(4, 3);
         made.disk(256, "b\u{E4}se.img".as_bytes(), b"");
-        made.disk(1, b"", "\u{1_F525}".as_bytes())
-            .disk(2, b"x", b"y");
+        made.disk(1, b"", "\u{1_F525}".as_bytes()).disk(2, b"x", b"y");
     });
     made.section(8, 1, 0, |made| {
         made.number(4, 2);
@@ -24,15 +23,11 @@ fn small(random: &mut Random) -> Made {
     });
     made.section(4, 1, 0, |made| {
         made.number(4, 4);
-        made.device((14, 1, 0), &[0x11])
-            .device((3, 1, 256), &[0xAB, 0xCD]);
+        made.device((14, 1, 0), &[0x11]).device((3, 1, 256), &[0xAB, 0xCD]);
         made.device((3, 1, 1), &[]).device((3, 0, 2), b"payload");
     });
     made.section(1, 1, 0, |made| {
-        made.number(8, 77)
-            .number(1, 1)
-            .number(8, 76)
-            .number(8, 1_700_000_000_000);
+        made.number(8, 77).number(1, 1).number(8, 76).number(8, 1_700_000_000_000);
         made.number(1, 1).sized(4, "caf\u{E9}".as_bytes());
     });
     made.section(6, 1, 0, |made| {
@@ -78,10 +73,7 @@ fn with_cpu(random: &mut Random) -> Made {
 
 /// A file with CPUS and MMU of version 1.
 fn with_old_cpus(random: &mut Random) -> Made {
-    let states = [
-        make::cpu_state(random, 1, false),
-        make::cpu_state(random, 1, false),
-    ];
+    let states = [make::cpu_state(random, 1, false), make::cpu_state(random, 1, false)];
     let mut made = Made::file();
     made.section(3, 1, 0, |made| {
         made.raw(&make::mmu_state(random, 1));
@@ -94,21 +86,12 @@ fn with_old_cpus(random: &mut Random) -> Made {
 }
 
 fn rich(random: &mut Random) -> [Made; 4] {
-    [
-        small(random),
-        with_cpus(random),
-        with_cpu(random),
-        with_old_cpus(random),
-    ]
+    [small(random), with_cpus(random), with_cpu(random), with_old_cpus(random)]
 }
 
 fn taken(run: &mut Comparison, file: &[u8]) {
     let answer = run.file(file);
-    assert_eq!(
-        (answer.number, answer.place),
-        (0, 0),
-        "a file that was made to be valid"
-    );
+    assert_eq!((answer.number, answer.place), (0, 0), "a file that was made to be valid");
 }
 
 pub fn valid(run: &mut Comparison) {
@@ -235,11 +218,7 @@ fn with_text(text: &[u8], role: usize) -> Vec<u8> {
     let mut made = Made::file();
     match role {
         0 => made.section(1, 1, 0, |made| {
-            made.number(8, 1)
-                .number(1, 0)
-                .number(8, 2)
-                .number(1, 1)
-                .sized(4, text);
+            made.number(8, 1).number(1, 0).number(8, 2).number(1, 1).sized(4, text);
         }),
         1 => made.section(5, 1, 0, |made| {
             made.number(4, 1).disk(5, text, b"overlay");

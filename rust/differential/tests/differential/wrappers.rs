@@ -7,10 +7,8 @@ use differential::make::{self, Made};
 /// Four controllers, out of order, two of them with a payload.
 fn rich() -> Made {
     let mut made = Made::wrapper(4);
-    made.controller(256, b"AHCP", &[1, 2, 3])
-        .controller(250, b"IDE0", b"");
-    made.controller(1, b"\0\0\0\0", &[9])
-        .controller(0xFFFF, b"NVME", b"");
+    made.controller(256, b"AHCP", &[1, 2, 3]).controller(250, b"IDE0", b"");
+    made.controller(1, b"\0\0\0\0", &[9]).controller(0xFFFF, b"NVME", b"");
     made
 }
 
@@ -18,11 +16,7 @@ pub fn valid(run: &mut Comparison) {
     for _ in 0..60_000 {
         let made = make::wrapper(&mut run.random);
         let answer = run.wrapper(&made.bytes);
-        assert_eq!(
-            (answer.number, answer.place),
-            (0, 0),
-            "a wrapper that was made to be valid"
-        );
+        assert_eq!((answer.number, answer.place), (0, 0), "a wrapper that was made to be valid");
     }
 }
 

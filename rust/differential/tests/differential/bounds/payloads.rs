@@ -18,9 +18,7 @@ pub fn all(run: &mut Comparison) {
 fn device_payload(run: &mut Comparison) {
     let of = |length| {
         file_of(4, 1, |made| {
-            made.number(4, 2)
-                .device((9, 1, 0), &long_bytes(length))
-                .device((8, 1, 0), b"x");
+            made.number(4, 2).device((9, 1, 0), &long_bytes(length)).device((8, 1, 0), b"x");
         })
     };
     expect(run.file(&of(64 * MIB)), 0, 0);
@@ -75,28 +73,19 @@ fn devices_payload(run: &mut Comparison) {
 fn added_payload(run: &mut Comparison) {
     let file = Made::file().bytes;
     let over = long_bytes(64 * MIB + 1);
-    expect(
-        run.add_device(&file, (1, 1, 0), &over[1..]).0,
-        0,
-        16 + 16 + 4 + 16 + 64 * MIB,
-    );
+    expect(run.add_device(&file, (1, 1, 0), &over[1..]).0, 0, 16 + 16 + 4 + 16 + 64 * MIB);
     expect(run.add_device(&file, (1, 1, 0), &over).0, LIMIT, 0);
     expect(run.add_disk(&file, 1, &over, b"").0, LIMIT, 0);
     // A device that fills the DEVICES payload to its bound, and one byte more.
     let file = of_devices_payload(256 * MIB - 30);
-    expect(
-        run.add_device(&file, (3, 1, 0), &over[..14]).0,
-        0,
-        32 + 256 * MIB,
-    );
+    expect(run.add_device(&file, (3, 1, 0), &over[..14]).0, 0, 32 + 256 * MIB);
     expect(run.add_device(&file, (3, 1, 0), &over[..15]).0, LIMIT, 0);
 }
 
 fn wrapper(run: &mut Comparison) {
     let of = |length: usize| {
         let mut made = Made::wrapper(2);
-        made.controller(9, b"AHCP", b"")
-            .controller(8, b"IDE0", &long_bytes(length - 44));
+        made.controller(9, b"AHCP", b"").controller(8, b"IDE0", &long_bytes(length - 44));
         made.bytes
     };
     expect(run.wrapper(&of(64 * MIB)), 0, 0);

@@ -49,9 +49,7 @@ fn images(run: &mut Comparison) {
     let broken = long_text(65_536, true);
     expect(run.file(&of(&most, &most)), 0, 0);
     let two = file_of(5, 1, |made| {
-        made.number(4, 2)
-            .disk(7, &most, &most)
-            .disk(6, &most, &most);
+        made.number(4, 2).disk(7, &most, &most).disk(6, &most, &most);
     });
     expect(run.file(&two), 0, 0);
     expect(run.file(&of(&over, &most)), LIMIT, 40);
@@ -65,11 +63,7 @@ fn added_images(run: &mut Comparison) {
     let [most, over] = [65_536, 65_537].map(|length| long_text(length, false));
     let broken = long_text(65_536, true);
     run.exact = true;
-    expect(
-        run.add_disk(&file, 1, &most, &most).0,
-        0,
-        16 + 16 + 4 + 12 + 2 * 65_536,
-    );
+    expect(run.add_disk(&file, 1, &most, &most).0, 0, 16 + 16 + 4 + 12 + 2 * 65_536);
     run.exact = false;
     for (base, overlay, number) in [
         (&over, &most, LIMIT),
