@@ -24,11 +24,11 @@ use Rattle.aerosnap.proofs.Added.{add-exactly, passed-step, canon-put, 
 use Rattle.aerosnap.proofs.Named.{add-named, writes-zero}
 
 -- a canonical file is that of a content in order
-pub in-order : (s : List ℕ) → IsCanonical s → (c : Content) × Canon c × (render c ≡ s)
-in-order s h = let (c, e, q, n) = canonical-exactly (length s) s s .0 h in (c, content-is s c e .0, q)
+pub canonical-content : (s : List ℕ) → IsCanonical s → (c : Content) × Canon c × (render c ≡ s)
+canonical-content s h = let (c, e, q, n) = canonical-exactly (length s) s s .0 h in (c, content-is s c e .0, q)
 
-pub render-in-order : (c : Content) → Canon c → IsCanonical (render c)
-render-in-order c h = canonical-exactly (length (render c)) (render c) (render c) .1 (c, read-back c h, refl, omega arith)
+pub render-canonical : (c : Content) → Canon c → IsCanonical (render c)
+render-canonical c h = canonical-exactly (length (render c)) (render c) (render c) .1 (c, read-back c h, refl, omega arith)
 
 -- one call, on any file that is taken: the file that it writes has the old content and the item, and is canonical
 pub record Gives (s : List ℕ) (x : Item) (b : List ℕ) : Type 0 where
@@ -43,13 +43,13 @@ call-gives have s x b k =
     let h = content-is s c e .0 in
     let t = passed-step have x c h (k .wide) p in
     let u = canon-put x c h (t .may) (t .fits) in
-    record { old = c; read = e; content-is = ap contentAt (sym q) ∙ read-back (withItem x c) u; canonical-is = subst IsCanonical q (render-in-order (withItem x c) u) }
+    record { old = c; read = e; content-is = ap contentAt (sym q) ∙ read-back (withItem x c) u; canonical-is = subst IsCanonical q (render-canonical (withItem x c) u) }
 
 pub any-order : (s : List ℕ) (l m : List (ℕ × Item)) (b : List ℕ) → IsCanonical s → Chain Call s l b → List·Permᴰ (items l) (items m) → Roomy (length b) m → Chain Call s m b
-any-order s l m b o h p r = let (c, k, e) = in-order s o in rw e at (any-order-bytes adds files c l m b k (rw e h) p r)
+any-order s l m b o h p r = let (c, k, e) = canonical-content s o in rw e at (any-order-bytes adds files c l m b k (rw e h) p r)
 
 pub no-two-sets : (s : List ℕ) (l m : List (ℕ × Item)) (b : List ℕ) → IsCanonical s → Chain Call s l b → Chain Call s m b → Perm (items l) (items m)
-no-two-sets s l m b o h k = let (c, i, e) = in-order s o in no-two-sets-bytes adds files c l m b i (rw e h) (rw e k)
+no-two-sets s l m b o h k = let (c, i, e) = canonical-content s o in no-two-sets-bytes adds files c l m b i (rw e h) (rw e k)
 
 -- ---- the content at the end
 
@@ -85,12 +85,12 @@ pub record Ends (s : List ℕ) (l : List Item) (b : List ℕ) : Type 0 where
   pub read : contentAt s ≡ taken old
   pub content-is : contentAt b ≡ taken (grown old l)
   pub bytes-are : b ≡ render (grown old l)
-  pub in-order : IsCanonical b
+  pub canonical-is : IsCanonical b
   pub holds : List·Permᴰ (held (grown old l)) (l ++ held old)
 
 pub final : (s : List ℕ) (l : List (ℕ × Item)) (b : List ℕ) → IsCanonical s → Chain Call s l b → Ends s (items l) b
 final s l b o h =
-    let (c, k, e) = in-order s o in
+    let (c, k, e) = canonical-content s o in
     let (i, w, p) = content adds files c l b k (rw e h) in
     let g = puts-grown c (items l) k i in
     record {
@@ -98,7 +98,7 @@ final s l b o h =
       read = rw e at (read-back c k);
       content-is = rw w at (read-back (puts withItem c (items l)) i) ∙ ap taken g;
       bytes-are = sym w ∙ ap render g;
-      in-order = subst IsCanonical w (render-in-order (puts withItem c (items l)) i);
+      canonical-is = subst IsCanonical w (render-canonical (puts withItem c (items l)) i);
       holds = rw g at p;
     }
 

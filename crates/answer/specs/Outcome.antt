@@ -1,6 +1,7 @@
 -- The outcome of a definition: what was asked for, or the number and the place of the first check that fails.
 -- Assumes nothing.
 use mathlib.Core.Path.{_≡_}
+use mathlib.Core.Logic.{_⊎_}
 use mathlib.Core.List.{List, [], _∷_, _++_}
 use mathlib.Core.Bool.{Bool, true, false}
 use Prim.Native.Nat.{ℕ, zero, suc, _+_}
@@ -69,3 +70,11 @@ pub record First (rows : Checks) (n p : ℕ) : Type 0 where
   pub behind : Checks
   pub split : rows ≡ before ++ ((false, n, p) ∷ behind)
   pub passed : Pass before
+
+-- the first of some checks that fails; or all of them pass, and the fault comes from behind them
+abbrev pub FirstOr : Checks → ℕ → ℕ → Type 0 → Type 0
+FirstOr rows n p behind = First rows n p ⊎ (Pass rows × behind)
+
+-- the fault of a part that starts at a place
+abbrev pub FaultAt : {A : Type 0} → ℕ → Outcome A → ℕ → ℕ → Type 0
+FaultAt at o n p = (q : ℕ) × (o ≡ refused n q) × (p ≡ at + q)

@@ -44,7 +44,7 @@ use Rattle.messages.proofs.Exactly.{taken-writing, writing-unique, read-write}
 use Rattle.numbers.proofs.Back.{numbers-write}
 use Rattle.demands.specs.Demand1.{Taken}
 use Rattle.demands.specs.Demand2.{Writing, Canonical, Files, Tables, Keys, Addresses, Passed, Additions, ordered, Wrappers, Says, dataOf, Messages, Demand2}
-use Rattle.demands.proofs.Firsts.{after-refused}
+use Rattle.answer.proofs.Firsts.{after-refused}
 use Rattle.demands.proofs.FirstFaults.{faults}
 
 -- ---- what is written of what was read

@@ -10,5 +10,5 @@ demand3 = record {
   makes = made-call;
   any-order = any-order;
   no-two-sets = no-two-sets;
-  final = λ s l b o h. let e = final s l b o h in (e .old, e .read, e .content-is, sym (e .bytes-are), e .in-order);
+  final = λ s l b o h. let e = final s l b o h in (e .old, e .read, e .content-is, sym (e .bytes-are), e .canonical-is);
 }

@@ -9,10 +9,9 @@ use native.Mathlib.Omega.{arith}
 use borrow.Author.Tests.{leb-true}
 use lib.ListN.{length, drop, length-append}
 use Rattle.answer.specs.Numbers.{VALUE}
-use Rattle.answer.specs.Outcome.{Outcome, taken, refused, Checks, checked, Pass, after, moved, room, First}
+use Rattle.answer.specs.Outcome.{Outcome, taken, refused, Checks, checked, Pass, after, moved, room, First, FirstOr, FaultAt}
 use Rattle.answer.proofs.Outcomes.{taken-refused}
 use Rattle.answer.proofs.Checks.{checked-append}
-use Rattle.answer.proofs.Firsts.{checked-first}
 use Rattle.wire.specs.Numbers.{leAt}
 use Rattle.format.specs.Format.{Is, read}
 use Rattle.order.specs.Keyed.{Every, Apart, has, inserts}
@@ -40,8 +39,8 @@ use Rattle.messages.specs.Reading as messages
 use Rattle.messages.specs.Writing.{writeChecks, written, writeMessage}
 use Rattle.numbers.specs.declared.Numbers.{Numbers}
 use Rattle.numbers.specs.Numbers.{kindIn, allWithin, messageOf, writeNumbers}
-use Rattle.demands.specs.Demand2.{FirstOr, FaultAt, SectionFault, EntryFault, ListFault, Faults}
-use Rattle.demands.proofs.Firsts.{then-first, or-else, moved-first, shift-first, after-refused, after-only}
+use Rattle.demands.specs.Demand2.{SectionFault, EntryFault, ListFault, Faults}
+use Rattle.answer.proofs.Firsts.{checked-first, then-first, or-else, moved-first, shift-first, after-refused, after-only}
 
 -- ---- a section, and a file
 

@@ -1,7 +1,6 @@
--- Faults: the numbers of faults. Firsts, FirstFaults: the fault that is named is the first. Demand1 to Demand3: the demands. Examples: P1 to P13. RuledOut: wrong answers.
+-- Faults: the numbers of faults. FirstFaults: the fault that is named is the first. Demand1 to Demand3: the demands. Examples: P1 to P13. RuledOut: wrong answers.
 -- Rings: request 1. Text: requests 2 and 7. Card: request 5. Once: the proofs that promises fix their answers, of every public function.
 pub mod Faults
-pub mod Firsts
 pub mod FirstFaults
 pub mod Demand1
 pub mod Demand2

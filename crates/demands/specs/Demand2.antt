@@ -8,7 +8,7 @@ use mathlib.Core.List.{List, [], _∷_, _++_, List·Permᴰ}
 use Prim.Native.Nat.{ℕ, _+_, _≤_, _<_, _^_}
 use lib.ListN.{length, take, drop}
 use Rattle.answer.specs.Numbers.{ROOM, VALUE}
-use Rattle.answer.specs.Outcome.{Outcome, taken, refused, Checks, Pass, room, First}
+use Rattle.answer.specs.Outcome.{Outcome, taken, refused, Pass, room, First, FirstOr, FaultAt}
 use Rattle.wire.specs.Numbers.{Bytes, leAt, bytesOf}
 use Rattle.format.specs.Format.{Is, read}
 use Rattle.order.specs.Keyed.{Every, flat, keep, sort, has, Apart}
@@ -172,15 +172,7 @@ pub record Messages : Type 0 where
   -- also where the message is handed over by its tag and its numbers, as at the C boundary
   pub by-numbers : (m : List ℕ) (c : messages.Content) (have : ℕ) → Bytes m → length m ≤ have → messages.readMessage m ≡ taken c → writeNumbers (numbersOf (c .message)) (dataOf c m) have ≡ taken m
 
--- ---- the fault that is named is the first in its order
-
--- the first of some checks that fails; or all of them pass, and the fault comes from behind them
-abbrev pub FirstOr : Checks → ℕ → ℕ → Type 0 → Type 0
-FirstOr rows n p behind = First rows n p ⊎ (Pass rows × behind)
-
--- the fault of a part that starts at a place
-abbrev pub FaultAt : {A : Type 0} → ℕ → Outcome A → ℕ → ℕ → Type 0
-FaultAt at o n p = (q : ℕ) × (o ≡ refused n q) × (p ≡ at + q)
+-- ---- the fault that is named is the first in its order (`First`, `FirstOr`, `FaultAt`: crates/answer/specs/Outcome.antt)
 
 -- of the section that begins b and starts at a place, after those before it: its frame; if it is known, its rules; then its payload's fault
 abbrev pub SectionFault : List (List ℕ) → ℕ → List ℕ → ℕ → ℕ → Type 0

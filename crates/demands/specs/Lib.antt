@@ -1,7 +1,8 @@
--- Demand1 to Demand3: the demands. Examples: P1 to P13. RuledOut: wrong answers that no call can give. Rings: request 1. Text: requests 2 and 7. Card: request 5.
+-- Demand1 to Demand3: the demands, Demands: all of them. Examples: P1 to P13. RuledOut: wrong answers that no call can give. Rings: request 1. Text: requests 2 and 7. Card: request 5.
 pub mod Demand1
 pub mod Demand2
 pub mod Demand3
+pub mod Demands
 pub mod Examples
 pub mod RuledOut
 pub mod Rings
