@@ -3,11 +3,14 @@
 use mathlib.Core.Path.{_≡_, refl, sym, _∙_, ap, subst}
 use mathlib.Core.Logic.{_⊎_, inr, ⊎-elim, _↔_}
 use mathlib.Core.List.{List, [], _++_, append-nil}
-use Prim.Native.Nat.{ℕ, _+_, _≤_, _<_}
+use Prim.Native.Nat.{ℕ, _+_, _/_, _%_, _≤_, _<_}
 use native.Mathlib.Decide.{decLt}
+use native.Mathlib.Nat.{le-max-left}
 use native.Mathlib.Omega.{arith}
 use lib.ListN.{length, take, drop, getD, replicate, length-take, length-replicate, getD-replicate, take-append-drop, drop-of-length-le}
 use lib.Seq.{take-all, ext-getD}
+use lib.Arith.{bin-ind}
+use lib.Bits.{bitOr, or-step, or-comm}
 use borrow.Author.Tests.{le-leb, lt-leb}
 use Rattle.answer.specs.declared.Piece.{Piece}
 use Rattle.answer.specs.declared.Piece.the-variants.{Stop, Ends}
@@ -82,19 +85,23 @@ none-above l h =
 zeros-at : (l : List ℕ) → l ≡ zeros (length l) → (j : ℕ) → j < length l → getD l j 0 ≡ 0
 zeros-at l e j h = ap (λ (m : List ℕ). getD m j 0) e ∙ getD-replicate (length l) j 0 0 h
 
--- the highest of the first i places
+-- a number has no bit that is not in `bitOr` of it and another
+or-above : (a b : ℕ) → a ≤ bitOr a b
+or-above a b = bin-ind (λ (n : ℕ). (b : ℕ) → n ≤ bitOr n b) (λ b. omega arith) (λ n ih b. let s = or-step n b in let h = ih (b / 2) in let m = le-max-left (n % 2) (b % 2) in omega arith) a b
+
+-- top has every bit of the first i places, and no other
 pub record Topped (l : List ℕ) (i top : ℕ) : Type 0 where
   pub within : i ≤ length l
   pub most : (j : ℕ) → j < i → getD l j 0 ≤ top
   pub least : l ≡ zeros (length l) → top ≡ 0
 
--- one place more: it or the highest before it is the highest now
-pub topped-more : {l : List ℕ} {i top up : ℕ} → Topped l i top → i < length l → top ≤ up → getD l i 0 ≤ up → (up ≡ top) ⊎ (up ≡ getD l i 0) → Topped l (i + 1) up
-topped-more {l} {i} {top} {up} w h g k e = record { within = omega arith; most = λ j f. go j f (decLt j i); least = λ z. ⊎-elim (λ a. a ∙ w .least z) (λ a. a ∙ zeros-at l z i h) e }
+-- one place more
+pub topped-more : {l : List ℕ} {i top : ℕ} → Topped l i top → i < length l → Topped l (i + 1) (bitOr top (getD l i 0))
+topped-more {l} {i} {top} w h = record { within = omega arith; most = λ j f. go j f (decLt j i); least = λ z. rw (w .least z, zeros-at l z i h) }
   where
-    go : (j : ℕ) → j < i + 1 → Dec (j < i) → getD l j 0 ≤ up
-    go j f (yes m) = omega (arith, w .most j m)
-    go j f (no m) = let z : j ≡ i = omega (arith, m) in rw z k
+    go : (j : ℕ) → j < i + 1 → Dec (j < i) → getD l j 0 ≤ bitOr top (getD l i 0)
+    go j f (yes m) = omega (arith, w .most j m, or-above top (getD l i 0))
+    go j f (no m) = let z : j ≡ i = omega (arith, m) in rw (z, or-comm top (getD l i 0)) (or-above (getD l i 0) top)
 
 pub topped-all : {l : List ℕ} {i top : ℕ} → Topped l i top → length l ≤ i → (top ≡ 0) ↔ (l ≡ zeros (length l))
 topped-all {l} {i} {top} w h = (λ z. none-above l (λ j g. omega (arith, w .most j (omega arith))), w .least)

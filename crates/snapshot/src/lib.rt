@@ -162,11 +162,11 @@ fn list_table(t: Table, id: u32, file: &[u8], table: &mut [u8]) -> Answer
     let n = sections::count_entries(&file[..]);
     if n <= 32 {
         let mut index = [0u32; 32];
-        return list_table_in(t, id, &file[..], &mut index, table);
+        return list_table_in(t, id, &file[..], &mut index[..n], table);
     }
     if n <= 256 {
         let mut index = [0u32; 256];
-        return list_table_in(t, id, &file[..], &mut index, table);
+        return list_table_in(t, id, &file[..], &mut index[..n], table);
     }
     let mut index = [0u32; 4864];
     list_table_in(t, id, &file[..], &mut index, table)
