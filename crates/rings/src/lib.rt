@@ -51,17 +51,33 @@ fn size_of(n: u32) -> u64
     4 + ((n as u64) + 3) / 4 * 4
 }
 
+// Where a cursor stands in the data. A capacity is a power of two, so no division is needed.
+fn position(cap: u32, p: u32) -> u32
+    requires { ⌜ Power cap ⌝ }
+    ensures { λ r. ⌜ r ≡ p % cap ⌝ }
+{
+    p & (cap - 1)
+}
+
+// The same counted from the region's start, the ring's header being at `at`.
+fn place_of(at: u32, cap: u32, p: u32) -> usize
+    requires { ⌜ Power cap ⌝ }
+    ensures { λ r. ⌜ r ≡ at + 16 + p % cap ⌝ }
+{
+    (at as usize) + 16 + (position(cap, p) as usize)
+}
+
 // The bytes from a cursor to the end of the data.
 fn rest_of(cap: u32, p: u32) -> u32
-    requires { ⌜ 0 < cap ⌝ }
+    requires { ⌜ Power cap ⌝ }
     ensures { λ r. ⌜ r ≡ cap - p % cap ⌝ }
 {
-    cap - p % cap
+    cap - position(cap, p)
 }
 
 // What a record of n payload bytes skips at a cursor.
 fn skip_of(cap: u32, p: u32, n: u32) -> u32
-    requires { ⌜ 0 < cap ⌝ }
+    requires { ⌜ Power cap ⌝ }
     ensures { λ r. ⌜ r ≡ skip cap p n ⌝ }
 {
     let left = rest_of(cap, p);
@@ -72,7 +88,7 @@ fn skip_of(cap: u32, p: u32, n: u32) -> u32
 }
 
 fn need_of(cap: u32, p: u32, n: u32) -> u64
-    requires { ⌜ 0 < cap ⌝ }
+    requires { ⌜ Power cap ⌝ }
     ensures { λ r. ⌜ r ≡ need cap p n ⌝ }
 {
     (skip_of(cap, p, n) as u64) + size_of(n)
@@ -214,7 +230,7 @@ fn put_filled(region: &mut [u8], at: u32, cap: u32, start: u32, payload: &[u8]) 
     requires { ⌜ Fillable (now region) at cap start (length (now payload)) ⌝ }
     ensures { λ r. ⌜ (r ≡ count (fillStores at cap start (now (payload .entry)))) × (now (region .exit) ≡ stored (fillStores at cap start (now (payload .entry))) (now (region .entry))) ⌝ }
 {
-    let i = (at as usize) + 16 + ((start % cap) as usize);
+    let i = place_of(at, cap, start);
     if skip_of(cap, start, payload.len() as u32) == 0 {
         return put_record(region, i, payload);
     }
@@ -336,10 +352,10 @@ fn may_take(ring: Ring, skip: u32, len: u32) -> Test
 
 // What a taker skips at a cursor.
 fn skip_at(region: &[u8], at: u32, cap: u32, p: u32) -> u32
-    requires { ⌜ 0 < cap ⌝ }
+    requires { ⌜ Power cap ⌝ }
     ensures { λ r. ⌜ r ≡ skipAt (now (region .entry)) at cap p ⌝ }
 {
-    if u32_at(region, (at as usize) + 16 + ((p % cap) as usize)) == MARKER {
+    if u32_at(region, place_of(at, cap, p)) == MARKER {
         return rest_of(cap, p);
     }
     0
@@ -376,7 +392,7 @@ fn take_in(region: &mut [u8], at: u32) -> Record
     let cap = ring.capacity;
     let skip = skip_at(region, at, cap, ring.head);
     let p = std::num::wrapping_add_u32(ring.head, skip);
-    let from = (at as usize) + 16 + ((p % cap) as usize);
+    let from = place_of(at, cap, p);
     take_from(region, at, skip, from)
 }
 
