@@ -12,7 +12,7 @@ use region::ahead;
 use wire::u32_at;
 ghost use mathlib.Core.Path.{_≡_};
 ghost use Prim.Native.Nat.{_+_, _-_, _%_, _≤_, _<_};
-ghost use lib.ListN.{length, replicate};
+ghost use lib.ListN.{length};
 ghost use Rattle.answer.specs.Calls.{testOf, asked};
 ghost use Rattle.wire.specs.Numbers.{leAt};
 ghost use Rattle.wire.specs.Parts.{splice};
@@ -200,28 +200,16 @@ fn may_fill(ring: Ring, start: u32, end: u32, len: usize) -> Test
     Test::Fine
 }
 
-// Zeros from one place up to another.
-fn put_zeros(out: &mut [u8], at: usize, n: usize)
-    requires { ⌜ at + n ≤ length (now out) ⌝ }
-    ensures { λ _. ⌜ now (out .exit) ≡ splice at (replicate n 0) (now (out .entry)) ⌝ }
-{
-    let mut i = 0;
-    while i < n {
-        out[at + i] = 0;
-        i += 1;
-    }
-}
-
-// A record: its length, its payload, zeros up to a multiple of 4. Answers its bytes.
+// A record: its length, its payload, zeros up to a multiple of 4. Answers its bytes. Its last word is stored first, as zeros, and the payload over it.
 fn put_record(out: &mut [u8], at: usize, payload: &[u8]) -> u64
     requires { ⌜ (length (now payload) ≤ 65536) × (at + size (length (now payload)) ≤ length (now out)) ⌝ }
     ensures { λ r. ⌜ (r ≡ size (length (now (payload .entry)))) × (now (out .exit) ≡ splice at (recordOf (now (payload .entry))) (now (out .entry))) ⌝ }
 {
     let n = payload.len();
+    let padded = (n + 3) / 4 * 4;
+    wire::put_u32(out, at + padded, 0);
     wire::put_u32(out, at, n as u32);
     wire::copy(out, at + 4, payload);
-    let padded = (n + 3) / 4 * 4;
-    put_zeros(out, at + 4 + n, padded - n);
     (padded as u64) + 4
 }
 
