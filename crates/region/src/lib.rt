@@ -16,7 +16,7 @@ ghost use Rattle.wire.specs.Numbers.{leAt};
 ghost use Rattle.region.specs.Region.{countOf, offsetOf, capacityOf, endOf, ringAt, isCapacity, headerChecks, apartCheck, descriptorChecks, cursorChecks, ringChecks, tableChecks, regionChecks, queueChecks};
 ghost use Rattle.region.specs.Region as region;
 ghost use Rattle.region.specs.Valid.{Valid};
-ghost use Rattle.region.specs.Inside.{Below, Stretch, Right};
+ghost use Rattle.region.specs.Inside.{Below, Beside, Clear, Reached, Further, Right};
 ghost use Rattle.region.specs.Report.{signedOf, asCursors, reportCall};
 
 // The header of a ring: its cursors and its capacity.
@@ -318,21 +318,63 @@ fn tables(s: &[u8]) -> Test
 
 // ---- the same at once, where nothing is wrong
 
-// Where ring i ends, if it starts at `top` or behind it and nothing is wrong with it and its descriptor; else 0.
+// Whether ring j has no byte from `from` up to `end`.
+fn is_beside(s: &[u8], j: u32, from: usize, end: usize) -> bool
+    requires { ⌜ 32 + 16 * j ≤ length (now s) ⌝ }
+    ensures { λ r. ⌜ (r ≡ true → Beside (now (s .entry)) j from end) ⌝ }
+{
+    let place = 16 * (j as usize);
+    let other = whole_at(s, 20 + place) as usize;
+    if other + 16 + (whole_at(s, 24 + place) as usize) <= from {
+        return true;
+    }
+    end <= other
+}
+
+// The same of each ring before the i-th.
+fn is_clear(s: &[u8], i: u32, from: usize, end: usize) -> bool
+    requires { ⌜ 16 + 16 * i ≤ length (now s) ⌝ }
+    ensures { λ r. ⌜ (r ≡ true → Clear (now (s .entry)) i from end) ⌝ }
+{
+    let mut j = 0;
+    while j < i {
+        if !is_beside(s, j, from, end) {
+            return false;
+        }
+        j += 1;
+    }
+    true
+}
+
+// The same, and that it stands behind the descriptors: one comparison for a ring that starts where they and all earlier rings have ended, or later.
+fn is_free(s: &[u8], i: u32, from: usize, end: usize, top: usize) -> bool
+    requires { ⌜ Reached (now s) i top ⌝ }
+    ensures { λ r. ⌜ (r ≡ true → (16 + 16 * countOf (now (s .entry)) ≤ from) × Clear (now (s .entry)) i from end) ⌝ }
+{
+    if top <= from {
+        return true;
+    }
+    if from < 16 + 16 * (u32_at(s, 12) as usize) {
+        return false;
+    }
+    is_clear(&s[..], i, from, end)
+}
+
+// Where the descriptors and all rings up to the i-th have ended, those before it at `top`, if nothing is wrong with it and its descriptor; else 0.
 fn right_end(s: &[u8], i: u32, top: usize) -> usize
-    requires { ⌜ (32 + 16 * i ≤ length (now s)) × (16 + 16 * countOf (now s) ≤ top) ⌝ }
-    ensures { λ r. ⌜ (0 < r → Stretch (now (s .entry)) i top r) ⌝ }
+    requires { ⌜ Reached (now s) i top ⌝ }
+    ensures { λ r. ⌜ (0 < r → Further (now (s .entry)) i top r) ⌝ }
 {
     let place = 16 * (i as usize);
     let at = whole_at(s, 20 + place);
-    if (at as usize) < top {
+    let cap = whole_at(s, 24 + place);
+    let end = (at as usize) + 16 + (cap as usize);
+    if !is_free(s, i, at as usize, end, top) {
         return 0;
     }
     if at % 4 != 0 {
         return 0;
     }
-    let cap = whole_at(s, 24 + place);
-    let end = (at as usize) + 16 + (cap as usize);
     if s.len() < end {
         return 0;
     }
@@ -344,12 +386,12 @@ fn right_end(s: &[u8], i: u32, top: usize) -> usize
     }
     match ring_fields(whole_ring(s, at), at, cap) {
         Test::Fault(_, _) => 0,
-        Test::Fine => end,
+        Test::Fine => higher(top, end),
     }
 }
 
-// Whether nothing is wrong with n queues whose rings stand in the order of their descriptors. `top` starts behind the descriptors: that a ring
-// stands behind them and that it meets no earlier one is one comparison.
+// Whether nothing is wrong with n queues. `top` starts behind the descriptors and is the highest end so far: where rings stand in the order of their
+// descriptors, that a ring stands behind them and that it meets no earlier one is one comparison.
 fn are_right(s: &[u8], n: u32) -> bool
     requires { ⌜ (n ≡ countOf (now s)) × (16 + 16 * n ≤ length (now s)) ⌝ }
     ensures { λ r. ⌜ (r ≡ true → Right (now (s .entry)) n) ⌝ }

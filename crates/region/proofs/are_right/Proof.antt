@@ -23,10 +23,9 @@ loop-again c =
     let l = c .before .before .before .loop in
     let b = c .before .before .before .before .before .args .s .now in
     let s = c .before .right-end .ensures (omega arith) in
-    let low = s .starts in
-    let e = s .ends in
+    let low = s .covers .0 in
     let inv = l .inv in
-    (omega arith, omega arith, below-next b (l .i) (l .top) _ (inv .2) (omega arith, omega arith), right-next b (l .i) (l .top) _ (inv .2) (inv .3) s)
+    (omega arith, omega arith, below-next b (l .i) (l .top) _ (inv .2) (s .covers), right-next b (l .i) (l .top) _ (inv .3) s)
 
 returns-2 : tie.Need-returns-2 Inv-loop μ-loop
 returns-2 c h =
