@@ -16,6 +16,7 @@ use Rattle.wire.specs.Numbers.{leAt}
 use Rattle.region.specs.declared.Ring.{Ring}
 use Rattle.region.specs.Region.{countOf, offsetOf, capacityOf, endOf, ringAt, isCapacity, headerChecks, apartCheck, descriptorChecks, cursorChecks, ringChecks, tableChecks, regionChecks, queueChecks}
 use Rattle.region.specs.Valid.{Consistent, Power, Queue, Apart, Valid}
+use Rattle.region.specs.Inside.{Right}
 use Rattle.answer.proofs.Each.{each-pass, pass-each}
 
 -- ---- a capacity
@@ -149,11 +150,9 @@ module _ (b : List ℕ) where
   header-pass : Valid b → Pass (headerChecks b)
   header-pass v = (le-leb _ _ (v .long), (eq-eqb _ _ (v .magic), (eq-eqb _ _ (v .version), (eq-eqb _ _ (v .total), (le-leb _ _ (v .few), (le-leb _ _ (v .table), tt))))))
 
-  pass-valid : Pass (headerChecks b) → Pass (tableChecks b) → Valid b
-  unfolding tableChecks
-  pass-valid h t =
-      let w = append-pass (each (descriptorChecks b) (countOf b)) (each (ringChecks b) (countOf b)) t in
-      let d : (i : ℕ) → i < countOf b → Pass (descriptorChecks b i) = pass-each (descriptorChecks b) (countOf b) (w .0) in
+  -- a header that is right, and queues that are
+  pub right-valid : Pass (headerChecks b) → Right b (countOf b) → Valid b
+  right-valid h r =
       record {
         long = leb-true _ _ (h .0);
         magic = eqb-true _ _ (h .1 .0);
@@ -161,9 +160,20 @@ module _ (b : List ℕ) where
         total = eqb-true _ _ (h .1 .1 .1 .0);
         few = leb-true _ _ (h .1 .1 .1 .1 .0);
         table = leb-true _ _ (h .1 .1 .1 .1 .1 .0);
+        queues = r .queues;
+        apart = r .apart;
+      }
+
+  pass-valid : Pass (headerChecks b) → Pass (tableChecks b) → Valid b
+  unfolding tableChecks
+  pass-valid h t =
+      let w = append-pass (each (descriptorChecks b) (countOf b)) (each (ringChecks b) (countOf b)) t in
+      let d : (i : ℕ) → i < countOf b → Pass (descriptorChecks b i) = pass-each (descriptorChecks b) (countOf b) (w .0) in
+      right-valid h
+      (record {
         queues = λ i l. pass-queue b i (d i l) (pass-each (ringChecks b) (countOf b) (w .1) i l);
         apart = λ i j k l. pass-clear b i (d i l) j k;
-      }
+      })
 
   -- the call `check`
   pub region-taken : (asked (regionChecks b) ≡ taken tt) ↔ Valid b

@@ -6,15 +6,17 @@ use answer::TAKEN;
 use answer::Test;
 use wire::u32_at;
 ghost use mathlib.Core.Path.{_≡_};
-ghost use mathlib.Core.Bool.{_||_};
+ghost use mathlib.Core.Bool.{true, _||_};
 ghost use Prim.Native.Nat.{_+_, _*_, _≤_, _<_};
 ghost use lib.Dec.{leb};
 ghost use lib.ListN.{length};
 ghost use Rattle.answer.specs.Calls.{testOf, asked, verdict};
 ghost use Rattle.answer.specs.Outcome.{each};
+ghost use Rattle.wire.specs.Numbers.{leAt};
 ghost use Rattle.region.specs.Region.{countOf, offsetOf, capacityOf, endOf, ringAt, isCapacity, headerChecks, apartCheck, descriptorChecks, cursorChecks, ringChecks, tableChecks, regionChecks, queueChecks};
 ghost use Rattle.region.specs.Region as region;
-ghost use Rattle.region.specs.Inside.{Below};
+ghost use Rattle.region.specs.Valid.{Valid};
+ghost use Rattle.region.specs.Inside.{Below, Beside, Clear, Reached, Further, Right};
 ghost use Rattle.region.specs.Report.{signedOf, asCursors, reportCall};
 
 // The header of a ring: its cursors and its capacity.
@@ -63,7 +65,34 @@ fn end_of(s: &[u8], i: u32) -> usize
     (offset_of(s, i) as usize) + 16 + (capacity_of(s, i) as usize)
 }
 
-pub fn ring_at(s: &[u8], at: u32) -> Ring
+// A number that stands there whole: one load, and no question of its own.
+fn whole_at(s: &[u8], at: usize) -> u32
+    requires { ⌜ at + 4 ≤ length (now s) ⌝ }
+    ensures { λ r. ⌜ r ≡ leAt 4 (now (s .entry)) at ⌝ }
+{
+    let e = at + 4;
+    u32_at(&s[at..e], 0)
+}
+
+fn whole_ring(s: &[u8], at: u32) -> Ring
+    requires { ⌜ at + 16 ≤ length (now s) ⌝ }
+    ensures { λ r. ⌜ r ≡ ringAt (now (s .entry)) at ⌝ }
+{
+    let o = at as usize;
+    let head = whole_at(s, o);
+    let reserve = whole_at(s, o + 4);
+    let commit = whole_at(s, o + 8);
+    let capacity = whole_at(s, o + 12);
+    Ring {
+        head,
+        reserve,
+        commit,
+        capacity,
+    }
+}
+
+// The same wherever it stands. It is called from two places, so that it stays a function of its own and `ring_at` becomes a part of its callers.
+fn cut_ring(s: &[u8], at: u32) -> Ring
     ensures { λ r. ⌜ r ≡ ringAt (now (s .entry)) at ⌝ }
 {
     let o = at as usize;
@@ -77,6 +106,16 @@ pub fn ring_at(s: &[u8], at: u32) -> Ring
         commit,
         capacity,
     }
+}
+
+// One question for the four numbers.
+pub fn ring_at(s: &[u8], at: u32) -> Ring
+    ensures { λ r. ⌜ r ≡ ringAt (now (s .entry)) at ⌝ }
+{
+    if wire::fits(s.len(), at as usize, 16) {
+        return whole_ring(s, at);
+    }
+    cut_ring(&s[..], at)
 }
 
 fn is_capacity(x: u32) -> bool
@@ -246,7 +285,7 @@ fn ring_header(s: &[u8], i: u32) -> Test
     ensures { λ r. ⌜ testOf r ≡ asked (ringChecks (now (s .entry)) i) ⌝ }
 {
     let at = offset_of(s, i);
-    ring_fields(ring_at(s, at), at, capacity_of(s, i))
+    ring_fields(cut_ring(s, at), at, capacity_of(s, i))
 }
 
 fn ring_headers(s: &[u8], n: u32) -> Test
@@ -277,9 +316,125 @@ fn tables(s: &[u8]) -> Test
     }
 }
 
+// ---- the same at once, where nothing is wrong
+
+// Whether ring j has no byte from `from` up to `end`.
+fn is_beside(s: &[u8], j: u32, from: usize, end: usize) -> bool
+    requires { ⌜ 32 + 16 * j ≤ length (now s) ⌝ }
+    ensures { λ r. ⌜ (r ≡ true → Beside (now (s .entry)) j from end) ⌝ }
+{
+    let place = 16 * (j as usize);
+    let other = whole_at(s, 20 + place) as usize;
+    if other + 16 + (whole_at(s, 24 + place) as usize) <= from {
+        return true;
+    }
+    end <= other
+}
+
+// The same of each ring before the i-th.
+fn is_clear(s: &[u8], i: u32, from: usize, end: usize) -> bool
+    requires { ⌜ 16 + 16 * i ≤ length (now s) ⌝ }
+    ensures { λ r. ⌜ (r ≡ true → Clear (now (s .entry)) i from end) ⌝ }
+{
+    let mut j = 0;
+    while j < i {
+        if !is_beside(s, j, from, end) {
+            return false;
+        }
+        j += 1;
+    }
+    true
+}
+
+// The same, and that it stands behind the descriptors: one comparison for a ring that starts where they and all earlier rings have ended, or later.
+fn is_free(s: &[u8], i: u32, from: usize, end: usize, top: usize) -> bool
+    requires { ⌜ Reached (now s) i top ⌝ }
+    ensures { λ r. ⌜ (r ≡ true → (16 + 16 * countOf (now (s .entry)) ≤ from) × Clear (now (s .entry)) i from end) ⌝ }
+{
+    if top <= from {
+        return true;
+    }
+    if from < 16 + 16 * (u32_at(s, 12) as usize) {
+        return false;
+    }
+    is_clear(&s[..], i, from, end)
+}
+
+// Where the descriptors and all rings up to the i-th have ended, those before it at `top`, if nothing is wrong with it and its descriptor; else 0.
+fn right_end(s: &[u8], i: u32, top: usize) -> usize
+    requires { ⌜ Reached (now s) i top ⌝ }
+    ensures { λ r. ⌜ (0 < r → Further (now (s .entry)) i top r) ⌝ }
+{
+    let place = 16 * (i as usize);
+    let at = whole_at(s, 20 + place);
+    let cap = whole_at(s, 24 + place);
+    let end = (at as usize) + 16 + (cap as usize);
+    if !is_free(s, i, at as usize, end, top) {
+        return 0;
+    }
+    if at % 4 != 0 {
+        return 0;
+    }
+    if s.len() < end {
+        return 0;
+    }
+    if !is_capacity(cap) {
+        return 0;
+    }
+    if whole_at(s, 28 + place) != 0 {
+        return 0;
+    }
+    match ring_fields(whole_ring(s, at), at, cap) {
+        Test::Fault(_, _) => 0,
+        Test::Fine => higher(top, end),
+    }
+}
+
+// Whether nothing is wrong with n queues. `top` starts behind the descriptors and is the highest end so far: where rings stand in the order of their
+// descriptors, that a ring stands behind them and that it meets no earlier one is one comparison.
+fn are_right(s: &[u8], n: u32) -> bool
+    requires { ⌜ (n ≡ countOf (now s)) × (16 + 16 * n ≤ length (now s)) ⌝ }
+    ensures { λ r. ⌜ (r ≡ true → Right (now (s .entry)) n) ⌝ }
+{
+    let mut i = 0;
+    let mut top = 16 + 16 * (n as usize);
+    while i < n {
+        top = right_end(s, i, top);
+        if top == 0 {
+            return false;
+        }
+        i += 1;
+    }
+    true
+}
+
+// One walk over descriptors and rings. What it calls right is a region with that queue; of what it does not, the checks above name the fault, or find none.
+fn is_right(s: &[u8], queue: u32) -> bool
+    ensures { λ r. ⌜ (r ≡ true → Valid (now (s .entry)) × (queue < countOf (now (s .entry)))) ⌝ }
+{
+    match header(&s[..]) {
+        Test::Fault(_, _) => false,
+        Test::Fine => {
+            let n = u32_at(&s[..], 12);
+            if n <= queue {
+                return false;
+            }
+            are_right(&s[..], n)
+        }
+    }
+}
+
+// ---- the calls
+
 pub fn check(s: &[u8]) -> Answer
     ensures { λ r. ⌜ r ≡ verdict (asked (regionChecks (now (s .entry)))) ⌝ }
 {
+    if is_right(s, 0) {
+        return Answer {
+            number: TAKEN,
+            place: 0,
+        };
+    }
     match header(s) {
         Test::Fault(number, place) => Answer {
             number,
@@ -289,8 +444,8 @@ pub fn check(s: &[u8]) -> Answer
     }
 }
 
-// The region's first wrong field, where it is asked for a queue: the first check of each call.
-pub fn check_queue(s: &[u8], queue: u32) -> Test
+// The region's first wrong field, where it is asked for a queue.
+fn fault_in(s: &[u8], queue: u32) -> Test
     ensures { λ r. ⌜ testOf r ≡ asked (queueChecks (now (s .entry)) queue) ⌝ }
 {
     match header(s) {
@@ -302,6 +457,16 @@ pub fn check_queue(s: &[u8], queue: u32) -> Test
             tables(s)
         }
     }
+}
+
+// The same: the first check of each call.
+pub fn check_queue(s: &[u8], queue: u32) -> Test
+    ensures { λ r. ⌜ testOf r ≡ asked (queueChecks (now (s .entry)) queue) ⌝ }
+{
+    if is_right(s, queue) {
+        return Test::Fine;
+    }
+    fault_in(s, queue)
 }
 
 // A cursor as the i32 of the same bits.

@@ -12,7 +12,7 @@ use region::ahead;
 use wire::u32_at;
 ghost use mathlib.Core.Path.{_≡_};
 ghost use Prim.Native.Nat.{_+_, _-_, _%_, _≤_, _<_};
-ghost use lib.ListN.{length, replicate};
+ghost use lib.ListN.{length};
 ghost use Rattle.answer.specs.Calls.{testOf, asked};
 ghost use Rattle.wire.specs.Numbers.{leAt};
 ghost use Rattle.wire.specs.Parts.{splice};
@@ -51,17 +51,33 @@ fn size_of(n: u32) -> u64
     4 + ((n as u64) + 3) / 4 * 4
 }
 
+// Where a cursor stands in the data. A capacity is a power of two, so no division is needed.
+fn position(cap: u32, p: u32) -> u32
+    requires { ⌜ Power cap ⌝ }
+    ensures { λ r. ⌜ r ≡ p % cap ⌝ }
+{
+    p & (cap - 1)
+}
+
+// The same counted from the region's start, the ring's header being at `at`.
+fn place_of(at: u32, cap: u32, p: u32) -> usize
+    requires { ⌜ Power cap ⌝ }
+    ensures { λ r. ⌜ r ≡ at + 16 + p % cap ⌝ }
+{
+    (at as usize) + 16 + (position(cap, p) as usize)
+}
+
 // The bytes from a cursor to the end of the data.
 fn rest_of(cap: u32, p: u32) -> u32
-    requires { ⌜ 0 < cap ⌝ }
+    requires { ⌜ Power cap ⌝ }
     ensures { λ r. ⌜ r ≡ cap - p % cap ⌝ }
 {
-    cap - p % cap
+    cap - position(cap, p)
 }
 
 // What a record of n payload bytes skips at a cursor.
 fn skip_of(cap: u32, p: u32, n: u32) -> u32
-    requires { ⌜ 0 < cap ⌝ }
+    requires { ⌜ Power cap ⌝ }
     ensures { λ r. ⌜ r ≡ skip cap p n ⌝ }
 {
     let left = rest_of(cap, p);
@@ -72,7 +88,7 @@ fn skip_of(cap: u32, p: u32, n: u32) -> u32
 }
 
 fn need_of(cap: u32, p: u32, n: u32) -> u64
-    requires { ⌜ 0 < cap ⌝ }
+    requires { ⌜ Power cap ⌝ }
     ensures { λ r. ⌜ r ≡ need cap p n ⌝ }
 {
     (skip_of(cap, p, n) as u64) + size_of(n)
@@ -184,28 +200,16 @@ fn may_fill(ring: Ring, start: u32, end: u32, len: usize) -> Test
     Test::Fine
 }
 
-// Zeros from one place up to another.
-fn put_zeros(out: &mut [u8], at: usize, n: usize)
-    requires { ⌜ at + n ≤ length (now out) ⌝ }
-    ensures { λ _. ⌜ now (out .exit) ≡ splice at (replicate n 0) (now (out .entry)) ⌝ }
-{
-    let mut i = 0;
-    while i < n {
-        out[at + i] = 0;
-        i += 1;
-    }
-}
-
-// A record: its length, its payload, zeros up to a multiple of 4. Answers its bytes.
+// A record: its length, its payload, zeros up to a multiple of 4. Answers its bytes. Its last word is stored first, as zeros, and the payload over it.
 fn put_record(out: &mut [u8], at: usize, payload: &[u8]) -> u64
     requires { ⌜ (length (now payload) ≤ 65536) × (at + size (length (now payload)) ≤ length (now out)) ⌝ }
     ensures { λ r. ⌜ (r ≡ size (length (now (payload .entry)))) × (now (out .exit) ≡ splice at (recordOf (now (payload .entry))) (now (out .entry))) ⌝ }
 {
     let n = payload.len();
+    let padded = (n + 3) / 4 * 4;
+    wire::put_u32(out, at + padded, 0);
     wire::put_u32(out, at, n as u32);
     wire::copy(out, at + 4, payload);
-    let padded = (n + 3) / 4 * 4;
-    put_zeros(out, at + 4 + n, padded - n);
     (padded as u64) + 4
 }
 
@@ -214,7 +218,7 @@ fn put_filled(region: &mut [u8], at: u32, cap: u32, start: u32, payload: &[u8]) 
     requires { ⌜ Fillable (now region) at cap start (length (now payload)) ⌝ }
     ensures { λ r. ⌜ (r ≡ count (fillStores at cap start (now (payload .entry)))) × (now (region .exit) ≡ stored (fillStores at cap start (now (payload .entry))) (now (region .entry))) ⌝ }
 {
-    let i = (at as usize) + 16 + ((start % cap) as usize);
+    let i = place_of(at, cap, start);
     if skip_of(cap, start, payload.len() as u32) == 0 {
         return put_record(region, i, payload);
     }
@@ -336,10 +340,10 @@ fn may_take(ring: Ring, skip: u32, len: u32) -> Test
 
 // What a taker skips at a cursor.
 fn skip_at(region: &[u8], at: u32, cap: u32, p: u32) -> u32
-    requires { ⌜ 0 < cap ⌝ }
+    requires { ⌜ Power cap ⌝ }
     ensures { λ r. ⌜ r ≡ skipAt (now (region .entry)) at cap p ⌝ }
 {
-    if u32_at(region, (at as usize) + 16 + ((p % cap) as usize)) == MARKER {
+    if u32_at(region, place_of(at, cap, p)) == MARKER {
         return rest_of(cap, p);
     }
     0
@@ -376,7 +380,7 @@ fn take_in(region: &mut [u8], at: u32) -> Record
     let cap = ring.capacity;
     let skip = skip_at(region, at, cap, ring.head);
     let p = std::num::wrapping_add_u32(ring.head, skip);
-    let from = (at as usize) + 16 + ((p % cap) as usize);
+    let from = place_of(at, cap, p);
     take_from(region, at, skip, from)
 }
 

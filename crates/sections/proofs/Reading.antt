@@ -6,7 +6,7 @@ use mathlib.Core.Bool.{Bool, true, false, cond}
 use Prim.Native.Nat.{ℕ, _+_, _-_, _≤_}
 use native.Mathlib.Omega.{arith}
 use lib.ListN.{length, take, drop, length-append, length-drop, take-append-drop}
-use lib.Seq.{drop-drop, take-append-seam, drop-append-seam}
+use lib.Seq.{drop-drop, take-append-seam, drop-append-seam, length-take-le}
 use Rattle.answer.specs.Outcome.{Outcome, taken, refused}
 use Rattle.wire.specs.Numbers.{leAt}
 use Rattle.wire.proofs.Numbers.{leAt-here, leAt-append}
@@ -50,6 +50,10 @@ module _ (e : List ℕ) (w : IsSection e) {d : Description} (q : bodyOf (idOf e)
 
 pub roomy-few : (s : List ℕ) (m : ℕ) → counts 64 (drop 16 s) ≤ m → HoldsStarts s m
 roomy-few s m h l c = omega (arith, counts-all s c)
+
+-- as many places as the counts say, of those at hand
+pub roomy-part : (s : List ℕ) {n : ℕ} (places : List ℕ) → n ≡ counts 64 (drop 16 s) → n ≤ length places → HoldsStarts s (length (take n places))
+roomy-part s {n} places e h = roomy-few s (length (take n places)) (let l = length-take-le n places h in omega arith)
 
 pub roomy-all : (s : List ℕ) → HoldsStarts s 4864
 roomy-all s l c = starts-bound s c

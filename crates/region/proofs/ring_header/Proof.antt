@@ -7,7 +7,7 @@ use Rattle.region.proofs.ring_header.Tie as tie
 returns : tie.Need-returns
 returns c =
     let a = c .before .before .before .before .before .args in
-    c .ring-fields .ensures ∙ ring-so (a .s .now) (a .i) (c .before .before .before .offset-of .ensures) (c .before .before .ring-at .ensures) (c .before .capacity-of .ensures)
+    c .ring-fields .ensures ∙ ring-so (a .s .now) (a .i) (c .before .before .before .offset-of .ensures) (c .before .before .cut-ring .ensures) (c .before .capacity-of .ensures)
 
 pub ring-header-spec : {M : Type 1} → statement M
 ring-header-spec =

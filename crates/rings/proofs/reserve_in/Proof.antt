@@ -21,9 +21,7 @@ may-reserve-requires : tie.Need-may-reserve-requires
 may-reserve-requires c κs = rw (c .ring-at .ensures) (c .before .before .before .pre .capacity)
 
 need-of-requires : tie.Need-need-of-requires
-need-of-requires c κs =
-    let least = capacity-of (c .before .before .before .before .before .before .pre .capacity) .least in
-    rw (c .before .before .before .ring-at .ensures) (omega arith)
+need-of-requires c κs = rw (c .before .before .before .ring-at .ensures) (c .before .before .before .before .before .before .pre .capacity)
 
 cast-wrapping-add-u32 : tie.Need-cast-wrapping-add-u32
 cast-wrapping-add-u32 c =

@@ -1,17 +1,24 @@
-use Rattle.sections.proofs.Reading.{roomy-few, roomy-all}
-use native.Mathlib.Omega.{arith}
+use Rattle.sections.proofs.Reading.{roomy-part, roomy-all}
+use mathlib.Core.Path.{sym}
+use lib.Seq.{length-take-le}
 use borrow.Author.Needs.{needs}
 use Rattle.snapshot.proofs.list_table.Statement.{statement}
 use Rattle.snapshot.proofs.list_table.Tie as tie
 
-list-table-in-requires : tie.Need-list-table-in-requires
-list-table-in-requires c κs = let t = c .before .before .before .before .before .before in (t .pre .0, t .pre .1, roomy-few (t .args .file .now) 32 (omega (arith, c .before .before .before .count-entries .ensures, c .before .before .if1 .taken)))
+few-places : tie.Need-slice-aggregate-list-table-in
+few-places c = sym (length-take-le _ _ (c .before .if1 .taken))
 
-list-table-in-requires-2 : tie.Need-list-table-in-requires-2
-list-table-in-requires-2 c κs = let t = c .before .before .before .before .before .before .before in (t .pre .0, t .pre .1, roomy-few (t .args .file .now) 256 (omega (arith, c .before .before .before .before .count-entries .ensures, c .before .before .if2 .taken)))
+few-hold : tie.Need-list-table-in-requires
+few-hold c κs = let t = c .before .before .before .before .before .before in (t .pre .0, t .pre .1, roomy-part (t .args .file .now) _ (c .before .before .before .count-entries .ensures) (c .before .before .if1 .taken))
 
-list-table-in-requires-3 : tie.Need-list-table-in-requires-3
-list-table-in-requires-3 c κs = let t = c .before .before .before .before .before .before .before in (t .pre .0, t .pre .1, roomy-all (t .args .file .now))
+some-places : tie.Need-slice-aggregate-list-table-in-2
+some-places c = sym (length-take-le _ _ (c .before .if2 .taken))
+
+some-hold : tie.Need-list-table-in-requires-2
+some-hold c κs = let t = c .before .before .before .before .before .before .before in (t .pre .0, t .pre .1, roomy-part (t .args .file .now) _ (c .before .before .before .before .count-entries .ensures) (c .before .before .if2 .taken))
+
+all-hold : tie.Need-list-table-in-requires-3
+all-hold c κs = let t = c .before .before .before .before .before .before .before in (t .pre .0, t .pre .1, roomy-all (t .args .file .now))
 
 pub list-table-spec : {M : Type 1} → statement M
 list-table-spec =
@@ -19,14 +26,16 @@ list-table-spec =
     (tie.spec
     (λ c κs. search needs)
     (λ c. search needs)
-    list-table-in-requires
+    few-places
+    few-hold
     (λ c. search needs)
     (λ c. search needs)
     (λ c. search needs)
-    list-table-in-requires-2
+    some-places
+    some-hold
     (λ c. search needs)
     (λ c. search needs)
     (λ c. search needs)
-    list-table-in-requires-3
+    all-hold
     (λ c. search needs)
     (λ c. search needs))
