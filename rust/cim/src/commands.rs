@@ -87,7 +87,7 @@ fn add_device(words: &Words) -> Result<(), Failure> {
     let payload = files::read(payload, snapshot::MOST_PAYLOAD_BYTES)?;
     files::write(
         out,
-        &snapshot::add_device(&file, id, version, flags, &payload).map_err(of_input(&file))?,
+        &snapshot::add_device(&file, (id, version, flags), &payload).map_err(of_input(&file))?,
     )
 }
 

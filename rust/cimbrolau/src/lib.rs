@@ -8,14 +8,14 @@
 //! ```
 //! use cimbrolau::{snapshot, Kind};
 //!
-//! let file = snapshot::add_device(&snapshot::EMPTY, 14, 1, 0, &[0x11])?;
-//! let file = snapshot::add_device(&file, 3, 1, 0, &[0xAB, 0xCD])?;
+//! let file = snapshot::add_device(&snapshot::EMPTY, (14, 1, 0), &[0x11])?;
+//! let file = snapshot::add_device(&file, (3, 1, 0), &[0xAB, 0xCD])?;
 //!
 //! let devices = snapshot::devices(&file)?;
 //! assert_eq!(devices[0].id, 3); // in the order of their keys, whatever the order of adding
 //! assert_eq!(devices[0].payload(&file), Some(&[0xAB, 0xCD][..]));
 //!
-//! let refusal = snapshot::add_device(&file, 3, 1, 0, &[]).unwrap_err();
+//! let refusal = snapshot::add_device(&file, (3, 1, 0), &[]).unwrap_err();
 //! assert_eq!(refusal.kind, Kind::Have);
 //! # Ok::<(), cimbrolau::Refusal>(())
 //! ```

@@ -151,7 +151,9 @@ impl<'a> Message<'a> {
     /// # Ok::<(), cimbrolau::Refusal>(())
     /// ```
     pub fn write(&self) -> Result<Vec<u8>> {
-        filled(|out| self.written(out))
+        // A tag, at most four numbers of 8 bytes, a length, and the data.
+        let most = 2 + 4 * 8 + 4 + self.data().map_or(0, <[u8]>::len);
+        filled(most.min(Self::MOST_BYTES as usize), |out| self.written(out))
     }
 
     /// Writes the message to the start of `out`, and answers how many bytes it has. A buffer that is too short is ROOM,

@@ -10,6 +10,7 @@ use std::mem::size_of;
 
 /// What a call answers: number 0 and the bytes written, or the number of a refusal and its place.
 #[repr(C)]
+#[must_use]
 #[derive(Clone, Copy, Debug, PartialEq, Eq)]
 pub struct Answer {
     /// 0 where the input is taken, else the number of the refusal.
@@ -20,6 +21,7 @@ pub struct Answer {
 
 /// What reading a message answers: its kind by its tag, its numbers in the order of its fields, and where its data stands.
 #[repr(C)]
+#[must_use]
 #[derive(Clone, Copy, Debug, PartialEq, Eq)]
 pub struct Numbers {
     /// 0 where the message is taken, else the number of the refusal; all below is then 0 but `place`.
@@ -44,6 +46,7 @@ pub struct Numbers {
 
 /// What a report of a ring answers: its cursors, signed, as hosts show them.
 #[repr(C)]
+#[must_use]
 #[derive(Clone, Copy, Debug, PartialEq, Eq)]
 pub struct Cursors {
     /// 0 where the region is taken, else the number of the refusal; all below is then 0 but `place`.
@@ -60,6 +63,7 @@ pub struct Cursors {
 
 /// What reserving answers: from which cursor to which the bytes are reserved, a skip included.
 #[repr(C)]
+#[must_use]
 #[derive(Clone, Copy, Debug, PartialEq, Eq)]
 pub struct Pair {
     /// 0 where the bytes are reserved, else the number of the refusal; all below is then 0 but `place`.
@@ -74,6 +78,7 @@ pub struct Pair {
 
 /// What taking answers: where the payload stands in the region.
 #[repr(C)]
+#[must_use]
 #[derive(Clone, Copy, Debug, PartialEq, Eq)]
 pub struct Record {
     /// 0 where a record is taken, else the number of the refusal; all below is then 0 but `place`.

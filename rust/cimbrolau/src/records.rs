@@ -1,7 +1,13 @@
 //! The 24-byte records of tables, and the parts of an input that they name.
 
 /// Bytes in a record.
-const RECORD: usize = 24;
+pub(crate) const RECORD: usize = 24;
+
+/// The most bytes that the table of a list can have, whose entries have at least `least` bytes each: as many records as the
+/// input has room for entries, and no more than there may be.
+pub(crate) fn table_most(input: &[u8], least: usize, entries: usize) -> usize {
+    RECORD * entries.min(input.len() / least)
+}
 
 /// The records of a table, each read by `read`.
 pub(crate) fn all<T>(table: &[u8], read: impl Fn(&[u8]) -> T) -> Vec<T> {

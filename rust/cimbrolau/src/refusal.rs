@@ -184,17 +184,12 @@ pub(crate) fn outcome(number: u32, place: u64) -> Result<u64> {
     }
 }
 
-/// The whole output of a call that fills a lent buffer: asked first with no room, it names the length needed.
-pub(crate) fn filled(mut call: impl FnMut(&mut [u8]) -> Answer) -> Result<Vec<u8>> {
-    let asked = call(&mut []);
-    let needed = match outcome(asked.number, asked.place) {
-        Ok(_) => return Ok(Vec::new()),
-        Err(Refusal { kind: Kind::Room, place }) => place,
-        Err(refusal) => return Err(refusal),
-    };
-    let mut out = vec![0; needed as usize];
+/// The whole output of a call that fills a lent buffer, which never needs more than `most` bytes: the call runs once.
+pub(crate) fn filled(most: usize, call: impl FnOnce(&mut [u8]) -> Answer) -> Result<Vec<u8>> {
+    let mut out = vec![0; most];
     let written = call(&mut out);
-    outcome(written.number, written.place)?;
+    let length = outcome(written.number, written.place)?;
+    out.truncate(length as usize);
     Ok(out)
 }
 

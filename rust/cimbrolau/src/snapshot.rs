@@ -1,7 +1,7 @@
 //! Snapshot files: checking, tables, the canonical form, adding.
 
 use crate::raw;
-use crate::records::{self, u16_at, u32_at, u64_at};
+use crate::records::{self, table_most, u16_at, u32_at, u64_at, RECORD};
 use crate::refusal::{filled, outcome, Result};
 
 /// The shortest snapshot: the header, and no section.
@@ -60,6 +60,30 @@ impl Section {
     }
 }
 
+/// What tells a device from another: its id, version and flags, compared as numbers in this order.
+///
+/// ```
+/// use cimbrolau::snapshot::DeviceKey;
+/// let key = DeviceKey { id: 3, version: 1, flags: 0 };
+/// assert_eq!(DeviceKey::from((3, 1, 0)), key);
+/// assert!(key < (256, 0, 0).into());
+/// ```
+#[derive(Clone, Copy, Debug, PartialEq, Eq, Hash, PartialOrd, Ord)]
+pub struct DeviceKey {
+    /// The device's id.
+    pub id: u32,
+    /// The version of its payload.
+    pub version: u16,
+    /// The device's flags.
+    pub flags: u16,
+}
+
+impl From<(u32, u16, u16)> for DeviceKey {
+    fn from((id, version, flags): (u32, u16, u16)) -> DeviceKey {
+        DeviceKey { id, version, flags }
+    }
+}
+
 /// A device of a snapshot. Its key is its id, version and flags, compared in this order.
 #[derive(Clone, Copy, Debug, PartialEq, Eq, Hash)]
 pub struct Device {
@@ -76,11 +100,23 @@ pub struct Device {
 }
 
 impl Device {
+    /// The device's key.
+    ///
+    /// ```
+    /// use cimbrolau::snapshot;
+    /// let file = snapshot::add_device(&snapshot::EMPTY, (3, 1, 0), &[])?;
+    /// assert_eq!(snapshot::devices(&file)?[0].key(), (3, 1, 0).into());
+    /// # Ok::<(), cimbrolau::Refusal>(())
+    /// ```
+    pub fn key(&self) -> DeviceKey {
+        DeviceKey { id: self.id, version: self.version, flags: self.flags }
+    }
+
     /// The device's payload in the file that it came from; none in a file too short to be that.
     ///
     /// ```
     /// use cimbrolau::snapshot;
-    /// let file = snapshot::add_device(&snapshot::EMPTY, 3, 1, 0, &[0xAB, 0xCD])?;
+    /// let file = snapshot::add_device(&snapshot::EMPTY, (3, 1, 0), &[0xAB, 0xCD])?;
     /// assert_eq!(snapshot::devices(&file)?[0].payload(&file), Some(&[0xAB, 0xCD][..]));
     /// # Ok::<(), cimbrolau::Refusal>(())
     /// ```
@@ -157,6 +193,16 @@ impl Disk {
     }
 }
 
+// How many sections, devices and disks a file has at most.
+const SECTIONS: usize = 64;
+const DEVICES: usize = 4096;
+const DISKS: usize = 256;
+
+/// So many bytes, or as many as a file may have.
+fn file_most(bytes: usize) -> usize {
+    bytes.min(MOST_BYTES as usize)
+}
+
 /// Whether the file follows the rules; else its first fault.
 ///
 /// ```
@@ -178,14 +224,14 @@ pub fn check(file: &[u8]) -> Result<()> {
 ///
 /// ```
 /// use cimbrolau::snapshot;
-/// let file = snapshot::add_device(&snapshot::EMPTY, 3, 1, 0, &[0xAB, 0xCD])?;
+/// let file = snapshot::add_device(&snapshot::EMPTY, (3, 1, 0), &[0xAB, 0xCD])?;
 /// let sections = snapshot::sections(&file)?;
 /// assert_eq!(sections.len(), 1);
 /// assert_eq!((sections[0].id, sections[0].offset, sections[0].length), (4, 32, 22));
 /// # Ok::<(), cimbrolau::Refusal>(())
 /// ```
 pub fn sections(file: &[u8]) -> Result<Vec<Section>> {
-    let table = filled(|table| raw::sections(file, table))?;
+    let table = filled(RECORD * SECTIONS, |table| raw::sections(file, table))?;
     Ok(records::all(&table, Section::of))
 }
 
@@ -193,14 +239,14 @@ pub fn sections(file: &[u8]) -> Result<Vec<Section>> {
 ///
 /// ```
 /// use cimbrolau::snapshot;
-/// let file = snapshot::add_device(&snapshot::EMPTY, 256, 1, 0, &[0x11])?;
-/// let file = snapshot::add_device(&file, 1, 1, 0, &[])?;
+/// let file = snapshot::add_device(&snapshot::EMPTY, (256, 1, 0), &[0x11])?;
+/// let file = snapshot::add_device(&file, (1, 1, 0), &[])?;
 /// let ids: Vec<u32> = snapshot::devices(&file)?.iter().map(|device| device.id).collect();
 /// assert_eq!(ids, [1, 256]);
 /// # Ok::<(), cimbrolau::Refusal>(())
 /// ```
 pub fn devices(file: &[u8]) -> Result<Vec<Device>> {
-    let table = filled(|table| raw::devices(file, table))?;
+    let table = filled(table_most(file, 16, DEVICES), |table| raw::devices(file, table))?;
     Ok(records::all(&table, Device::of))
 }
 
@@ -215,7 +261,7 @@ pub fn devices(file: &[u8]) -> Result<Vec<Device>> {
 /// # Ok::<(), cimbrolau::Refusal>(())
 /// ```
 pub fn disks(file: &[u8]) -> Result<Vec<Disk>> {
-    let table = filled(|table| raw::disks(file, table))?;
+    let table = filled(table_most(file, 12, DISKS), |table| raw::disks(file, table))?;
     Ok(records::all(&table, Disk::of))
 }
 
@@ -231,28 +277,26 @@ pub fn disks(file: &[u8]) -> Result<Vec<Disk>> {
 /// # Ok::<(), cimbrolau::Refusal>(())
 /// ```
 pub fn canonical(file: &[u8]) -> Result<Vec<u8>> {
-    filled(|out| raw::canonical(file, out))
+    // It is never longer than the file.
+    filled(file_most(file.len()), |out| raw::canonical(file, out))
 }
 
 /// The canonical form of the file with one device more. A key that is there already is HAVE.
 ///
 /// ```
 /// use cimbrolau::{snapshot, Kind};
-/// let file = snapshot::add_device(&snapshot::EMPTY, 3, 1, 0, &[0xAB, 0xCD])?;
+/// let file = snapshot::add_device(&snapshot::EMPTY, (3, 1, 0), &[0xAB, 0xCD])?;
 /// assert_eq!(file.len(), 54);
 ///
-/// let refusal = snapshot::add_device(&file, 3, 1, 0, &[]).unwrap_err();
+/// let refusal = snapshot::add_device(&file, (3, 1, 0), &[]).unwrap_err();
 /// assert_eq!(refusal.kind, Kind::Have);
 /// # Ok::<(), cimbrolau::Refusal>(())
 /// ```
-pub fn add_device(
-    file: &[u8],
-    id: u32,
-    version: u16,
-    flags: u16,
-    payload: &[u8],
-) -> Result<Vec<u8>> {
-    filled(|out| raw::add_device(file, id, version, flags, payload, out))
+pub fn add_device(file: &[u8], key: impl Into<DeviceKey>, payload: &[u8]) -> Result<Vec<u8>> {
+    let DeviceKey { id, version, flags } = key.into();
+    // At most a section's header and count, and the entry, are added.
+    let most = file_most(file.len() + 20 + 16 + payload.len());
+    filled(most, |out| raw::add_device(file, id, version, flags, payload, out))
 }
 
 /// The canonical form of the file with one disk more: its id and the names of its base and overlay images, in UTF-8.
@@ -268,5 +312,6 @@ pub fn add_device(
 /// # Ok::<(), cimbrolau::Refusal>(())
 /// ```
 pub fn add_disk(file: &[u8], id: u32, base: &[u8], overlay: &[u8]) -> Result<Vec<u8>> {
-    filled(|out| raw::add_disk(file, id, base, overlay, out))
+    let most = file_most(file.len() + 20 + 12 + base.len() + overlay.len());
+    filled(most, |out| raw::add_disk(file, id, base, overlay, out))
 }

@@ -1,7 +1,7 @@
 //! Disk-controller wrappers (`DSKC`): checking, the table of controllers, the canonical form.
 
 use crate::raw;
-use crate::records::{self, bytes, u16_at, u64_at};
+use crate::records::{self, bytes, table_most, u16_at, u64_at};
 use crate::refusal::{filled, outcome, Result};
 
 /// The shortest wrapper: the header, and no controller.
@@ -15,6 +15,9 @@ pub const EMPTY: [u8; 20] = *b"AERO\x01\x00\x00\x00DSKC\x01\x00\x00\x00\x00\x00\
 
 /// The most bytes a wrapper has, 64 MiB; a longer one is SIZE.
 pub const MOST_BYTES: u64 = 64 << 20;
+
+// How many controllers a wrapper has at most.
+const CONTROLLERS: usize = 256;
 
 /// A disk controller of a wrapper. Its key is its address.
 #[derive(Clone, Copy, Debug, PartialEq, Eq, Hash)]
@@ -98,7 +101,8 @@ pub fn check(wrapper: &[u8]) -> Result<()> {
 /// # Ok::<(), cimbrolau::Refusal>(())
 /// ```
 pub fn controllers(wrapper: &[u8]) -> Result<Vec<Controller>> {
-    let table = filled(|table| raw::controllers(wrapper, table))?;
+    let table =
+        filled(table_most(wrapper, 12, CONTROLLERS), |table| raw::controllers(wrapper, table))?;
     Ok(records::all(&table, Controller::of))
 }
 
@@ -116,5 +120,6 @@ pub fn controllers(wrapper: &[u8]) -> Result<Vec<Controller>> {
 /// # Ok::<(), cimbrolau::Refusal>(())
 /// ```
 pub fn canonical(wrapper: &[u8]) -> Result<Vec<u8>> {
-    filled(|out| raw::wrapper_canonical(wrapper, out))
+    // It is as long as the wrapper.
+    filled(wrapper.len().min(MOST_BYTES as usize), |out| raw::wrapper_canonical(wrapper, out))
 }

@@ -47,7 +47,7 @@ fn p4_and_p5_tables_and_canonical_form() {
 fn p6_to_p9_refusals_and_empty_lists() {
     assert_eq!(snapshot::check(&changed(36, 3)), refused(Kind::Key, 53));
     let canonical = snapshot::canonical(TWO_DEVICES).unwrap();
-    assert_eq!(snapshot::add_device(&canonical, 3, 1, 0, b""), refused(Kind::Have, 0));
+    assert_eq!(snapshot::add_device(&canonical, (3, 1, 0), b""), refused(Kind::Have, 0));
     assert_eq!(snapshot::check(&changed(24, 40)), refused(Kind::Cut, 16));
 
     let mut none = TWO_DEVICES[..36].to_vec();
@@ -58,8 +58,8 @@ fn p6_to_p9_refusals_and_empty_lists() {
 
 #[test]
 fn adds_in_any_order_end_in_the_same_bytes() {
-    let tank = |file: &[u8]| snapshot::add_device(file, 3, 1, 0, &[15, 0]).unwrap();
-    let pump = |file: &[u8]| snapshot::add_device(file, 14, 1, 0, &[0x11]).unwrap();
+    let tank = |file: &[u8]| snapshot::add_device(file, (3, 1, 0), &[15, 0]).unwrap();
+    let pump = |file: &[u8]| snapshot::add_device(file, (14, 1, 0), &[0x11]).unwrap();
     let disk = |file: &[u8]| snapshot::add_disk(file, 7, b"base.img", b"night.img").unwrap();
     let file = tank(&pump(&disk(&snapshot::EMPTY)));
     assert_eq!(disk(&pump(&tank(&snapshot::EMPTY))), file);
