@@ -1,0 +1,5 @@
+pub mod Table
+pub mod Layouts
+pub mod Splices
+pub mod Outcomes
+pub mod Once
