@@ -201,6 +201,73 @@ struct cimbrolau_record {
 
 struct cimbrolau_record cimbrolau_ring_take(uint8_t *region, size_t region_length, uint32_t queue);
 
+/*
+ * ---- register sheets: the fields of CPU and MMU states of version 2, by number and index
+ *
+ * A CPU state has 1183 bytes, or 1191 with the extension; an MMU state has 264. Any other length, a field or an index that the state lacks is CIMBROLAU_SHAPE
+ * at 0. The fields are those of document 002 in its order; a field that stands once has index 0. Numbers are little-endian.
+ */
+enum cimbrolau_cpu_field_number {
+    CIMBROLAU_CPU_GPR, /* 16: RAX RCX RDX RBX RSP RBP RSI RDI R8 to R15 */
+    CIMBROLAU_CPU_RIP,
+    CIMBROLAU_CPU_RFLAGS,
+    CIMBROLAU_CPU_MODE,
+    CIMBROLAU_CPU_HALTED,
+    CIMBROLAU_CPU_SELECTOR, /* 6, as the next three: ES CS SS DS FS GS */
+    CIMBROLAU_CPU_BASE,
+    CIMBROLAU_CPU_LIMIT,
+    CIMBROLAU_CPU_ACCESS,
+    CIMBROLAU_CPU_FCW,
+    CIMBROLAU_CPU_FSW,
+    CIMBROLAU_CPU_FTW,
+    CIMBROLAU_CPU_TOP,
+    CIMBROLAU_CPU_FOP,
+    CIMBROLAU_CPU_FIP,
+    CIMBROLAU_CPU_FDP,
+    CIMBROLAU_CPU_FCS,
+    CIMBROLAU_CPU_FDS,
+    CIMBROLAU_CPU_ST, /* 8 of 16 bytes */
+    CIMBROLAU_CPU_MXCSR,
+    CIMBROLAU_CPU_XMM, /* 16 of 16 bytes */
+    CIMBROLAU_CPU_FXSAVE, /* 512 bytes */
+    CIMBROLAU_CPU_A20, /* this and the next three only with the extension */
+    CIMBROLAU_CPU_IRQ13,
+    CIMBROLAU_CPU_BIOS_INT_VALID,
+    CIMBROLAU_CPU_BIOS_INT
+};
+
+enum cimbrolau_mmu_field_number {
+    CIMBROLAU_MMU_CR, /* 5: CR0 CR2 CR3 CR4 CR8 */
+    CIMBROLAU_MMU_DR, /* 8 */
+    CIMBROLAU_MMU_MSR, /* 13: EFER STAR LSTAR CSTAR SFMASK SYSENTER_CS _EIP _ESP FS_BASE GS_BASE KERNEL_GS_BASE APIC_BASE TSC */
+    CIMBROLAU_MMU_GDTR_BASE,
+    CIMBROLAU_MMU_GDTR_LIMIT,
+    CIMBROLAU_MMU_IDTR_BASE,
+    CIMBROLAU_MMU_IDTR_LIMIT,
+    CIMBROLAU_MMU_SELECTOR, /* 2, as the next three: LDTR TR */
+    CIMBROLAU_MMU_BASE,
+    CIMBROLAU_MMU_LIMIT,
+    CIMBROLAU_MMU_ACCESS
+};
+
+/* The bytes of a field into `out`; CIMBROLAU_VALUE at the first value of the state outside its range. */
+struct cimbrolau_answer cimbrolau_cpu_field(const uint8_t *state, size_t state_length, uint32_t field, uint32_t index, uint8_t *out, size_t out_length);
+struct cimbrolau_answer cimbrolau_mmu_field(const uint8_t *state, size_t state_length, uint32_t field, uint32_t index, uint8_t *out, size_t out_length);
+
+/*
+ * A field set to the value, in place; no other byte changes. A value that is not as wide as its field is CIMBROLAU_VALUE at the field. Then the state as it
+ * would be is asked: CIMBROLAU_VALUE at its first value outside its range. A refused call changes nothing.
+ */
+struct cimbrolau_answer cimbrolau_cpu_set(uint8_t *state, size_t state_length, uint32_t field, uint32_t index, const uint8_t *value, size_t value_length);
+struct cimbrolau_answer cimbrolau_mmu_set(uint8_t *state, size_t state_length, uint32_t field, uint32_t index, const uint8_t *value, size_t value_length);
+
+/* The access word of a segment in its parts: bits 0 to 3, 5 and 6, 7, 13, 14, 15, 16, and all others where they stand. */
+struct cimbrolau_access {
+    uint32_t type, level, present, long_mode, size, granularity, unusable, rest;
+};
+
+struct cimbrolau_access cimbrolau_access(uint32_t word);
+
 #ifdef __cplusplus
 }
 #endif

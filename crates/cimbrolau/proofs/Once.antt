@@ -18,6 +18,11 @@ use Rattle.numbers.specs.Numbers.{told, writeNumbers}
 use Rattle.region.specs.declared.Cursors.{Cursors}
 use Rattle.region.specs.Region.{regionChecks}
 use Rattle.region.specs.Report.{asCursors, reportCall}
+use Rattle.access.specs.declared.Access.{Access}
+use Rattle.access.specs.Access.{accessOf}
+use Rattle.fields.specs.declared.State.the-variants.{Cpu, Mmu}
+use Rattle.fields.specs.Fields.{fieldCall, setCall, Changes}
+use Rattle.fields.proofs.Once.{changes-once}
 use Rattle.rings.specs.Calls.{Stores, asAnswer, asPair, asRecord, Leaves, reserveCall, fillCall, commitCall, takeCall}
 use Rattle.rings.proofs.Once.{leaves-once}
 
@@ -87,3 +92,19 @@ ring-commit-once q start end b r s new now x y = leaves-once x y
 
 pub ring-take-once : (q : ℕ) → Stores-in asRecord (λ b. takeCall b q)
 ring-take-once q b r s new now x y = leaves-once x y
+
+module _ (b : List ℕ) (n i : ℕ) {r s : Answer} {new now : List ℕ} where
+  pub cpu-field-once : (old : List ℕ) → Writes (fieldCall Cpu (length old) b n i) old r new → Writes (fieldCall Cpu (length old) b n i) old s now → (r ≡ s) × (new ≡ now)
+  cpu-field-once old x y = writes-once x y
+
+  pub mmu-field-once : (old : List ℕ) → Writes (fieldCall Mmu (length old) b n i) old r new → Writes (fieldCall Mmu (length old) b n i) old s now → (r ≡ s) × (new ≡ now)
+  mmu-field-once old x y = writes-once x y
+
+  pub cpu-set-once : (v : List ℕ) → Changes (length v) (setCall Cpu b n i v) b r new → Changes (length v) (setCall Cpu b n i v) b s now → (r ≡ s) × (new ≡ now)
+  cpu-set-once v x y = changes-once x y
+
+  pub mmu-set-once : (v : List ℕ) → Changes (length v) (setCall Mmu b n i v) b r new → Changes (length v) (setCall Mmu b n i v) b s now → (r ≡ s) × (new ≡ now)
+  mmu-set-once v x y = changes-once x y
+
+pub access-once : (w : ℕ) {r s : Access} → r ≡ accessOf w → s ≡ accessOf w → r ≡ s
+access-once w e f = equal-once e f

@@ -1,5 +1,6 @@
 // The front door: each call of the library for callers in C and in languages that call C. include/cimbrolau.h is its declaration.
 // Each function hands its parameters to the call of the same meaning and returns what that answers; a slice comes as a pointer and a length.
+use access::Access;
 use answer::Answer;
 use numbers::Numbers;
 use numbers::Told;
@@ -15,6 +16,9 @@ ghost use Rattle.messages.specs.Reading.{readMessage, reading};
 ghost use Rattle.numbers.specs.Numbers.{told, writeNumbers};
 ghost use Rattle.region.specs.Region.{regionChecks};
 ghost use Rattle.region.specs.Report.{asCursors, reportCall};
+ghost use Rattle.access.specs.Access.{accessOf};
+ghost use Rattle.fields.specs.declared.State.the-variants.{Cpu, Mmu};
+ghost use Rattle.fields.specs.Fields.{fieldCall, setCall, Changes};
 ghost use Rattle.rings.specs.Calls.{asAnswer, asPair, asRecord, Leaves, reserveCall, fillCall, commitCall, takeCall};
 
 // ---- snapshot files
@@ -181,4 +185,61 @@ pub extern "C" fn cimbrolau_ring_take(region: &mut [u8], queue: u32) -> Record
     ensures { λ r. ⌜ Leaves asRecord (takeCall (now (region .entry)) queue) (now (region .entry)) r (now (region .exit)) ⌝ }
 {
     rings::take(region, queue)
+}
+
+// ---- register sheets
+
+#[no_mangle]
+pub extern "C" fn cimbrolau_cpu_field(
+    state: &[u8],
+    field: u32,
+    index: u32,
+    out: &mut [u8],
+) -> Answer
+    ensures { λ r. ⌜ Writes (fieldCall Cpu (length (now (out .entry))) (now (state .entry)) field index) (now (out .entry)) r (now (out .exit)) ⌝ }
+{
+    fields::cpu_field(state, field, index, out)
+}
+
+#[no_mangle]
+pub extern "C" fn cimbrolau_mmu_field(
+    state: &[u8],
+    field: u32,
+    index: u32,
+    out: &mut [u8],
+) -> Answer
+    ensures { λ r. ⌜ Writes (fieldCall Mmu (length (now (out .entry))) (now (state .entry)) field index) (now (out .entry)) r (now (out .exit)) ⌝ }
+{
+    fields::mmu_field(state, field, index, out)
+}
+
+#[no_mangle]
+pub extern "C" fn cimbrolau_cpu_set(
+    state: &mut [u8],
+    field: u32,
+    index: u32,
+    value: &[u8],
+) -> Answer
+    ensures { λ r. ⌜ Changes (length (now (value .entry))) (setCall Cpu (now (state .entry)) field index (now (value .entry))) (now (state .entry)) r (now (state .exit)) ⌝ }
+{
+    fields::cpu_set(state, field, index, value)
+}
+
+#[no_mangle]
+pub extern "C" fn cimbrolau_mmu_set(
+    state: &mut [u8],
+    field: u32,
+    index: u32,
+    value: &[u8],
+) -> Answer
+    ensures { λ r. ⌜ Changes (length (now (value .entry))) (setCall Mmu (now (state .entry)) field index (now (value .entry))) (now (state .entry)) r (now (state .exit)) ⌝ }
+{
+    fields::mmu_set(state, field, index, value)
+}
+
+#[no_mangle]
+pub extern "C" fn cimbrolau_access(word: u32) -> Access
+    ensures { λ r. ⌜ r ≡ accessOf word ⌝ }
+{
+    access::parts(word)
 }

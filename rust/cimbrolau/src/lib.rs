@@ -24,6 +24,7 @@
 //! - [`wrapper`][]: disk-controller wrappers
 //! - [`Message`][]: messages
 //! - [`region`][]: regions of shared memory, and the rings in them
+//! - [`sheet`][]: the fields of CPU and MMU states
 //! - [`raw`][]: the calls as the library has them, over lent buffers
 
 #![deny(missing_docs)]
@@ -35,6 +36,7 @@ pub mod raw;
 mod records;
 mod refusal;
 pub mod region;
+pub mod sheet;
 pub mod snapshot;
 pub mod wrapper;
 

@@ -44,6 +44,28 @@ pub struct Numbers {
     pub data_length: u64,
 }
 
+/// The parts of a segment's access word; the word is their sum, each at its place.
+#[repr(C)]
+#[derive(Clone, Copy, Debug, PartialEq, Eq)]
+pub struct Access {
+    /// Bits 0 to 3: the type.
+    pub kind: u32,
+    /// Bits 5 and 6: the privilege level.
+    pub level: u32,
+    /// Bit 7.
+    pub present: u32,
+    /// Bit 13: a 64-bit code segment.
+    pub long_mode: u32,
+    /// Bit 14: the default size.
+    pub size: u32,
+    /// Bit 15.
+    pub granularity: u32,
+    /// Bit 16.
+    pub unusable: u32,
+    /// All other bits, where they stand in the word.
+    pub rest: u32,
+}
+
 /// What a report of a ring answers: its cursors, signed, as hosts show them.
 #[repr(C)]
 #[must_use]
@@ -98,9 +120,42 @@ const _: () = assert!(size_of::<Record>() == 32);
 
 /// The library's own functions. A slice is lent as a pointer and a length, for the time of the call.
 mod c {
-    use super::{Answer, Cursors, Numbers, Pair, Record};
+    use super::{Access, Answer, Cursors, Numbers, Pair, Record};
 
     extern "C" {
+        pub fn cimbrolau_cpu_field(
+            state: *const u8,
+            state_length: usize,
+            field: u32,
+            index: u32,
+            out: *mut u8,
+            out_length: usize,
+        ) -> Answer;
+        pub fn cimbrolau_mmu_field(
+            state: *const u8,
+            state_length: usize,
+            field: u32,
+            index: u32,
+            out: *mut u8,
+            out_length: usize,
+        ) -> Answer;
+        pub fn cimbrolau_cpu_set(
+            state: *mut u8,
+            state_length: usize,
+            field: u32,
+            index: u32,
+            value: *const u8,
+            value_length: usize,
+        ) -> Answer;
+        pub fn cimbrolau_mmu_set(
+            state: *mut u8,
+            state_length: usize,
+            field: u32,
+            index: u32,
+            value: *const u8,
+            value_length: usize,
+        ) -> Answer;
+        pub fn cimbrolau_access(word: u32) -> Access;
         pub fn cimbrolau_check(file: *const u8, file_length: usize) -> Answer;
         pub fn cimbrolau_sections(
             file: *const u8,
@@ -508,4 +563,108 @@ pub fn ring_take(region: &mut [u8], queue: u32) -> Record {
     // SAFETY: the pointer and the length are of one live slice, within which the library reads and writes during the call
     // alone, and which no other reference names.
     unsafe { c::cimbrolau_ring_take(region.as_mut_ptr(), region.len(), queue) }
+}
+
+/// The bytes of a field of a CPU state of version 2 into `out`, by the field's number and its index.
+///
+/// ```
+/// let state = [0; 1183];
+/// let mut out = [0; 8];
+/// assert_eq!(cimbrolau::raw::cpu_field(&state, 0, 15, &mut out).place, 8); // R15
+/// assert_eq!(cimbrolau::raw::cpu_field(&state, 0, 16, &mut out).number, 11); // SHAPE: there is none
+/// ```
+pub fn cpu_field(state: &[u8], field: u32, index: u32, out: &mut [u8]) -> Answer {
+    // SAFETY: each pointer and length are of one live slice; the library reads `state` and writes within `out`, which no
+    // other reference names, during the call alone.
+    unsafe {
+        c::cimbrolau_cpu_field(
+            state.as_ptr(),
+            state.len(),
+            field,
+            index,
+            out.as_mut_ptr(),
+            out.len(),
+        )
+    }
+}
+
+/// A field of a CPU state of version 2 set in place, if the state as it would be is accepted.
+///
+/// ```
+/// let mut state = [0; 1183];
+/// let answer = cimbrolau::raw::cpu_set(&mut state, 0, 1, &[1, 2, 3, 4, 5, 6, 7, 8]);
+/// assert_eq!((answer.number, answer.place), (0, 8));
+/// assert_eq!(state[8..16], [1, 2, 3, 4, 5, 6, 7, 8]);
+/// ```
+pub fn cpu_set(state: &mut [u8], field: u32, index: u32, value: &[u8]) -> Answer {
+    // SAFETY: each pointer and length are of one live slice; the library reads `value` and reads and writes within
+    // `state`, which no other reference names, during the call alone.
+    unsafe {
+        c::cimbrolau_cpu_set(
+            state.as_mut_ptr(),
+            state.len(),
+            field,
+            index,
+            value.as_ptr(),
+            value.len(),
+        )
+    }
+}
+
+/// The bytes of a field of a MMU state of version 2 into `out`, by the field's number and its index.
+///
+/// ```
+/// let state = [0; 264];
+/// let mut out = [0; 8];
+/// assert_eq!(cimbrolau::raw::mmu_field(&state, 0, 4, &mut out).place, 8); // CR8
+/// assert_eq!(cimbrolau::raw::mmu_field(&state, 0, 5, &mut out).number, 11); // SHAPE: there is none
+/// ```
+pub fn mmu_field(state: &[u8], field: u32, index: u32, out: &mut [u8]) -> Answer {
+    // SAFETY: each pointer and length are of one live slice; the library reads `state` and writes within `out`, which no
+    // other reference names, during the call alone.
+    unsafe {
+        c::cimbrolau_mmu_field(
+            state.as_ptr(),
+            state.len(),
+            field,
+            index,
+            out.as_mut_ptr(),
+            out.len(),
+        )
+    }
+}
+
+/// A field of a MMU state of version 2 set in place, if the state as it would be is accepted.
+///
+/// ```
+/// let mut state = [0; 264];
+/// let answer = cimbrolau::raw::mmu_set(&mut state, 0, 1, &[1, 2, 3, 4, 5, 6, 7, 8]);
+/// assert_eq!((answer.number, answer.place), (0, 8));
+/// assert_eq!(state[8..16], [1, 2, 3, 4, 5, 6, 7, 8]);
+/// ```
+pub fn mmu_set(state: &mut [u8], field: u32, index: u32, value: &[u8]) -> Answer {
+    // SAFETY: each pointer and length are of one live slice; the library reads `value` and reads and writes within
+    // `state`, which no other reference names, during the call alone.
+    unsafe {
+        c::cimbrolau_mmu_set(
+            state.as_mut_ptr(),
+            state.len(),
+            field,
+            index,
+            value.as_ptr(),
+            value.len(),
+        )
+    }
+}
+
+/// The parts of a segment's access word.
+///
+/// ```
+/// let parts = cimbrolau::raw::access(0xA09B);
+/// assert_eq!((parts.kind, parts.level, parts.present, parts.long_mode), (11, 0, 1, 1));
+/// assert_eq!((parts.size, parts.granularity, parts.unusable, parts.rest), (0, 1, 0, 16));
+/// ```
+pub fn access(word: u32) -> Access {
+    // SAFETY: a number goes in and numbers come out.
+    unsafe { c::cimbrolau_access(word) }
 }

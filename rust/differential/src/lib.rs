@@ -9,7 +9,7 @@
 //! - [`make`]: valid files and wrappers, [`regions`]: valid regions, [`text`]: valid and broken UTF-8,
 //!   [`damage`]: faults in them;
 //! - [`compare`]: one input given to both, and what is compared; [`rings`]: the same for calls that change a
-//!   region in place; [`counts`]: how often each number was answered.
+//!   region in place, [`sheets`]: for fields of states; [`counts`]: how often each number was answered.
 //!
 //! The inputs themselves stand in `tests/differential`, a module for each format.
 
@@ -21,4 +21,5 @@ pub mod make;
 pub mod random;
 pub mod regions;
 pub mod rings;
+pub mod sheets;
 pub mod text;

@@ -1,7 +1,7 @@
 //! The library's calls, with the reference's signatures. No other module names the library.
 
 use cimbrolau::raw;
-use reference::{Answer, Cursors, Pair, Reading, Record};
+use reference::{Access, Answer, Cursors, Pair, Reading, Record};
 
 use crate::rings::RingCalls;
 
@@ -124,5 +124,37 @@ fn ring_take(region: &mut [u8], queue: u32) -> Record {
         place: given.place,
         payload_place: given.payload_place,
         payload_length: given.payload_length,
+    }
+}
+
+// ---- sheets
+
+pub fn cpu_field(state: &[u8], field: u32, index: u32, out: &mut [u8]) -> Answer {
+    answer!(raw::cpu_field(state, field, index, out))
+}
+
+pub fn mmu_field(state: &[u8], field: u32, index: u32, out: &mut [u8]) -> Answer {
+    answer!(raw::mmu_field(state, field, index, out))
+}
+
+pub fn cpu_set(state: &mut [u8], field: u32, index: u32, value: &[u8]) -> Answer {
+    answer!(raw::cpu_set(state, field, index, value))
+}
+
+pub fn mmu_set(state: &mut [u8], field: u32, index: u32, value: &[u8]) -> Answer {
+    answer!(raw::mmu_set(state, field, index, value))
+}
+
+pub fn access(word: u32) -> Access {
+    let given = raw::access(word);
+    Access {
+        kind: given.kind,
+        level: given.level,
+        present: given.present,
+        long_mode: given.long_mode,
+        size: given.size,
+        granularity: given.granularity,
+        unusable: given.unusable,
+        rest: given.rest,
     }
 }

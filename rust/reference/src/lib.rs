@@ -8,13 +8,15 @@
 //! - [`cursor`]: fields read one after the other, and bytes written one after the other;
 //! - [`list`]: the lists of devices, disks, CPUs, MMUs and controllers;
 //! - [`snapshot`], [`wrapper`], [`message`]: the three formats and their calls;
-//! - [`ring`]: regions of shared memory and the rings in them.
+//! - [`ring`]: regions of shared memory and the rings in them;
+//! - [`sheet`]: the fields of CPU and MMU states.
 
 pub mod answer;
 pub mod cursor;
 pub mod list;
 pub mod message;
 pub mod ring;
+pub mod sheet;
 pub mod snapshot;
 pub mod wrapper;
 
@@ -24,5 +26,6 @@ pub use ring::{
     region_check, ring_commit, ring_fill, ring_report, ring_reserve, ring_take, Cursors, Pair,
     Record,
 };
+pub use sheet::{access, cpu_field, cpu_set, mmu_field, mmu_set, Access};
 pub use snapshot::{add_device, add_disk, canonical, check, devices, disks, sections};
 pub use wrapper::{controllers, wrapper_canonical, wrapper_check};

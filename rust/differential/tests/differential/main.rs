@@ -11,6 +11,7 @@ mod bounds;
 mod breaks;
 mod messages;
 mod rings;
+mod sheets;
 mod snapshots;
 mod wrappers;
 
@@ -69,6 +70,12 @@ const GROUPS: &[Group] = &[
     ("rings: every record taken", rings::takes),
     ("rings: lives beside a queue of messages", rings::lives),
     ("rings: lives without order", rings::wild_lives),
+    ("sheets: every field and index", sheets::every_field),
+    ("sheets: every listed byte at every value", sheets::every_value),
+    ("sheets: every length", sheets::every_length),
+    ("sheets: every width", sheets::every_width),
+    ("sheets: at random", sheets::random),
+    ("sheets: access words", sheets::access_words),
 ];
 
 fn main() {

@@ -1,0 +1,301 @@
+-- Request 6: fields read and set, sheets read and written back, the access word.
+-- Assumes nothing.
+use mathlib.Core.Path.{_≡_, refl, sym, ap, _∙_, subst}
+use mathlib.Core.Logic.{_↔_, _⊎_, inl, inr}
+use mathlib.Core.Bool.{Bool, true, false, _&&_, cond}
+use mathlib.Core.List.{List, [], _∷_, _++_}
+use Prim.Native.Nat.{ℕ, _+_, _*_, _≤_, _<_}
+use native.Mathlib.Omega.{arith}
+use lib.Dec.{leb, ltb, eqb}
+use lib.ListN.{length, take, drop, getD, length-drop}
+use lib.Seq.{length-take-le}
+use borrow.Author.Tests.{leb-true, leb-false, le-leb, lt-ltb, eq-eqb, eqb-true}
+use Rattle.answer.specs.declared.Answer.{Answer}
+use Rattle.answer.specs.Numbers.{SHAPE, VALUE, isAmong}
+use Rattle.answer.specs.Outcome.{Outcome, taken, refused, Checks, checked, Pass, First, room, fitting}
+use Rattle.answer.specs.Calls.{asked}
+use Rattle.answer.proofs.Checks.{pass-checked, checked-pass, checked-append, asked-pass, and-true}
+use Rattle.answer.proofs.Outcomes.{taken-is, taken-refused}
+use Rattle.answer.proofs.Firsts.{checked-first}
+use Rattle.wire.specs.Numbers.{Bytes}
+use Rattle.wire.specs.Parts.{splice}
+use Rattle.wire.proofs.Parts.{length-splice}
+use Rattle.access.specs.declared.Access.{Access}
+use Rattle.access.specs.Access.{wordOf, accessOf, Shows}
+use Rattle.access.proofs.Masks.{shows}
+use Rattle.fields.specs.declared.State.{State}
+use Rattle.fields.specs.declared.State.the-variants.{Cpu, Mmu}
+use Rattle.fields.specs.declared.Row.{Row}
+use Rattle.fields.specs.Layout.{rowAt}
+use Rattle.fields.specs.Fields.{lengths, listed, valueChecks, stateChecks, placeOf, hasIn, bytesAt, fieldChecks, fieldCall, setTo, setChecks, setCall, changed, Changes}
+use Rattle.fields.proofs.Bytes.{before, behind, read-back}
+use Rattle.fields.proofs.Splices.{splice-back}
+use Rattle.fields.proofs.Outcomes.{set-tried}
+use Rattle.sheet.specs.declared.CpuSheet.{CpuSheet}
+use Rattle.sheet.specs.declared.MmuSheet.{MmuSheet}
+use Rattle.sheet.specs.declared.CpuShown.{CpuShown}
+use Rattle.sheet.specs.declared.MmuShown.{MmuShown}
+use Rattle.sheet.specs.Sheet.{cpuOf, cpuOver, mmuOf, mmuOver}
+use Rattle.sheet.specs.Members.{cpuMember, mmuMember}
+use Rattle.sheet.specs.Calls.{matches, cpuCount, cpuShown, mmuShown, cpuCall, mmuCall, cpuOverChecks, cpuOverCall, mmuOverCall}
+use Rattle.sheet.proofs.Back.{cpu-same, mmu-same}
+use Rattle.sheet.proofs.Ties.{cpu-ties, mmu-ties}
+use Rattle.sheet.proofs.Answers.{cpu-between}
+use Rattle.demands.specs.Sheet as stated
+use Rattle.demands.specs.Sheet.{Accepted, Has}
+
+-- ---- states that are accepted
+
+accept-pass : (k : State) (s : List ℕ) → Accepted k s → Pass (stateChecks k s)
+accept-pass k s e = asked-pass (stateChecks k s) (sym e)
+
+pass-accept : (k : State) (s : List ℕ) → Pass (stateChecks k s) → Accepted k s
+pass-accept k s h = pass-checked (stateChecks k s) (taken tt) h
+
+right : (k : State) (s : List ℕ) → Accepted k s → lengths k (length s) ≡ true
+unfolding stateChecks
+right k s e = accept-pass k s e .0
+
+-- a field that a state has lies within it
+within : (r : Row) (i len : ℕ) → hasIn r i len ≡ true → placeOf r i + r .width ≤ len
+within r i len h = leb-true (placeOf r i + r .width) len (and-true (ltb i (r .count)) (leb (placeOf r i + r .width) len) h .1)
+
+wide : (r : Row) (i : ℕ) (s : List ℕ) → hasIn r i (length s) ≡ true → length (bytesAt r i s) ≡ r .width
+wide r i s h =
+    let g = within r i (length s) h in
+    length-take-le (r .width) (drop (placeOf r i) s) (rw (length-drop) (omega (arith, g)))
+
+-- ---- reading
+
+module _ (k : State) (n i : ℕ) (s : List ℕ) where
+  has-of : Pass (fieldChecks k (rowAt k n) i s) → Has k n i s
+  unfolding fieldChecks
+  has-of h = h .1 .0
+
+  accepted-of : Pass (fieldChecks k (rowAt k n) i s) → Accepted k s
+  unfolding fieldChecks stateChecks
+  accepted-of h = pass-accept k s (h .0, h .1 .1)
+
+  checks-of : Accepted k s → Has k n i s → Pass (fieldChecks k (rowAt k n) i s)
+  unfolding fieldChecks stateChecks
+  checks-of a h = let p = accept-pass k s a in (p .0, (h, p .1))
+
+  -- what is read of an accepted state that has the field
+  reads : (have : ℕ) → Accepted k s → Has k n i s → fieldCall k have s n i ≡ fitting have (bytesAt (rowAt k n) i s)
+  unfolding fieldCall
+  reads have a h = pass-checked (fieldChecks k (rowAt k n) i s) (fitting have (bytesAt (rowAt k n) i s)) (checks-of a h)
+
+  read-to : (have : ℕ) (x : List ℕ) → fieldCall k have s n i ≡ taken x → Accepted k s × Has k n i s × (length x ≤ have) × (x ≡ bytesAt (rowAt k n) i s)
+  unfolding fieldCall
+  read-to have x e =
+      let b = bytesAt (rowAt k n) i s in
+      let p = checked-pass (fieldChecks k (rowAt k n) i s) (fitting have b) x e in
+      let q = checked-pass (room have (length b)) (taken b) x (p .1) in
+      let same : b ≡ x = taken-is (q .1) in
+      (accepted-of (p .0), has-of (p .0), subst (λ (l : List ℕ). length l ≤ have) same (leb-true (length b) have (q .0 .0)), sym same)
+
+  read-from : (have : ℕ) (x : List ℕ) → Accepted k s × Has k n i s × (length x ≤ have) × (x ≡ bytesAt (rowAt k n) i s) → fieldCall k have s n i ≡ taken x
+  read-from have x h =
+      let b = bytesAt (rowAt k n) i s in
+      let g : length b ≤ have = subst (λ (l : List ℕ). length l ≤ have) (h .3) (h .2) in
+      reads have (h .0) (h .1) ∙ pass-checked (room have (length b)) (taken b) (le-leb (length b) have g, tt) ∙ ap taken (sym (h .3))
+
+  read-refuses : (have m p : ℕ) → (fieldCall k have s n i ≡ refused m p) ↔ First (fieldChecks k (rowAt k n) i s ++ room have (length (bytesAt (rowAt k n) i s))) m p
+  unfolding fieldCall
+  read-refuses have m p =
+      let b = bytesAt (rowAt k n) i s in
+      let e = checked-append (fieldChecks k (rowAt k n) i s) (room have (length b)) (taken b) in
+      let f = checked-first (fieldChecks k (rowAt k n) i s ++ room have (length b)) b m p in
+      ((λ g. f .0 (e ∙ g)), (λ g. sym e ∙ f .1 g))
+
+-- ---- setting
+
+module _ (k : State) (n i : ℕ) (v s : List ℕ) where
+  abbrev r : Row
+  r = rowAt k n
+
+  set-length : Has k n i s → length v ≡ r .width → length (setTo r i v s) ≡ length s
+  set-length h w = let g = within r i (length s) h in length-splice (placeOf r i) v s (omega (arith, g, w))
+
+  set-to : (t : List ℕ) → setCall k s n i v ≡ taken t → Has k n i s × (length v ≡ r .width) × Accepted k t × (t ≡ setTo r i v s)
+  unfolding setCall setChecks
+  set-to t e =
+      let q = checked-pass (setChecks k r i v s) (taken (setTo r i v s)) t e in
+      let p = q .0 in
+      let same : setTo r i v s ≡ t = taken-is (q .1) in
+      let w : length v ≡ r .width = eqb-true (length v) (r .width) (p .1 .1 .0) in
+      let g = within r i (length s) (p .1 .0) in
+      let a : Accepted k (setTo r i v s) = sym (set-tried k r i v s (taken tt) (p .0) (p .1 .0) (p .1 .1 .0) (omega (arith, g, w))) ∙ pass-checked (setChecks k r i v s) (taken tt) p in
+      (p .1 .0, w, subst (λ (l : List ℕ). Accepted k l) same a, sym same)
+
+  set-from : (t : List ℕ) → Has k n i s × (length v ≡ r .width) × Accepted k t × (t ≡ setTo r i v s) → setCall k s n i v ≡ taken t
+  unfolding setCall
+  set-from t h =
+      let new = setTo r i v s in
+      let a : Accepted k new = subst (λ (l : List ℕ). Accepted k l) (h .3) (h .2) in
+      let g = within r i (length s) (h .0) in
+      let long : lengths k (length s) ≡ true = subst (λ (m : ℕ). lengths k m ≡ true) (set-length (h .0) (h .1)) (right k new a) in
+      set-tried k r i v s (taken new) long (h .0) (eq-eqb (length v) (r .width) (h .1)) (omega (arith, g, h .1)) ∙ pass-checked (stateChecks k new) (taken new) (accept-pass k new a) ∙ ap taken (sym (h .3))
+
+  set-refuses : (m p : ℕ) → (setCall k s n i v ≡ refused m p) ↔ First (setChecks k r i v s) m p
+  unfolding setCall
+  set-refuses m p = checked-first (setChecks k r i v s) (setTo r i v s) m p
+
+  set-only : (new : List ℕ) (a : Answer) → Changes (length v) (setCall k s n i v) s a new
+      → (length new ≡ length s) × ((j : ℕ) → (j < placeOf r i) ⊎ (placeOf r i + r .width ≤ j) → getD new j 0 ≡ getD s j 0)
+  set-only new a c = go (setCall k s n i v) refl (c .leaves)
+    where
+      go : (o : Outcome (List ℕ)) → setCall k s n i v ≡ o → new ≡ changed o s → (length new ≡ length s) × ((j : ℕ) → (j < placeOf r i) ⊎ (placeOf r i + r .width ≤ j) → getD new j 0 ≡ getD s j 0)
+      go (taken t) e f =
+          let q = set-to t e in
+          let is : new ≡ setTo r i v s = f ∙ q .3 in
+          let g = within r i (length s) (q .0) in
+          let fits : placeOf r i + length v ≤ length s = omega (arith, g, q .1) in
+          (ap length is ∙ set-length (q .0) (q .1), λ j side. ap (λ (l : List ℕ). getD l j 0) is ∙ outside fits (q .1) j side)
+        where
+          outside : placeOf r i + length v ≤ length s → length v ≡ r .width → (j : ℕ) → (j < placeOf r i) ⊎ (placeOf r i + r .width ≤ j) → getD (setTo r i v s) j 0 ≡ getD s j 0
+          outside fits w j (inl h) = before (placeOf r i) v s fits j h
+          outside fits w j (inr h) = behind (placeOf r i) v s fits j (omega (arith, w))
+      go (refused m p) e f = (ap length f, λ j side. ap (λ (l : List ℕ). getD l j 0) f)
+
+  set-back : (have : ℕ) (t : List ℕ) → setCall k s n i v ≡ taken t → fieldCall k have t n i ≡ fitting have v
+  set-back have t e =
+      let q = set-to t e in
+      let g = within r i (length s) (q .0) in
+      let fits : placeOf r i + length v ≤ length s = omega (arith, g, q .1) in
+      let long : length t ≡ length s = ap length (q .3) ∙ set-length (q .0) (q .1) in
+      let h : Has k n i t = subst (λ (m : ℕ). hasIn r i m ≡ true) (sym long) (q .0) in
+      let b : bytesAt r i t ≡ v = ap (λ (l : List ℕ). take (r .width) (drop (placeOf r i) l)) (q .3) ∙ ap (λ (w : ℕ). take w (drop (placeOf r i) (setTo r i v s))) (sym (q .1)) ∙ read-back (placeOf r i) v s fits in
+      reads k n i t have (q .2) h ∙ ap (fitting have) b
+
+set-same : (k : State) (n i have : ℕ) (v s : List ℕ) → fieldCall k have s n i ≡ taken v → setCall k s n i v ≡ taken s
+set-same k n i have v s e =
+    let r = rowAt k n in
+    let q = read-to k n i s have v e in
+    let g = within r i (length s) (q .1) in
+    let w : length v ≡ r .width = ap length (q .3) ∙ wide r i s (q .1) in
+    let is : s ≡ setTo r i v s = sym (ap (λ (l : List ℕ). setTo r i l s) (q .3) ∙ splice-back (placeOf r i) (r .width) s g) in
+    set-from k n i v s s (q .1, w, q .0, is)
+
+-- ---- the numbers of a refused set
+
+abbrev OfSets : ℕ → Type 0
+OfSets m = isAmong (SHAPE ∷ VALUE ∷ []) m ≡ true
+
+abbrev All : Checks → Type 0
+All [] = Unit {0}
+All (c ∷ l) = OfSets (c .1) × All l
+
+all-values : (l : List (ℕ × ℕ × ℕ × ℕ)) (s : List ℕ) → All (valueChecks l s)
+all-values [] s = tt
+all-values (x ∷ l) s = (refl, all-values l s)
+
+number-of : {A : Type 0} (l : Checks) (a : A) (m p : ℕ) → All l → checked l (taken a) ≡ refused m p → OfSets m
+number-of [] a m p h e = absurd (taken-refused e)
+number-of {A} (c ∷ l) a m p h e = go (c .0) e (number-of l a m p (h .1))
+  where
+    go : (b : Bool) → _≡_ {A = Outcome A} (elim b [ true ↦ checked l (taken a) | false ↦ refused (c .1) (c .2) ]) (refused m p) → (checked l (taken a) ≡ refused m p → OfSets m) → OfSets m
+    go true e next = next e
+    go false e next = let z : c .1 ≡ m = cc in subst OfSets z (h .0)
+
+set-numbers : (k : State) (n i : ℕ) (v s : List ℕ) (m p : ℕ) → setCall k s n i v ≡ refused m p → OfSets m
+unfolding setCall setChecks
+set-numbers k n i v s m p e = number-of (setChecks k (rowAt k n) i v s) (setTo (rowAt k n) i v s) m p (refl, (refl, (refl, all-values (listed k (length s)) (setTo (rowAt k n) i v s)))) e
+
+-- ---- sheets
+
+cpu-to : (s : List ℕ) (c : CpuSheet) → cpuCall s ≡ taken c → Accepted Cpu s × (c ≡ cpuOf s)
+unfolding cpuCall
+cpu-to s c e = let q = checked-pass (stateChecks Cpu s) (taken (cpuOf s)) c e in (pass-accept Cpu s (q .0), sym (taken-is (q .1)))
+
+cpu-from : (s : List ℕ) (c : CpuSheet) → Accepted Cpu s × (c ≡ cpuOf s) → cpuCall s ≡ taken c
+unfolding cpuCall
+cpu-from s c h = pass-checked (stateChecks Cpu s) (taken (cpuOf s)) (accept-pass Cpu s (h .0)) ∙ ap taken (sym (h .1))
+
+cpu-refuses : (s : List ℕ) (m p : ℕ) → (cpuCall s ≡ refused m p) ↔ First (stateChecks Cpu s) m p
+unfolding cpuCall
+cpu-refuses s m p = checked-first (stateChecks Cpu s) (cpuOf s) m p
+
+cpu-members : (s : List ℕ) (c : CpuSheet) → Bytes s → cpuCall s ≡ taken c → (have n i : ℕ) → Has Cpu n i s → fieldCall Cpu have s n i ≡ fitting have (cpuMember c n i)
+cpu-members s c b e have n i h =
+    let q = cpu-to s c e in
+    reads Cpu n i s have (q .0) h ∙ ap (fitting have) (sym (cpu-ties s b n i h) ∙ ap (λ (x : CpuSheet). cpuMember x n i) (sym (q .1)))
+
+matches-self : (len : ℕ) (t : Bool) → leb 1191 len ≡ t → cond t (leb 1191 len) (ltb len 1191) ≡ true
+matches-self len true e = e
+matches-self len false e = lt-ltb len 1191 (leb-false 1191 len e)
+
+cpu-back-is : (s : List ℕ) → Bytes s → Accepted Cpu s → cpuOverCall (cpuOf s) s ≡ taken s
+unfolding cpuOverCall cpuOverChecks stateChecks
+cpu-back-is s b a =
+    let p = accept-pass Cpu s a in
+    let same = cpu-same s b (cpu-between (length s) (p .0) .least) in
+    let m : matches (cpuOf s .extension) (length s) ≡ true = matches-self (length s) (leb 1191 (length s)) refl in
+    pass-checked (cpuOverChecks (cpuOf s) s) (taken (cpuOver (cpuOf s) s)) (p .0, (m, subst (λ (l : List ℕ). Pass (valueChecks (listed Cpu (length s)) l)) (sym same) (p .1))) ∙ ap taken same
+
+cpu-back : (s new : List ℕ) (x : CpuShown) (r : Answer) → Bytes s → Accepted Cpu s → x ≡ cpuShown (cpuCall s) → Changes (cpuCount (length s)) (cpuOverCall (x .sheet) s) s r new → (r .number ≡ 0) × (new ≡ s)
+cpu-back s new x r b a e c =
+    let shown : x .sheet ≡ cpuOf s = ap (λ (y : CpuShown). y .sheet) (e ∙ ap cpuShown (cpu-from s (cpuOf s) (a, refl))) in
+    let o : cpuOverCall (x .sheet) s ≡ taken s = ap (λ (y : CpuSheet). cpuOverCall y s) shown ∙ cpu-back-is s b a in
+    (ap (λ (y : Answer). y .number) (c .answers) ∙ rw o, c .leaves ∙ ap (λ (y : Outcome (List ℕ)). changed y s) o)
+
+over-to : (c : CpuSheet) (s t : List ℕ) → cpuOverCall c s ≡ taken t → Pass (cpuOverChecks c s) × (t ≡ cpuOver c s)
+unfolding cpuOverCall
+over-to c s t e = let q = checked-pass (cpuOverChecks c s) (taken (cpuOver c s)) t e in (q .0, sym (taken-is (q .1)))
+
+over-from : (c : CpuSheet) (s t : List ℕ) → Pass (cpuOverChecks c s) × (t ≡ cpuOver c s) → cpuOverCall c s ≡ taken t
+unfolding cpuOverCall
+over-from c s t h = pass-checked (cpuOverChecks c s) (taken (cpuOver c s)) (h .0) ∙ ap taken (sym (h .1))
+
+over-refuses : (c : CpuSheet) (s : List ℕ) (m p : ℕ) → (cpuOverCall c s ≡ refused m p) ↔ First (cpuOverChecks c s) m p
+unfolding cpuOverCall
+over-refuses c s m p = checked-first (cpuOverChecks c s) (cpuOver c s) m p
+
+mmu-to : (s : List ℕ) (c : MmuSheet) → mmuCall s ≡ taken c → Accepted Mmu s × (c ≡ mmuOf s)
+unfolding mmuCall
+mmu-to s c e = let q = checked-pass (stateChecks Mmu s) (taken (mmuOf s)) c e in (pass-accept Mmu s (q .0), sym (taken-is (q .1)))
+
+mmu-from : (s : List ℕ) (c : MmuSheet) → Accepted Mmu s × (c ≡ mmuOf s) → mmuCall s ≡ taken c
+unfolding mmuCall
+mmu-from s c h = pass-checked (stateChecks Mmu s) (taken (mmuOf s)) (accept-pass Mmu s (h .0)) ∙ ap taken (sym (h .1))
+
+mmu-members : (s : List ℕ) (c : MmuSheet) → Bytes s → mmuCall s ≡ taken c → (have n i : ℕ) → Has Mmu n i s → fieldCall Mmu have s n i ≡ fitting have (mmuMember c n i)
+mmu-members s c b e have n i h =
+    let q = mmu-to s c e in
+    reads Mmu n i s have (q .0) h ∙ ap (fitting have) (sym (mmu-ties s b n i h) ∙ ap (λ (x : MmuSheet). mmuMember x n i) (sym (q .1)))
+
+mmu-back-is : (s : List ℕ) → Bytes s → Accepted Mmu s → mmuOverCall (mmuOf s) s ≡ taken s
+unfolding mmuOverCall
+mmu-back-is s b a = pass-checked ((lengths Mmu (length s), SHAPE, 0) ∷ []) (taken (mmuOver (mmuOf s) s)) (right Mmu s a, tt) ∙ ap taken (mmu-same s b)
+
+mmu-back : (s new : List ℕ) (x : MmuShown) (r : Answer) → Bytes s → Accepted Mmu s → x ≡ mmuShown (mmuCall s) → Changes 264 (mmuOverCall (x .sheet) s) s r new → (r .number ≡ 0) × (new ≡ s)
+mmu-back s new x r b a e c =
+    let shown : x .sheet ≡ mmuOf s = ap (λ (y : MmuShown). y .sheet) (e ∙ ap mmuShown (mmu-from s (mmuOf s) (a, refl))) in
+    let o : mmuOverCall (x .sheet) s ≡ taken s = ap (λ (y : MmuSheet). mmuOverCall y s) shown ∙ mmu-back-is s b a in
+    (ap (λ (y : Answer). y .number) (c .answers) ∙ rw o, c .leaves ∙ ap (λ (y : Outcome (List ℕ)). changed y s) o)
+
+-- ---- all of it
+
+pub sheet : stated.Sheet
+sheet = record {
+  reading = λ k. record { takes = λ have n i s x. (read-to k n i s have x, read-from k n i s have x); refuses = λ have n i s m p. read-refuses k n i s have m p };
+  setting = λ k. record {
+    takes = λ n i v s t. (set-to k n i v s t, set-from k n i v s t);
+    refuses = λ n i v s m p. set-refuses k n i v s m p;
+    numbers = λ n i v s m p e. set-numbers k n i v s m p e;
+    only = λ n i v s new r c. set-only k n i v s new r c;
+    back = λ n i have v s t e. set-back k n i v s have t e;
+    same = λ n i have v s e. set-same k n i have v s e;
+  };
+  cpu = record {
+    takes = λ s c. (cpu-to s c, cpu-from s c);
+    refuses = cpu-refuses;
+    members = cpu-members;
+    extended = λ s c e. ap (λ (x : CpuSheet). x .extension .there) (cpu-to s c e .1);
+    back = cpu-back;
+    over-takes = λ c s t. (over-to c s t, over-from c s t);
+    over-refuses = over-refuses;
+  };
+  mmu = record { takes = λ s m. (mmu-to s m, mmu-from s m); members = mmu-members; back = mmu-back };
+  access = record { shows = shows; determined = λ w v e. sym (shows w .sum) ∙ ap wordOf e ∙ shows v .sum };
+}

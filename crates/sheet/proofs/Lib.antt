@@ -1,0 +1,7 @@
+pub mod Deep
+pub mod Rows
+pub mod Arrays
+pub mod Back
+pub mod Ties
+pub mod Answers
+pub mod Once

@@ -1,0 +1,71 @@
+use Rattle.sheet.proofs.Arrays.{gather-none, gather-next, gather-all}
+use Rattle.sheet.specs.Sheet.{gather, segmentAt}
+use Rattle.wire.specs.Numbers.{leAt}
+use Prim.Native.Nat.{ℕ, _+_, _-_, _*_, _≤_}
+use lib.ListN.{length, take, length-set}
+use mathlib.Core.Path.{_≡_, refl, _∙_}
+use native.Mathlib.Omega.{arith}
+use borrow.Author.Needs.{needs}
+use Rattle.sheet.proofs.system_of.Statement.{statement}
+use Rattle.sheet.proofs.system_of.Tie as tie
+
+abbrev Inv-loop : tie.InvT-loop
+Inv-loop s a₀ i₀ a i = (i ≤ 2) × (length a ≡ 2) × (take i a ≡ gather (λ (k : ℕ). segmentAt s (k * 18 + 228)) i)
+
+abbrev μ-loop : tie.MeasureT-loop
+μ-loop s a₀ i₀ a i = 2 - i
+
+loop-holds : tie.Need-loop-holds Inv-loop μ-loop
+loop-holds c = let a = c .before .args in (omega arith, refl, gather-none (λ (k : ℕ). segmentAt (a .s .now) (k * 18 + 228)))
+
+mul-segment-at : tie.Need-mul-segment-at Inv-loop μ-loop
+mul-segment-at c = search needs
+
+add-segment-at : tie.Need-add-segment-at Inv-loop μ-loop
+add-segment-at c = search needs
+
+segment-at-requires : tie.Need-segment-at-requires Inv-loop μ-loop
+segment-at-requires c κs = search needs
+
+mul-a : tie.Need-mul-a Inv-loop μ-loop
+mul-a c = search needs
+
+array-set-from-a : tie.Need-array-set-from-a Inv-loop μ-loop
+array-set-from-a c = c .before .loop-test .taken
+
+add-i : tie.Need-add-i Inv-loop μ-loop
+add-i c = search needs
+
+loop-less : tie.Need-loop-less Inv-loop μ-loop
+loop-less c = search needs
+
+loop-again : tie.Need-loop-again Inv-loop μ-loop
+loop-again c =
+    let k = c .before .before in
+    let a = k .before .before .args in
+    let h = c .before .loop-test .taken in
+    let inv = k .loop .inv in
+    (omega (arith, h), length-set (k .loop .a) (k .loop .i) (c .segment-at .result) ∙ inv .1, gather-next (λ (k : ℕ). segmentAt (a .s .now) (k * 18 + 228)) (k .loop .i) (k .loop .a) (c .segment-at .result) (omega (arith, h, inv .1)) (inv .2) (c .segment-at .ensures))
+
+returns : tie.Need-returns Inv-loop μ-loop
+returns c =
+    let a = c .before .before .before .args in
+    let inv = c .before .loop .inv in
+    gather-all (λ (k : ℕ). segmentAt (a .s .now) (k * 18 + 228)) 2 (c .before .loop .i) (c .before .loop .a) (inv .0) (c .loop-test .left) (inv .1) (inv .2)
+
+pub system-of-spec : {M : Type 1} → statement M
+system-of-spec =
+    tie.close
+    (tie.spec
+    Inv-loop
+    μ-loop
+    loop-holds
+    mul-segment-at
+    add-segment-at
+    segment-at-requires
+    mul-a
+    array-set-from-a
+    add-i
+    loop-less
+    loop-again
+    returns)

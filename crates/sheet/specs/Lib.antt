@@ -1,0 +1,4 @@
+pub mod Vectors
+pub mod Sheet
+pub mod Members
+pub mod Calls
