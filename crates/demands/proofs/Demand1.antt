@@ -20,7 +20,8 @@ use Rattle.answer.proofs.Once.{equal-once, writes-once}
 use Rattle.order.specs.Keyed.{Every, flat, sort}
 use Rattle.order.proofs.Folds.{every-append}
 use Rattle.entries.specs.Kinds.{controllers}
-use Rattle.tables.specs.declared.Table.the-variants.{Controllers}
+use Rattle.tables.specs.declared.Table.the-variants.{Devices, Disks, Controllers}
+use Rattle.aerosnap.specs.Known.{DEVICES, DISKS}
 use Rattle.tables.specs.Tables.{rowsAt}
 use Rattle.aerosnap.specs.File.{fileOf}
 use Rattle.aerosnap.specs.Content.{Content, contentAt, render, canonical}

@@ -71,10 +71,9 @@ laid-says : (l : Fields) (q : ℕ) → fieldsLength l ≡ 24 → q < 4294967296 
 laid-says l q n h =
     let row : List ℕ = laid l (ended q) in
     let d : drop 24 row ≡ ended q = ap (λ (k : ℕ). drop k row) (sym n) ∙ drop-laid l (ended q) in
-    let g : drop 28 row ≡ bytesOf 4 0 ++ [] = sym (drop-drop 4 24 row) ∙ ap (drop 4) d ∙ past 4 q (bytesOf 4 0) ∙ sym (append-nil (bytesOf 4 0)) in
-    (
-    sym (leAt-here 4 row 24) ∙ ap (λ (t : List ℕ). leAt 4 t 0) d ∙ leAt-bytesOf 4 q (bytesOf 4 0) h,
-    sym (leAt-here 4 row 28) ∙ ap (λ (t : List ℕ). leAt 4 t 0) g ∙ leAt-bytesOf 4 0 [] (omega arith),
+    let g : drop 28 row ≡ bytesOf 4 0 ++ [] = sym (drop-drop 4 24 row) ∙ ap (drop 4) d ∙ past 4 q (bytesOf 4 0) ∙ sym (append-nil (bytesOf 4 0)) in (
+      sym (leAt-here 4 row 24) ∙ ap (λ (t : List ℕ). leAt 4 t 0) d ∙ leAt-bytesOf 4 q (bytesOf 4 0) h,
+      sym (leAt-here 4 row 28) ∙ ap (λ (t : List ℕ). leAt 4 t 0) g ∙ leAt-bytesOf 4 0 [] (omega arith),
     )
 
 -- a record says its position
