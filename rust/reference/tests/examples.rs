@@ -150,9 +150,11 @@ fn p13_addresses() {
     // Bus 1, device 0, function 0, and behind it bus 0, device 31, function 2, which is 250.
     wrapper.extend(*b"\x00\x01\0\0AHCP\x01\0\0\0\x99");
     wrapper.extend(*b"\xFA\x00\0\0IDE0\x00\0\0\0");
-    let mut table = [0; 48];
-    assert_eq!(controllers(&wrapper, &mut table), answer(0, 48));
+    let mut table = [0; 64];
+    assert_eq!(controllers(&wrapper, &mut table), answer(0, 64));
     assert_eq!(table[..8], *b"\xFA\x00\0\0IDE0");
-    assert_eq!(table[24..32], *b"\x00\x01\0\0AHCP");
-    assert_eq!(table[32..40], 32u64.to_le_bytes());
+    assert_eq!(table[24..32], 1u64.to_le_bytes());
+    assert_eq!(table[32..40], *b"\x00\x01\0\0AHCP");
+    assert_eq!(table[40..48], 32u64.to_le_bytes());
+    assert_eq!(table[56..], 0u64.to_le_bytes());
 }
