@@ -71,12 +71,14 @@ struct cimbrolau_answer {
 struct cimbrolau_answer cimbrolau_check(const uint8_t *file, size_t file_length);
 
 /*
- * Tables: records of 24 bytes with no header, all numbers little-endian, offsets counted from the start of the file.
+ * Tables: records of 32 bytes with no header, all numbers little-endian, offsets counted from the start of the file.
  * The whole file is checked first.
  *
  *   sections, in file order   u32 id, u16 version, u16 flags, u64 payload offset, u64 length
  *   devices, in key order     u32 id, u16 version, u16 flags, u64 payload offset, u64 length
  *   disks, in key order       u32 id, u32 base length, u64 base offset, u32 overlay length, u32 0
+ *
+ * and behind these 24 bytes, in each: u32 position, the number of the section in the file or of the entry in the file's own list, from 0; u32 0.
  */
 struct cimbrolau_answer cimbrolau_sections(const uint8_t *file, size_t file_length, uint8_t *table, size_t table_length);
 
@@ -100,7 +102,10 @@ struct cimbrolau_answer cimbrolau_add_disk(const uint8_t *file, size_t file_leng
 /* Whether a wrapper follows the rules. */
 struct cimbrolau_answer cimbrolau_wrapper_check(const uint8_t *wrapper, size_t wrapper_length);
 
-/* The controllers in address order: u16 address, u16 0, four tag bytes, u64 payload offset, u64 length; offsets count from the wrapper's start. */
+/*
+ * The controllers in address order, 32 bytes each: u16 address, u16 0, four tag bytes, u64 payload offset, u64 length, u32 position in the
+ * wrapper's own list, from 0, u32 0; offsets count from the wrapper's start.
+ */
 struct cimbrolau_answer cimbrolau_controllers(const uint8_t *wrapper, size_t wrapper_length, uint8_t *table, size_t table_length);
 
 /* The canonical form of a wrapper, in address order. It is as long as the wrapper. */

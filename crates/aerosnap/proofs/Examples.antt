@@ -14,7 +14,7 @@ use Rattle.lists.specs.Lists.{entryAt, walk, listAt}
 use Rattle.aerosnap.specs.Payloads.{payload}
 use Rattle.aerosnap.specs.File.{header, ruled, sectionOf, sections, fileOf}
 use Rattle.aerosnap.specs.Content.{canonical}
-use Rattle.aerosnap.specs.Tables.{placed, sectionTable, deviceTable, diskTable}
+use Rattle.aerosnap.specs.Tables.{placed, sectionRows, sectionTable, deviceTable, diskTable}
 use Rattle.aerosnap.specs.Adding.{device, addTo, addItem}
 
 abbrev u32 : ℕ → List ℕ
@@ -59,10 +59,10 @@ pub record Examples : Type 0 where
   pub P2 : fileOf (take 15 p1) ≡ refused SHORT 0
   pub P3 : fileOf (set p1 10 2) ≡ refused ENDIAN 10
   pub P4 : length p4 ≡ 71
-  pub P4-sections : sectionTable 24 p4 ≡ taken (head 4 ++ (u64 32 ++ u64 39))
-  pub P4-devices : deviceTable 48 p4 ≡ taken (head 3 ++ (u64 69 ++ (u64 2 ++ (head 14 ++ (u64 52 ++ u64 1)))))
+  pub P4-sections : sectionTable 32 p4 ≡ taken (head 4 ++ (u64 32 ++ (u64 39 ++ (u32 0 ++ u32 0))))
+  pub P4-devices : deviceTable 64 p4 ≡ taken (head 3 ++ (u64 69 ++ (u64 2 ++ (u32 1 ++ (u32 0 ++ (head 14 ++ (u64 52 ++ (u64 1 ++ (u32 0 ++ u32 0)))))))))
   pub P5 : canonical 71 p4 ≡ taken p5
-  pub P5-devices : deviceTable 48 p5 ≡ taken (head 3 ++ (u64 52 ++ (u64 2 ++ (head 14 ++ (u64 70 ++ u64 1)))))
+  pub P5-devices : deviceTable 64 p5 ≡ taken (head 3 ++ (u64 52 ++ (u64 2 ++ (u32 0 ++ (u32 0 ++ (head 14 ++ (u64 70 ++ (u64 1 ++ (u32 1 ++ u32 0)))))))))
   pub P6 : fileOf p6 ≡ refused KEY 53
   pub P7 : addItem 1000 p5 (device 3 1 0 (0xAB ∷ 0xCD ∷ [])) ≡ refused HAVE 0
   pub P8 : fileOf (set p4 24 40) ≡ refused CUT 16
@@ -70,7 +70,7 @@ pub record Examples : Type 0 where
   pub P9-canonical : canonical 16 p9 ≡ taken p1
 
 pub examples : Examples
-unfolding leAt le bytesOf insert has read values split entryAt walk listAt payload ruled sectionOf sections fileOf canonical placed addTo addItem
+unfolding leAt le bytesOf insert has read values split entryAt walk listAt payload ruled sectionOf sections fileOf canonical placed sectionRows addTo addItem
 examples = record {
   P1 = refl;
   P1-sections = refl;

@@ -1,56 +1,78 @@
 -- The tables of a file that is taken: each record names its section, its device or its disk.
 -- Assumes nothing.
 use mathlib.Core.Path.{_≡_, refl, sym, _∙_, ap}
-use mathlib.Core.List.{List, [], _∷_, _++_, append-nil, Permᴰ·refl}
+use mathlib.Core.List.{List, [], _∷_, _++_, map, append-nil, Permᴰ·refl}
 use mathlib.Core.Bool.{Bool, true, false, cond}
-use Prim.Native.Nat.{ℕ, _+_, _≤_}
+use Prim.Native.Nat.{ℕ, suc, _+_, _≤_, _<_}
 use native.Mathlib.Omega.{arith}
 use lib.ListN.{length, drop}
 use lib.Seq.{drop-drop, drop-append-le}
 use borrow.Author.Tests.{eqb-true, ne-eqb}
-use Rattle.wire.specs.Numbers.{Bytes}
-use Rattle.order.specs.Keyed.{Every, flat, keep}
+use Rattle.wire.specs.Numbers.{Bytes, leAt}
+use Rattle.order.specs.Keyed.{Every, flat, keep, sort}
 use Rattle.order.specs.Entries.{join}
 use Rattle.order.proofs.Folds.{every-imp}
 use Rattle.order.proofs.Keeps.{keep-none}
+use Rattle.order.proofs.Sorts.{asc-sort}
 use Rattle.order.proofs.Starts.{drop-past}
 use Rattle.lists.specs.Lists.{entries, IsList}
 use Rattle.lists.proofs.Taken.{list-complete}
 use Rattle.tables.specs.Tables.{described, framedRow}
 use Rattle.tables.specs.declared.Table.{Table}
-use Rattle.tables.specs.Named.{NamesFramed, Each, IsTable}
-use Rattle.tables.proofs.Named.{framed-names, table-lawful, list-table}
+use Rattle.tables.specs.declared.Table.the-variants.{Devices}
+use Rattle.tables.specs.Named.{NamesFramed, Each, positionOf, numbersFrom, InFileOrder, IsTable}
+use Rattle.tables.proofs.Positions.{asc-numbers}
+use Rattle.tables.proofs.Named.{Says, row-says, framed-names, table-lawful, list-table}
 use Rattle.aerosnap.specs.Known.{known, slot}
 use Rattle.aerosnap.specs.Payloads.{list, bodyOf}
 use Rattle.aerosnap.specs.File.{fileMost, idOf, versionOf}
 use Rattle.aerosnap.specs.Rules.{IsSection}
 use Rattle.aerosnap.specs.Content.{isId, entriesIn}
-use Rattle.aerosnap.specs.Tables.{placed, listRows}
+use Rattle.aerosnap.specs.Tables.{placed, listRows, sectionRows}
 use Rattle.aerosnap.proofs.Rows.{rows-skip, rows-here}
 use Rattle.aerosnap.proofs.Slots.{Once, first-once, rest-once}
 
--- the table of sections, one by one
-pub record SectionRows (s : List ℕ) (l : List (List ℕ)) (b : List ℕ) : Type 0 where
+-- the table of sections, one by one; the position of the first is q
+pub record SectionRows (s : List ℕ) (q : ℕ) (l : List (List ℕ)) (b : List ℕ) : Type 0 where
   pub rows : List (List ℕ)
   pub bytes : b ≡ join rows
   pub names : Each (NamesFramed s) rows l
+  pub positions : map positionOf rows ≡ numbersFrom q (length l)
+  pub nothing : Every (λ row. leAt 4 row 28 ≡ 0) rows
+
+each-length : {A B : Type 0} (R : A → B → Type 0) (l : List A) (m : List B) → Each R l m → length l ≡ length m
+each-length R [] [] h = refl
+each-length R [] (y ∷ m) h = absurd h
+each-length R (x ∷ l) [] h = absurd h
+each-length R (x ∷ l) (y ∷ m) h = ap suc (each-length R l m (h .1))
+
+-- their records say their order
+pub sections-filed : (s : List ℕ) (l : List (List ℕ)) (b : List ℕ) (v : SectionRows s 0 l b) → InFileOrder (NamesFramed s) (v .rows) l
+sections-filed s l b v =
+    let n : length (v .rows) ≡ length l = each-length (NamesFramed s) (v .rows) l (v .names) in
+    let e : sort positionOf (v .rows) ≡ v .rows = asc-sort positionOf 0 (v .rows) (asc-numbers positionOf 0 (v .rows) (v .positions ∙ ap (numbersFrom 0) (sym n))) in
+    record { positions = rw e (v .positions); names = rw e (v .names); nothing = v .nothing }
 
 module _ (s : List ℕ) (y : Bytes s) (z : length s ≤ fileMost) where
-  pub section-rows : (at : ℕ) (l : List (List ℕ)) → drop at s ≡ join l → Every IsSection l → SectionRows s l (flat (λ q. framedRow (q .0) (q .1)) (placed at l))
-  unfolding placed
-  section-rows at [] c a = record { rows = []; bytes = refl; names = tt }
-  section-rows at (e ∷ l) c a =
-      let v = section-rows (at + length e) l (drop-past s at e (join l) c) (a .1) in
+  pub section-rows : (at q : ℕ) (l : List (List ℕ)) → q + length l < 4294967296 → drop at s ≡ join l → Every IsSection l → SectionRows s q l (sectionRows at q l)
+  unfolding sectionRows numbersFrom
+  section-rows at q [] h c a = record { rows = []; bytes = refl; names = tt; positions = refl; nothing = tt }
+  section-rows at q (e ∷ l) h c a =
+      let v = section-rows (at + length e) (suc q) l (omega arith) (drop-past s at e (join l) c) (a .1) in
+      let w : Says (framedRow at q e) q = row-says Devices at q e (omega arith) in
       record {
-        rows = framedRow at e ∷ v .rows;
-        bytes = ap (λ (m : List ℕ). framedRow at e ++ m) (v .bytes);
-        names = (rw (append-nil e) at (framed-names s at e (join l) [] c y z (a .0 .whole)), v .names);
+        rows = framedRow at q e ∷ v .rows;
+        bytes = ap (λ (m : List ℕ). framedRow at q e ++ m) (v .bytes);
+        names = (rw (append-nil e) at (framed-names s at q e (join l) [] c y z (a .0 .whole)), v .names);
+        positions = cc (w .0, v .positions);
+        nothing = (w .1, v .nothing);
       }
 
   -- the table of the list with an id
   module _ (t : Table) (i : ℕ) (k : known i ≡ true) (m : (v : ℕ) → bodyOf i v ≡ list (described t)) where
     none : IsTable t s [] []
-    none = record { rows = []; order = []; bytes = refl; names = tt; once = Permᴰ·refl []; ascend = tt }
+    unfolding numbersFrom
+    none = record { rows = []; order = []; bytes = refl; names = tt; once = Permᴰ·refl []; ascend = tt; filed = record { positions = refl; names = tt; nothing = tt } }
 
     -- no other section has the id
     alone : (e : List ℕ) (l : List (List ℕ)) → Once (e ∷ l) → idOf e ≡ i → Every (λ x. isId i x ≡ false) l

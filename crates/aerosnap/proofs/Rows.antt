@@ -3,7 +3,7 @@
 use mathlib.Core.Path.{_≡_, refl, _∙_, ap}
 use mathlib.Core.List.{List, [], _∷_, _++_, append-nil}
 use mathlib.Core.Bool.{true, false, cond}
-use Prim.Native.Nat.{ℕ, _+_, _*_}
+use Prim.Native.Nat.{ℕ, suc, _+_, _*_}
 use native.Mathlib.Omega.{arith}
 use lib.ListN.{length, drop, length-append}
 use Rattle.answer.specs.Outcome.{Outcome, taken}
@@ -14,7 +14,7 @@ use Rattle.tables.specs.declared.Table.{Table}
 use Rattle.tables.specs.declared.Table.the-variants.{Devices}
 use Rattle.tables.proofs.Rows.{length-row}
 use Rattle.aerosnap.specs.Content.{isId}
-use Rattle.aerosnap.specs.Tables.{placed, listRows}
+use Rattle.aerosnap.specs.Tables.{placed, listRows, sectionRows}
 
 -- the records of the first section, and those of the others
 pub rows-first : (rows : ℕ × List ℕ → List ℕ) (at : ℕ) (e : List ℕ) (l : List (List ℕ)) → flat rows (placed at (e ∷ l)) ≡ rows (at, e) ++ flat rows (placed (at + length e) l)
@@ -26,10 +26,10 @@ unfolding placed
 rows-end rows at = refl
 
 -- the table of sections has ROW bytes for each
-pub sections-length : (at : ℕ) (l : List (List ℕ)) → length (flat (λ q. framedRow (q .0) (q .1)) (placed at l)) ≡ ROW * length l
-unfolding placed
-sections-length at [] = refl
-sections-length at (e ∷ l) = omega (arith, length-append (framedRow at e) (flat (λ q. framedRow (q .0) (q .1)) (placed (at + length e) l)), length-row Devices at e, sections-length (at + length e) l)
+pub sections-length : (at q : ℕ) (l : List (List ℕ)) → length (sectionRows at q l) ≡ ROW * length l
+unfolding sectionRows
+sections-length at q [] = refl
+sections-length at q (e ∷ l) = omega (arith, length-append (framedRow at q e) (sectionRows (at + length e) (suc q) l), length-row Devices at q e, sections-length (at + length e) (suc q) l)
 
 -- the records of a list: none of the sections with other ids, and those of the one with its id
 module _ (t : Table) (i : ℕ) where

@@ -20,11 +20,12 @@ use Rattle.answer.proofs.Once.{equal-once, writes-once}
 use Rattle.order.specs.Keyed.{Every, flat, sort}
 use Rattle.order.proofs.Folds.{every-append}
 use Rattle.entries.specs.Kinds.{controllers}
-use Rattle.tables.specs.declared.Table.the-variants.{Controllers}
+use Rattle.tables.specs.declared.Table.the-variants.{Devices, Disks, Controllers}
+use Rattle.aerosnap.specs.Known.{DEVICES, DISKS}
 use Rattle.tables.specs.Tables.{rowsAt}
 use Rattle.aerosnap.specs.File.{fileOf}
 use Rattle.aerosnap.specs.Content.{Content, contentAt, render, canonical}
-use Rattle.aerosnap.specs.Tables.{placed, table}
+use Rattle.aerosnap.specs.Tables.{placed, listRows, sectionRows, table}
 use Rattle.aerosnap.specs.Adding.{Item, device, disk, ownChecks, addChecks, withItem, addTo, addItem}
 use Rattle.aerosnap.proofs.Refusals.{Refuses, checked-refuses, after-refuses, refuses-more}
 use Rattle.aerosnap.proofs.Named.{checked-faulty, after-faulty, file-faulty, content-faulty}
@@ -188,8 +189,8 @@ fills o k = record {
 read-core : {A : Type 0} (r : Outcome A) (f : A → List ℕ) → Faulty r → Core (λ have. after r (λ a. fitting have (f a)))
 read-core r f h = record { core = after r (λ a. taken (f a)); apart = after-refuses Plain r (λ a. taken (f a)) (faulty-unroomed r h) (λ a. tt); same = λ have. sym (after-after r (λ a. taken (f a)) (fitting have)) }
 
-table-core : (rows : ℕ × List ℕ → List ℕ) (s : List ℕ) → Core (λ have. table rows have s)
-table-core rows s = read-core (fileOf s) (λ l. flat rows (placed 16 l)) (file-faulty s)
+table-core : (rows : List (List ℕ) → List ℕ) (s : List ℕ) → Core (λ have. table rows have s)
+table-core rows s = read-core (fileOf s) rows (file-faulty s)
 
 canonical-core : (s : List ℕ) → Core (λ have. canonical have s)
 unfolding canonical
@@ -272,9 +273,9 @@ numbers-core n d =
 pub demand1 : Demand1
 demand1 = record {
   check = λ file. answers (fileOf file) (file-faulty file);
-  sections = λ file. fills _ (table-core _ file);
-  devices = λ file. fills _ (table-core _ file);
-  disks = λ file. fills _ (table-core _ file);
+  sections = λ file. fills _ (table-core (sectionRows 16 0) file);
+  devices = λ file. fills _ (table-core (λ l. flat (listRows Devices DEVICES) (placed 16 l)) file);
+  disks = λ file. fills _ (table-core (λ l. flat (listRows Disks DISKS) (placed 16 l)) file);
   canonical = λ file. fills _ (canonical-core file);
   add-device = λ file id version flags payload. fills _ (add-core file (device id version flags payload));
   add-disk = λ file id base overlay. fills _ (add-core file (disk id base overlay));

@@ -19,18 +19,18 @@ use Rattle.order.specs.Keyed.{Every, flat}
 use Rattle.order.specs.Entries.{join}
 use Rattle.entries.specs.Kinds.{devices, disks, address}
 use Rattle.tables.specs.declared.Table.the-variants.{Devices, Disks, Controllers}
-use Rattle.tables.specs.Tables.{framedRow, rowsAt}
+use Rattle.tables.specs.Tables.{rowsAt}
 use Rattle.tables.specs.Named.{IsTable}
 use Rattle.tables.proofs.Named.{list-table}
 use Rattle.aerosnap.specs.Known.{DEVICES, DISKS}
 use Rattle.aerosnap.specs.File.{fileMost, fileOf}
 use Rattle.aerosnap.specs.Rules.{IsSection}
 use Rattle.aerosnap.specs.Content.{Content, contentOf, contentAt, render, entriesIn, canonical}
-use Rattle.aerosnap.specs.Tables.{placed, listRows, table}
+use Rattle.aerosnap.specs.Tables.{placed, listRows, sectionRows, table}
 use Rattle.aerosnap.specs.Adding.{Item, withItem, addItem}
 use Rattle.aerosnap.proofs.Slots.{Once}
 use Rattle.aerosnap.proofs.Taken.{file-sound, taken-exactly, file-unique}
-use Rattle.aerosnap.proofs.Records.{section-rows, list-rows}
+use Rattle.aerosnap.proofs.Records.{SectionRows, section-rows, list-rows}
 use Rattle.aerosnap.proofs.Canonical.{fits-taken, taken-fits, canonical-is, same-canonical, same-content, any-saver}
 use Rattle.aerosnap.proofs.Added.{add-exactly}
 use Rattle.aerosnap.proofs.AnyOrder.{call-gives}
@@ -93,7 +93,7 @@ files : Files
 files = record {
   exactly = taken-exactly;
   unique = file-unique;
-  tables = λ rows s. writing (fileOf s) (λ l. flat rows (placed 16 l));
+  tables = λ rows s. writing (fileOf s) rows;
   canonical = canonical-writing;
   is-canonical = is-canonical;
   same = same-canonical;
@@ -106,36 +106,41 @@ files = record {
 -- ---- tables
 
 -- a file that is taken, with its sections behind the header
-record Read (s : List ℕ) (l : List (List ℕ)) : Type 0 where
-  cut : drop 16 s ≡ join l
-  short : length s ≤ fileMost
-  are : Every IsSection l
-  once : Once l
+pub record Read (s : List ℕ) (l : List (List ℕ)) : Type 0 where
+  pub cut : drop 16 s ≡ join l
+  pub short : length s ≤ fileMost
+  pub are : Every IsSection l
+  pub once : Once l
 
-file-read : (s : List ℕ) (l : List (List ℕ)) → fileOf s ≡ taken l → Read s l
+pub file-read : (s : List ℕ) (l : List (List ℕ)) → fileOf s ≡ taken l → Read s l
 file-read s l e =
     let w = file-sound s e in
     record { cut = ap (drop 16) (w .0); short = omega (arith, ap length (w .0), w .1 .short); are = w .1 .are; once = w .1 .once }
 
 -- the records of a table that is taken
-table-rows : (rows : ℕ × List ℕ → List ℕ) (have : ℕ) (s b : List ℕ) → table rows have s ≡ taken b → (l : List (List ℕ)) × (fileOf s ≡ taken l) × (flat rows (placed 16 l) ≡ b)
+pub table-rows : (rows : List (List ℕ) → List ℕ) (have : ℕ) (s b : List ℕ) → table rows have s ≡ taken b → (l : List (List ℕ)) × (fileOf s ≡ taken l) × (rows l ≡ b)
 table-rows rows have s b h =
-    let (l, e, q) = after-taken (fileOf s) (λ l. fitting have (flat rows (placed 16 l))) h in
-    (l, e, fits-taken have (flat rows (placed 16 l)) q .1)
+    let (l, e, q) = after-taken (fileOf s) (λ l. fitting have (rows l)) h in
+    (l, e, fits-taken have (rows l) q .1)
+
+-- the table of its sections, one by one
+pub sections-named : (s b : List ℕ) → Bytes s → (l : List (List ℕ)) → fileOf s ≡ taken l → sectionRows 16 0 l ≡ b → SectionRows s 0 l b
+sections-named s b y l e q =
+    let r = file-read s l e in
+    subst (SectionRows s 0 l) q (section-rows s y (r .short) 16 0 l (omega (arith, file-sound s e .1 .few)) (r .cut) (r .are))
 
 tables : Tables
 tables = record {
   sections = λ have s b y h.
-      let (l, e, q) = table-rows (λ x. framedRow (x .0) (x .1)) have s b h in
-      let r = file-read s l e in
-      let v = section-rows s y (r .short) 16 l (r .cut) (r .are) in
-      (l, e, (v .rows, sym q ∙ v .bytes, v .names));
+      let (l, e, q) = table-rows (sectionRows 16 0) have s b h in
+      let v = sections-named s b y l e q in
+      (l, e, (v .rows, v .bytes, v .names));
   devices-are = λ have s b y h.
-      let (l, e, q) = table-rows (listRows Devices DEVICES) have s b h in
+      let (l, e, q) = table-rows (λ l. flat (listRows Devices DEVICES) (placed 16 l)) have s b h in
       let r = file-read s l e in
       (l, e, subst (IsTable Devices s (entriesIn DEVICES devices l)) q (list-rows s y (r .short) Devices DEVICES refl (λ v. refl) 16 l (r .cut) (r .are) (r .once)));
   disks-are = λ have s b y h.
-      let (l, e, q) = table-rows (listRows Disks DISKS) have s b h in
+      let (l, e, q) = table-rows (λ l. flat (listRows Disks DISKS) (placed 16 l)) have s b h in
       let r = file-read s l e in
       (l, e, subst (IsTable Disks s (entriesIn DISKS disks l)) q (list-rows s y (r .short) Disks DISKS refl (λ v. refl) 16 l (r .cut) (r .are) (r .once)));
   controllers-are = λ have s b y h.

@@ -25,7 +25,7 @@ use Rattle.aerosnap.specs.Payloads.{bodyOf, payload}
 use Rattle.aerosnap.specs.File.{header, headerChecks, idOf, versionOf, flagsOf, payloadOf, frameChecks, knownChecks}
 use Rattle.aerosnap.specs.Rules.{IsFile}
 use Rattle.aerosnap.specs.Content.{Content, contentOf, contentAt, render, tidy, isOther, entriesIn, IsCanonical}
-use Rattle.aerosnap.specs.Tables.{placed, table}
+use Rattle.aerosnap.specs.Tables.{table}
 use Rattle.aerosnap.specs.Adding.{Item, ownChecks, addChecks, withItem, addItem, Call}
 use Rattle.aerosnap.specs.Calls.{checkCall, sectionsCall, devicesCall, disksCall, canonicalCall}
 use Rattle.dskc.specs.Wrapper as wrapped
@@ -57,8 +57,8 @@ pub record Files : Type 0 where
   -- taken with certain sections exactly if it is the header and these, and they follow the rules; and no others are
   pub exactly : (s : List ℕ) (l : List (List ℕ)) → (checkCall s ≡ taken l) ↔ ((s ≡ header ++ join l) × IsFile l)
   pub unique : (l m : List (List ℕ)) → IsFile l → IsFile m → header ++ join l ≡ header ++ join m → l ≡ m
-  -- a table is the records of its sections in file order (the calls `sections`, `devices` and `disks` differ in `rows` alone)
-  pub tables : (rows : ℕ × List ℕ → List ℕ) (s : List ℕ) → Writing (checkCall s) (λ l. flat rows (placed 16 l)) (λ have. table rows have s)
+  -- a table is the records that are made of the sections (the calls `sections`, `devices` and `disks` differ in `rows` alone)
+  pub tables : (rows : List (List ℕ) → List ℕ) (s : List ℕ) → Writing (checkCall s) rows (λ have. table rows have s)
   -- the canonical form is the rendering of the content
   pub canonical : (s : List ℕ) → Writing (contentAt s) render (λ have. canonicalCall have s)
   pub is-canonical : (have : ℕ) (s b : List ℕ) → canonicalCall have s ≡ taken b → Canonical s b

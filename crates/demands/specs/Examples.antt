@@ -70,11 +70,11 @@ pub record Examples : Type 0 where
   pub P3 : checkCall (set empty 10 2) ≡ refused ENDIAN 10
   -- 71 bytes, one section of 39 bytes at 32; its devices in key order, (3,1,0) at 69 and (14,1,0) at 52
   pub P4 : length fourteenThree ≡ 71
-  pub P4-sections : sectionsCall 24 fourteenThree ≡ taken (head 4 ++ (u64 32 ++ u64 39))
-  pub P4-devices : devicesCall 48 fourteenThree ≡ taken (head 3 ++ (u64 69 ++ (u64 2 ++ (head 14 ++ (u64 52 ++ u64 1)))))
+  pub P4-sections : sectionsCall 32 fourteenThree ≡ taken (head 4 ++ (u64 32 ++ (u64 39 ++ (u32 0 ++ u32 0))))
+  pub P4-devices : devicesCall 64 fourteenThree ≡ taken (head 3 ++ (u64 69 ++ (u64 2 ++ (u32 1 ++ (u32 0 ++ (head 14 ++ (u64 52 ++ (u64 1 ++ (u32 0 ++ u32 0)))))))))
   -- canonical, (3,1,0) is first, its payload at 52 and the other's at 70
   pub P5 : canonicalCall 71 fourteenThree ≡ taken threeFourteen
-  pub P5-devices : devicesCall 48 threeFourteen ≡ taken (head 3 ++ (u64 52 ++ (u64 2 ++ (head 14 ++ (u64 70 ++ u64 1)))))
+  pub P5-devices : devicesCall 64 threeFourteen ≡ taken (head 3 ++ (u64 52 ++ (u64 2 ++ (u32 0 ++ (u32 0 ++ (head 14 ++ (u64 70 ++ (u64 1 ++ (u32 1 ++ u32 0)))))))))
   -- with both keys (3,1,0), KEY at 53
   pub P6 : checkCall (withDevices 39 (u32 2 ++ (oneByte 3 ++ twoBytes 3))) ≡ refused KEY 53
   -- adding (3,1,0) to P5 gives HAVE

@@ -33,9 +33,9 @@ pub record Examples : Type 0 where
   pub canonical : canonicalCall 47 two ≡ taken sorted
   pub again : canonicalCall 47 sorted ≡ taken sorted
   pub no-room : canonicalCall 46 two ≡ refused ROOM 47
-  pub table : controllersCall 48 two ≡ taken (
-      (250 ∷ 0 ∷ 0 ∷ 0 ∷ 65 ∷ 72 ∷ 67 ∷ 73 ∷ 45 ∷ 0 ∷ 0 ∷ 0 ∷ 0 ∷ 0 ∷ 0 ∷ 0 ∷ 2 ∷ 0 ∷ 0 ∷ 0 ∷ 0 ∷ 0 ∷ 0 ∷ 0 ∷ [])
-      ++ (0 ∷ 1 ∷ 0 ∷ 0 ∷ 73 ∷ 68 ∷ 69 ∷ 48 ∷ 32 ∷ 0 ∷ 0 ∷ 0 ∷ 0 ∷ 0 ∷ 0 ∷ 0 ∷ 1 ∷ 0 ∷ 0 ∷ 0 ∷ 0 ∷ 0 ∷ 0 ∷ 0 ∷ [])
+  pub table : controllersCall 64 two ≡ taken (
+      (250 ∷ 0 ∷ 0 ∷ 0 ∷ 65 ∷ 72 ∷ 67 ∷ 73 ∷ 45 ∷ 0 ∷ 0 ∷ 0 ∷ 0 ∷ 0 ∷ 0 ∷ 0 ∷ 2 ∷ 0 ∷ 0 ∷ 0 ∷ 0 ∷ 0 ∷ 0 ∷ 0 ∷ 1 ∷ 0 ∷ 0 ∷ 0 ∷ 0 ∷ 0 ∷ 0 ∷ 0 ∷ [])
+      ++ (0 ∷ 1 ∷ 0 ∷ 0 ∷ 73 ∷ 68 ∷ 69 ∷ 48 ∷ 32 ∷ 0 ∷ 0 ∷ 0 ∷ 0 ∷ 0 ∷ 0 ∷ 0 ∷ 1 ∷ 0 ∷ 0 ∷ 0 ∷ 0 ∷ 0 ∷ 0 ∷ 0 ∷ 0 ∷ 0 ∷ 0 ∷ 0 ∷ 0 ∷ 0 ∷ 0 ∷ 0 ∷ [])
       )
   pub none : canonicalCall 20 (header ++ (0 ∷ 0 ∷ 0 ∷ 0 ∷ [])) ≡ taken (header ++ (0 ∷ 0 ∷ 0 ∷ 0 ∷ []))
   pub short : wrapperOf (take 15 two) ≡ refused SHORT 0

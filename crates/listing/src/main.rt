@@ -23,7 +23,6 @@ fn framed(row: &[u8]) {
     number(wire::u16_at(row, 6) as u64);
     number(wire::u64_at(row, 8));
     number(wire::u64_at(row, 16));
-    end_line();
 }
 
 // The numbers of a disk: id, base offset, base length, overlay length.
@@ -32,6 +31,11 @@ fn disk(row: &[u8]) {
     number(wire::u64_at(row, 8));
     number(wire::u32_at(row, 4) as u64);
     number(wire::u32_at(row, 16) as u64);
+}
+
+// The position in the file's own list, with which the line of a device or a disk ends.
+fn position(row: &[u8]) {
+    number(wire::u32_at(row, 24) as u64);
     end_line();
 }
 
@@ -46,12 +50,17 @@ fn line(what: u8, row: &[u8]) {
     if what == DISKS {
         io::write_all(OUT, b"disk ");
         disk(row);
+        position(row);
         return;
     }
     if what == DEVICES {
         io::write_all(OUT, b"device ");
+        framed(row);
+        position(row);
+        return;
     }
     framed(row);
+    end_line();
 }
 
 // A line for each record of the first n bytes of a table.

@@ -19,19 +19,19 @@ use Rattle.wire.proofs.Calls.{writes-refused, writes-taken}
 use Rattle.order.specs.Keyed.{flat}
 use Rattle.lists.specs.Lists.{listAt, startsIn}
 use Rattle.tables.specs.declared.Table.{Table}
-use Rattle.tables.specs.Tables.{ROW, described, framedRow, rowsAt}
+use Rattle.tables.specs.Tables.{ROW, described, rowsIn, rowsAt}
 use Rattle.tables.proofs.Rows.{length-rows, rows-all}
 use Rattle.aerosnap.specs.Payloads.{list, bodyOf}
 use Rattle.aerosnap.specs.File.{idOf, versionOf, fileOf}
-use Rattle.aerosnap.specs.Tables.{placed, listRows, table, sectionTable}
+use Rattle.aerosnap.specs.Tables.{placed, listRows, sectionRows, table, sectionTable, listTable}
+use Rattle.aerosnap.proofs.Rows.{sections-length}
 use Rattle.aerosnap.proofs.Taken.{file-sound}
 use Rattle.aerosnap.proofs.Standing.{stand-start, endAt, no-section}
 use Rattle.sections.specs.Walks.{counted, sectionsIn}
 use Rattle.sections.specs.Index.{spotIn}
 use Rattle.sections.proofs.Found.{spot-stop, Sited, Here, none-there, there, made-none, made-one}
 use Rattle.sections.proofs.Reading.{starts-list, found-inside, found-starts}
-use Rattle.snapshot.specs.Walks.{sectionRows, Lists}
-use Rattle.snapshot.proofs.Walks.{length-sections}
+use Rattle.snapshot.specs.Walks.{Lists}
 
 -- ---- by the outcome of the file
 
@@ -50,25 +50,29 @@ module _ (s : List ℕ) where
   faults-fine h = sym (ap done (counted-taken (fileOf s) h .1))
 
   -- a file that is refused: nothing is written
-  pub stopped : (rows : ℕ × List ℕ → List ℕ) (old : List ℕ) {n p : ℕ} → fileOf s ≡ refused n p → Writes (table rows (length old) s) old (record { number = n; place = p }) old
-  stopped rows old h = writes-refused (ap (λ (o : Outcome (List (List ℕ))). after o (λ l. fitting (length old) (flat rows (placed 16 l)))) h)
+  pub stopped : (rows : List (List ℕ) → List ℕ) (old : List ℕ) {n p : ℕ} → fileOf s ≡ refused n p → Writes (table rows (length old) s) old (record { number = n; place = p }) old
+  stopped rows old h = writes-refused (ap (λ (o : Outcome (List (List ℕ))). after o (λ l. fitting (length old) (rows l))) h)
 
   pub sections-stop : (old : List ℕ) {n p : ℕ} → refused n p ≡ counted (fileOf s) → Writes (sectionTable (length old) s) old (record { number = n; place = p }) old
-  sections-stop old h = stopped (λ q. framedRow (q .0) (q .1)) old (made-stop (fileOf s) length h)
+  sections-stop old h = stopped (sectionRows 16 0) old (made-stop (fileOf s) length h)
 
-  pub list-stop : (t : Table) (i : ℕ) (old : List ℕ) {n p : ℕ} → refused n p ≡ spotIn i (fileOf s) → Writes (table (listRows t i) (length old) s) old (record { number = n; place = p }) old
-  list-stop t i old h = stopped (listRows t i) old (spot-stop i s h)
+  pub list-stop : (t : Table) (i : ℕ) (old : List ℕ) {n p : ℕ} → refused n p ≡ spotIn i (fileOf s) → Writes (listTable t i (length old) s) old (record { number = n; place = p }) old
+  list-stop t i old h = stopped (λ l. flat (listRows t i) (placed 16 l)) old (spot-stop i s h)
 
   -- a file that is taken: its table, for an output of so many bytes
-  pub table-of : (rows : ℕ × List ℕ → List ℕ) (have : ℕ) {l : List (List ℕ)} → fileOf s ≡ taken l → table rows have s ≡ fitting have (flat rows (placed 16 l))
-  table-of rows have h = ap (λ (o : Outcome (List (List ℕ))). after o (λ l. fitting have (flat rows (placed 16 l)))) h
+  pub table-of : (rows : List (List ℕ) → List ℕ) (have : ℕ) {l : List (List ℕ)} → fileOf s ≡ taken l → table rows have s ≡ fitting have (rows l)
+  table-of rows have h = ap (λ (o : Outcome (List (List ℕ))). after o (λ l. fitting have (rows l))) h
 
   -- a file that has no section: no record, so that its verdict is the answer
-  pub bare-table : (rows : ℕ × List ℕ → List ℕ) (old : List ℕ) → length s ≤ 16 → {r : Answer} → r ≡ verdict (fileOf s) → Writes (table rows (length old) s) old r old
-  bare-table rows old h k = subst (λ (r : Answer). Writes (table rows (length old) s) old r old) (sym k) (go (fileOf s) refl) where
-    go : (o : Outcome (List (List ℕ))) → fileOf s ≡ o → Writes (table rows (length old) s) old (verdict o) old
-    go (refused n p) e = stopped rows old e
-    go (taken l) e = writes-taken (table-of rows (length old) e ∙ ap (λ (m : List (List ℕ)). fitting (length old) (flat rows (placed 16 m))) (no-section s e h) ∙ rw (none-placed, le-leb 0 (length old) (omega arith))) (none old)
+  pub bare-table : (t : Table) (i : ℕ) (old : List ℕ) → length s ≤ 16 → {r : Answer} → r ≡ verdict (fileOf s) → Writes (listTable t i (length old) s) old r old
+  bare-table t i old h k = subst (λ (r : Answer). Writes (listTable t i (length old) s) old r old) (sym k) (go (fileOf s) refl)
+    where
+      rows : List (List ℕ) → List ℕ
+      rows l = flat (listRows t i) (placed 16 l)
+
+      go : (o : Outcome (List (List ℕ))) → fileOf s ≡ o → Writes (listTable t i (length old) s) old (verdict o) old
+      go (refused n p) e = stopped rows old e
+      go (taken l) e = writes-taken (table-of rows (length old) e ∙ ap (λ (m : List (List ℕ)). fitting (length old) (rows m)) (no-section s e h) ∙ rw (none-placed, le-leb 0 (length old) (omega arith))) (none old)
 
 -- ---- the table of sections
 
@@ -76,30 +80,30 @@ module _ (s old : List ℕ) {n : ℕ} (h : taken n ≡ counted (fileOf s)) where
   pub sections-few : n ≤ 64
   sections-few = let w = counted-taken (fileOf s) h in omega (arith, w .2, file-sound s (w .1) .1 .few)
 
-  need : length (sectionRows 16 (counted-taken (fileOf s) h .0)) ≡ ROW * n
-  need = let w = counted-taken (fileOf s) h in length-sections 16 (w .0) ∙ ap (λ (k : ℕ). ROW * k) (sym (w .2))
+  need : length (sectionRows 16 0 (counted-taken (fileOf s) h .0)) ≡ ROW * n
+  need = let w = counted-taken (fileOf s) h in sections-length 16 0 (w .0) ∙ ap (λ (k : ℕ). ROW * k) (sym (w .2))
 
   pub sections-short : length old < ROW * n → Writes (sectionTable (length old) s) old (record { number = ROOM; place = ROW * n }) old
   sections-short k =
       let w = counted-taken (fileOf s) h in
-      writes-refused (table-of s (λ q. framedRow (q .0) (q .1)) (length old) (w .1) ∙ rw (need, lt-leb (ROW * n) (length old) k))
+      writes-refused (table-of s (sectionRows 16 0) (length old) (w .1) ∙ rw (need, lt-leb (ROW * n) (length old) k))
 
   pub sections-ready : ROW * n ≤ length old → (l : List (List ℕ)) × (fileOf s ≡ taken l) × (ROW * length l ≤ length old)
   sections-ready k = let w = counted-taken (fileOf s) h in (w .0, w .1, omega (arith, w .2))
 
-  pub sections-done : ROW * n ≤ length old → {new : List ℕ} → ((l : List (List ℕ)) → fileOf s ≡ taken l → Wrote (sectionRows 16 l) old new (ROW * length l))
+  pub sections-done : ROW * n ≤ length old → {new : List ℕ} → ((l : List (List ℕ)) → fileOf s ≡ taken l → Wrote (sectionRows 16 0 l) old new (ROW * length l))
       → Writes (sectionTable (length old) s) old (record { number = 0; place = ROW * n }) new
   sections-done k {new} so =
       let w = counted-taken (fileOf s) h in
-      writes-taken {b = sectionRows 16 (w .0)} (table-of s (λ q. framedRow (q .0) (q .1)) (length old) (w .1) ∙ rw (need, le-leb (ROW * n) (length old) k)) (subst (λ (j : ℕ). Wrote (sectionRows 16 (w .0)) old new (ROW * j)) (sym (w .2)) (so (w .0) (w .1)))
+      writes-taken {b = sectionRows 16 0 (w .0)} (table-of s (sectionRows 16 0) (length old) (w .1) ∙ rw (need, le-leb (ROW * n) (length old) k)) (subst (λ (j : ℕ). Wrote (sectionRows 16 0 (w .0)) old new (ROW * j)) (sym (w .2)) (so (w .0) (w .1)))
 
 -- ---- the table of the list with an id
 
 -- no section has it: no record
-pub list-none : (t : Table) (i : ℕ) (s : List ℕ) {p n : ℕ} → Sited i s p n → length s ≤ p → (old : List ℕ) → Writes (table (listRows t i) (length old) s) old (record { number = 0; place = 0 }) old
+pub list-none : (t : Table) (i : ℕ) (s : List ℕ) {p n : ℕ} → Sited i s p n → length s ≤ p → (old : List ℕ) → Writes (listTable t i (length old) s) old (record { number = 0; place = 0 }) old
 list-none t i s x g old =
     let n = made-none i (λ q. rowsAt t (q .0 + 16) (drop 16 (q .1)) (startsIn (listAt (described t) (drop 16 (q .1))))) 16 (sectionsIn s) (none-there i s (x .read) (x .place) g) in
-    writes-taken (table-of s (listRows t i) (length old) (x .read) ∙ rw (n, le-leb 0 (length old) (omega arith))) (none old)
+    writes-taken (table-of s (λ l. flat (listRows t i) (placed 16 l)) (length old) (x .read) ∙ rw (n, le-leb 0 (length old) (omega arith))) (none old)
 
 module _ {t : Table} {i : ℕ} {s index : List ℕ} {p first : ℕ} (x : Lists t i s p index first) where
   found : Here i s (sectionsIn s) p
@@ -138,15 +142,15 @@ module _ {t : Table} {i : ℕ} {s index : List ℕ} {p first : ℕ} (x : Lists t
       rows-long : length rows ≡ ROW * n
       rows-long = length-rows t (p + 16) (take (e - (p + 16)) (drop (p + 16) s)) (take (first + n - first) (drop first index)) ∙ ap (λ (m : ℕ). ROW * m) count
 
-      is-table : (have : ℕ) → table (listRows t i) have s ≡ fitting have rows
-      is-table have = table-of s (listRows t i) have (x .read) ∙ ap (fitting have) all
+      is-table : (have : ℕ) → listTable t i have s ≡ fitting have rows
+      is-table have = table-of s (λ l. flat (listRows t i) (placed 16 l)) have (x .read) ∙ ap (fitting have) all
 
-      pub list-short : (old : List ℕ) → length old < ROW * n → Writes (table (listRows t i) (length old) s) old (record { number = ROOM; place = ROW * n }) old
+      pub list-short : (old : List ℕ) → length old < ROW * n → Writes (listTable t i (length old) s) old (record { number = ROOM; place = ROW * n }) old
       list-short old h = writes-refused (is-table (length old) ∙ rw (rows-long, lt-leb (ROW * n) (length old) h))
 
       pub list-done : {old new : List ℕ} {r : ℕ} → ROW * n ≤ length old
-          → Wrote (rowsAt t (p + 16) (take (e - (p + 16)) (drop (p + 16) s)) (take (length old / ROW) (take (first + n - first) (drop first index)))) old new r
-          → Writes (table (listRows t i) (length old) s) old (record { number = 0; place = ROW * n }) new
+          → Wrote (rowsIn t (p + 16) (take (e - (p + 16)) (drop (p + 16) s)) (take (first + n - first) (drop first index)) (take (length old / ROW) (take (first + n - first) (drop first index)))) old new r
+          → Writes (listTable t i (length old) s) old (record { number = 0; place = ROW * n }) new
       list-done {old} {new} h w =
           let v : Wrote rows old new _ = rw (rows-all (take (first + n - first) (drop first index)) (length old) (omega (arith, count))) at w in
           writes-taken {b = rows} (is-table (length old) ∙ rw (rows-long, le-leb (ROW * n) (length old) h)) (record { count = sym rows-long; bytes = v .bytes })

@@ -5,18 +5,12 @@ use mathlib.Core.Bool.{true}
 use mathlib.Core.List.{List}
 use Prim.Native.Nat.{ℕ, _<_}
 use lib.ListN.{length}
-use Rattle.order.specs.Keyed.{flat}
 use Rattle.tables.specs.declared.Table.{Table}
-use Rattle.tables.specs.Tables.{described, framedRow}
+use Rattle.tables.specs.Tables.{described}
 use Rattle.aerosnap.specs.Known.{known}
 use Rattle.aerosnap.specs.Payloads.{list, bodyOf}
-use Rattle.aerosnap.specs.Tables.{placed}
 use Rattle.sections.specs.Walks.{sectionsIn, Read, placeOf}
 use Rattle.sections.specs.Index.{firstOf, Reading}
-
--- the records of sections that stand from a place on
-abbrev pub sectionRows : ℕ → List (List ℕ) → List ℕ
-sectionRows at l = flat (λ q. framedRow (q .0) (q .1)) (placed at l)
 
 -- a file that is taken has a list with an id at a place, and the starts of that list stand in the index from another on
 pub record Lists (t : Table) (i : ℕ) (s : List ℕ) (at : ℕ) (index : List ℕ) (first : ℕ) : Type 0 where

@@ -24,7 +24,7 @@ ghost use Rattle.aerosnap.specs.File.{fileMost, fileOf};
 ghost use Rattle.aerosnap.specs.Tables as file_tables;
 ghost use Rattle.aerosnap.specs.Calls.{checkCall, sectionsCall, devicesCall, disksCall, canonicalCall, addDeviceCall, addDiskCall};
 ghost use Rattle.sections.specs.Index.{HoldsStarts};
-ghost use Rattle.snapshot.specs.Walks.{sectionRows, Lists};
+ghost use Rattle.snapshot.specs.Walks.{Lists};
 
 // A file that is no longer than its header has no section, and its tables are empty.
 const HEADER: usize = 16;
@@ -60,17 +60,19 @@ fn end_at(file: &[u8], at: usize) -> usize
     at + (16 + (wire::u64_at(file, at + 8) as usize))
 }
 
-// The records of a file's sections, each into the tail of the output from where the last ended.
+// The records of a file's sections, each with its number and into the tail of the output from where the last ended.
 fn put_rows(file: &[u8], out: &mut [u8])
     requires { ⌜ ((l : List (List ℕ)) × (fileOf (now file) ≡ taken l) × (ROW * length l ≤ length (now out))) ⌝ }
-    ensures { λ _. ⌜ ((l : List (List ℕ)) → fileOf (now (file .entry)) ≡ taken l → Wrote (sectionRows 16 l) (now (out .entry)) (now (out .exit)) (ROW * length l)) ⌝ }
+    ensures { λ _. ⌜ ((l : List (List ℕ)) → fileOf (now (file .entry)) ≡ taken l → Wrote (file_tables.sectionRows 16 0 l) (now (out .entry)) (now (out .exit)) (ROW * length l)) ⌝ }
 {
     let mut at = 16;
     let mut t = 0;
+    let mut q = 0;
     while at < file.len() {
-        tables::put_section(&mut out[t..], at as u32, wire::tail(file, at));
+        tables::put_section(&mut out[t..], at as u32, q, wire::tail(file, at));
         at = end_at(file, at);
         t += ROW;
+        q += 1;
     }
 }
 
@@ -112,7 +114,7 @@ fn put_table(
     table: &mut [u8],
 ) -> Answer
     requires { ⌜ Lists t id (now file) at (now index) first ⌝ }
-    ensures { λ r. ⌜ Writes (file_tables.table (file_tables.listRows t id) (length (now (table .entry))) (now (file .entry))) (now (table .entry)) r (now (table .exit)) ⌝ }
+    ensures { λ r. ⌜ Writes (file_tables.listTable t id (length (now (table .entry))) (now (file .entry))) (now (table .entry)) r (now (table .exit)) ⌝ }
 {
     let b = at + 16;
     let e = end_at(file, at);
@@ -135,7 +137,7 @@ fn put_table(
 // The table of the list with an id, with room for the file's index.
 fn list_table_in(t: Table, id: u32, file: &[u8], index: &mut [u32], table: &mut [u8]) -> Answer
     requires { ⌜ (known id ≡ true) × ((v : ℕ) → bodyOf id v ≡ list (described t)) × HoldsStarts (now file) (length (now index)) ⌝ }
-    ensures { λ r. ⌜ Writes (file_tables.table (file_tables.listRows t id) (length (now (table .entry))) (now (file .entry))) (now (table .entry)) r (now (table .exit)) ⌝ }
+    ensures { λ r. ⌜ Writes (file_tables.listTable t id (length (now (table .entry))) (now (file .entry))) (now (table .entry)) r (now (table .exit)) ⌝ }
 {
     match sections::check_and_find(&file[..], id, index) {
         Spot::Fault(number, place) => Answer {
@@ -157,7 +159,7 @@ fn list_table_in(t: Table, id: u32, file: &[u8], index: &mut [u32], table: &mut 
 // The same, with an index of as many places as the file needs: clearing places costs more than reading a short list.
 fn list_table(t: Table, id: u32, file: &[u8], table: &mut [u8]) -> Answer
     requires { ⌜ (known id ≡ true) × ((v : ℕ) → bodyOf id v ≡ list (described t)) ⌝ }
-    ensures { λ r. ⌜ Writes (file_tables.table (file_tables.listRows t id) (length (now (table .entry))) (now (file .entry))) (now (table .entry)) r (now (table .exit)) ⌝ }
+    ensures { λ r. ⌜ Writes (file_tables.listTable t id (length (now (table .entry))) (now (file .entry))) (now (table .entry)) r (now (table .exit)) ⌝ }
 {
     let n = sections::count_entries(&file[..]);
     if n <= 32 {

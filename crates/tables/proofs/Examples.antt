@@ -30,22 +30,22 @@ device id p = numbers id ++ (u64 (length p) ++ p)
 abbrev payload : List ℕ
 payload = u32 2 ++ (device 14 (17 ∷ []) ++ device 3 (171 ∷ 205 ∷ []))
 
-pub devices : tableOf Devices 48 32 payload ≡ taken (numbers 3 ++ (u64 69 ++ (u64 2 ++ (numbers 14 ++ (u64 52 ++ u64 1)))))
+pub devices : tableOf Devices 64 32 payload ≡ taken (numbers 3 ++ (u64 69 ++ (u64 2 ++ (u32 1 ++ (u32 0 ++ (numbers 14 ++ (u64 52 ++ (u64 1 ++ (u32 0 ++ u32 0)))))))))
 unfolding listAt walk entryAt insert has read leAt le bytesOf
 devices = refl
 
 -- one byte less, and the length needed is named
-pub no-room : tableOf Devices 47 32 payload ≡ refused ROOM 48
+pub no-room : tableOf Devices 63 32 payload ≡ refused ROOM 64
 unfolding listAt walk entryAt insert has read leAt le bytesOf
 no-room = refl
 
 -- disk 7 with the base `A` and no overlay, in a list at 100
-pub disks : tableOf Disks 24 100 (u32 1 ++ (u32 7 ++ (u32 1 ++ (65 ∷ u32 0)))) ≡ taken (u32 7 ++ (u32 1 ++ (u64 112 ++ (u32 0 ++ u32 0))))
+pub disks : tableOf Disks 32 100 (u32 1 ++ (u32 7 ++ (u32 1 ++ (65 ∷ u32 0)))) ≡ taken (u32 7 ++ (u32 1 ++ (u64 112 ++ (u32 0 ++ (u32 0 ++ (u32 0 ++ u32 0))))))
 unfolding listAt walk entryAt insert has read leAt le bytesOf isText scan scanFrom afterOf leadOf
 disks = refl
 
 -- bus 1, device 0, function 0, with two bytes, behind a wrapper's header
-pub controllers : tableOf Controllers 24 16 (u32 1 ++ (0 ∷ 1 ∷ 0 ∷ 0 ∷ 73 ∷ 68 ∷ 69 ∷ 48 ∷ (u32 2 ++ (171 ∷ 205 ∷ []))))
-    ≡ taken (0 ∷ 1 ∷ 0 ∷ 0 ∷ 73 ∷ 68 ∷ 69 ∷ 48 ∷ (u64 32 ++ u64 2))
+pub controllers : tableOf Controllers 32 16 (u32 1 ++ (0 ∷ 1 ∷ 0 ∷ 0 ∷ 73 ∷ 68 ∷ 69 ∷ 48 ∷ (u32 2 ++ (171 ∷ 205 ∷ []))))
+    ≡ taken (0 ∷ 1 ∷ 0 ∷ 0 ∷ 73 ∷ 68 ∷ 69 ∷ 48 ∷ (u64 32 ++ (u64 2 ++ (u32 0 ++ u32 0))))
 unfolding listAt walk entryAt insert has read leAt le bytesOf
 controllers = refl

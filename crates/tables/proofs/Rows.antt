@@ -32,12 +32,12 @@ use Rattle.lists.proofs.Callers.{indexed-stop, indexed-done, list-then, index-r
 use Rattle.answer.specs.declared.Piece.the-variants.{Stop, Ends}
 use Rattle.tables.specs.declared.Table.{Table}
 use Rattle.tables.specs.declared.Table.the-variants.{Devices, Disks, Controllers}
-use Rattle.tables.specs.Tables.{ROW, described, rowOf, rowsAt, tableOf}
+use Rattle.tables.specs.Tables.{ROW, described, positionIn, rowOf, rowsIn, rowsAt, tableOf}
 
-pub length-row : (t : Table) (p : ℕ) (e : List ℕ) → length (rowOf t p e) ≡ ROW
-length-row Devices p e = simp (length-append, length-bytesOf)
-length-row Disks p e = simp (length-append, length-bytesOf)
-length-row Controllers p e = simp (length-append, length-bytesOf)
+pub length-row : (t : Table) (p q : ℕ) (e : List ℕ) → length (rowOf t p q e) ≡ ROW
+length-row Devices p q e = simp (length-append, length-bytesOf)
+length-row Disks p q e = simp (length-append, length-bytesOf)
+length-row Controllers p q e = simp (length-append, length-bytesOf)
 
 -- where there is room for the records of all starts, they are all of those that fit
 pub rows-all : (l : List ℕ) (have : ℕ) → ROW * length l ≤ have → take (have / ROW) l ≡ l
@@ -50,20 +50,27 @@ rows-end l have i k h = take-all i l h ∙ sym (rows-all l have (omega arith))
 pub rows-full : (l : List ℕ) (have i : ℕ) → ROW * i ≤ have → have - ROW * i < ROW → take i l ≡ take (have / ROW) l
 rows-full l have i k h = let e : i ≡ have / ROW = omega arith in ap (λ (n : ℕ). take n l) e
 
-module _ (t : Table) (base : ℕ) (s : List ℕ) where
-  pub length-rows : (l : List ℕ) → length (rowsAt t base s l) ≡ ROW * length l
-  length-rows [] = refl
-  length-rows (y ∷ l) = omega (arith, length-append (rowOf t (base + y) (drop y s)) (rowsAt t base s l), length-row t (base + y) (drop y s), length-rows l)
+module _ (t : Table) (base : ℕ) (s all : List ℕ) where
+  -- the record of the entry that starts at y
+  abbrev row : ℕ → List ℕ
+  row y = rowOf t (base + y) (positionIn all y) (drop y s)
+
+  pub length-rows-in : (l : List ℕ) → length (rowsIn t base s all l) ≡ ROW * length l
+  length-rows-in [] = refl
+  length-rows-in (y ∷ l) = omega (arith, length-append (row y) (rowsIn t base s all l), length-row t (base + y) (positionIn all y) (drop y s), length-rows-in l)
 
   -- one turn of the loop: a record written into the tail
-  pub rows-turn : (l : List ℕ) (i : ℕ) → i < length l → {old mid new : List ℕ} {at : ℕ} → Wrote (rowsAt t base s (take i l)) old mid at
-      → Wrote (rowOf t (base + getD l i 0) (drop (getD l i 0) s)) (take (length mid - at) (drop at mid)) new ROW
-      → Wrote (rowsAt t base s (take (i + 1) l)) old (take at mid ++ (new ++ drop (length mid - at) (drop at mid))) (at + ROW)
-  rows-turn l i h so e =
-      let row : ℕ → List ℕ = λ y. rowOf t (base + y) (drop y s) in
-      let split : rowsAt t base s (take (i + 1) l) ≡ rowsAt t base s (take i l) ++ rowOf t (base + getD l i 0) (drop (getD l i 0) s) =
-      ap (flat row) (ap (λ (n : ℕ). take n l) (add-one i) ∙ take-suc l i 0 h) ∙ flat-append row (take i l) (getD l i 0 ∷ []) ∙ ap (λ (x : List ℕ). rowsAt t base s (take i l) ++ x) (append-nil (row (getD l i 0))) in
+  pub rows-turn : (l : List ℕ) (i q : ℕ) → i < length l → positionIn all (getD l i 0) ≡ q → {old mid new : List ℕ} {at : ℕ} → Wrote (rowsIn t base s all (take i l)) old mid at
+      → Wrote (rowOf t (base + getD l i 0) q (drop (getD l i 0) s)) (take (length mid - at) (drop at mid)) new ROW
+      → Wrote (rowsIn t base s all (take (i + 1) l)) old (take at mid ++ (new ++ drop (length mid - at) (drop at mid))) (at + ROW)
+  rows-turn l i q h p so e =
+      let y : ℕ = getD l i 0 in
+      let split : rowsIn t base s all (take (i + 1) l) ≡ rowsIn t base s all (take i l) ++ rowOf t (base + y) q (drop y s) =
+      ap (flat row) (ap (λ (n : ℕ). take n l) (add-one i) ∙ take-suc l i 0 h) ∙ flat-append row (take i l) (y ∷ []) ∙ ap (λ (x : List ℕ). rowsIn t base s all (take i l) ++ x) (append-nil (row y) ∙ ap (λ (k : ℕ). rowOf t (base + y) k (drop y s)) p) in
       rw split (wrote-tail so e)
+
+pub length-rows : (t : Table) (base : ℕ) (s l : List ℕ) → length (rowsAt t base s l) ≡ ROW * length l
+length-rows t base s l = length-rows-in t base s l l
 
 -- ---- the exits of the call
 
@@ -102,6 +109,6 @@ module _ (t : Table) (k : Kind) (q : describe k ≡ described t) (have base : �
     pub table-short : have < ROW * n → tableOf t have base s ≡ refused ROOM (ROW * n)
     table-short k = found ∙ rw (need, lt-leb (ROW * n) have k)
 
-    pub table-done : ROW * n ≤ have → {out last : List ℕ} {r : ℕ} → Wrote (rowsAt t base s (take (have / ROW) (take n new))) out last r
+    pub table-done : ROW * n ≤ have → {out last : List ℕ} {r : ℕ} → Wrote (rowsIn t base s (take n new) (take (have / ROW) (take n new))) out last r
         → Writes (tableOf t have base s) out (record { number = 0; place = r }) last
     table-done k w = writes-taken (found ∙ rw (need, le-leb (ROW * n) have k)) (rw (rows-all (take n new) have (omega (arith, table-count .0))) at w)

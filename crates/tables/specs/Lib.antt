@@ -1,2 +1,3 @@
 pub mod Tables
 pub mod Named
+pub mod Steps

@@ -1,11 +1,11 @@
 -- What a record says of the entry that it stands for, e, in the input s: the entry's own numbers, and by offset and length where its payload stands.
 -- Assumes nothing.
 use mathlib.Core.Path.{_≡_}
-use mathlib.Core.List.{List, [], _∷_, List·Permᴰ}
-use Prim.Native.Nat.{ℕ, _+_}
+use mathlib.Core.List.{List, [], _∷_, map, List·Permᴰ}
+use Prim.Native.Nat.{ℕ, zero, suc, _+_}
 use lib.ListN.{length, take, drop}
 use Rattle.wire.specs.Numbers.{leAt}
-use Rattle.order.specs.Keyed.{Asc}
+use Rattle.order.specs.Keyed.{Every, sort, Asc}
 use Rattle.order.specs.Entries.{join}
 use Rattle.tables.specs.declared.Table.{Table}
 use Rattle.tables.specs.declared.Table.the-variants.{Devices, Disks, Controllers}
@@ -54,7 +54,23 @@ Each R [] (y ∷ m) = ⊥
 Each R (x ∷ l) [] = ⊥
 Each R (x ∷ l) (y ∷ m) = R x y × Each R l m
 
--- b is the table of some entries of the input s: each entry has one record, which names it, and the records ascend by key
+-- the position that a record says
+abbrev pub positionOf : List ℕ → ℕ
+positionOf row = leAt 4 row 24
+
+-- k numbers, one after another from n on
+unfoldable pub numbersFrom : ℕ → ℕ → List ℕ
+numbersFrom n zero = []
+numbersFrom n (suc k) = n ∷ numbersFrom (suc n) k
+
+-- records say the order in which entries stand in their list: positions are 0, 1, .. up to their number, each once, and by them the first record names the first entry,
+-- the second the second, and so on; a 0 stands behind each
+pub record InFileOrder (Names : List ℕ → List ℕ → Type 0) (rows entries : List (List ℕ)) : Type 0 where
+  pub positions : map positionOf (sort positionOf rows) ≡ numbersFrom 0 (length entries)
+  pub names : Each Names (sort positionOf rows) entries
+  pub nothing : Every (λ row. leAt 4 row 28 ≡ 0) rows
+
+-- b is the table of some entries of the input s: each entry has one record, which names it, and the records ascend by key; their positions say the order of the entries
 pub record IsTable (t : Table) (s : List ℕ) (entries : List (List ℕ)) (b : List ℕ) : Type 0 where
   pub rows : List (List ℕ)
   pub order : List (List ℕ)
@@ -62,3 +78,4 @@ pub record IsTable (t : Table) (s : List ℕ) (entries : List (List ℕ)) (b : L
   pub names : Each (Names t s) rows order
   pub once : List·Permᴰ order entries
   pub ascend : Asc (described t .key) 0 order
+  pub filed : InFileOrder (Names t s) rows entries

@@ -137,7 +137,7 @@ fn reading_row(
     library: impl Fn(&[u8], &mut [u8]) -> raw::Answer,
     peer: impl Fn(&[u8], &mut [u8]) -> reference::Answer,
 ) -> Row {
-    let mut table = vec![0xEE; 24 * 4096];
+    let mut table = vec![0xEE; 32 * 4096];
     agree(call, case, &mut table, &library, &peer);
     let contestants = [
         contestant(|table| library(black_box(case.file), table)),

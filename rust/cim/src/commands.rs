@@ -54,16 +54,19 @@ fn list(words: &Words) -> Result<(), Failure> {
     let [name] = words.plain("one FILE")?;
     let file = files::read(name, snapshot::MOST_BYTES)?;
     let mut text = String::from("id version flags offset length\n");
-    for Section { id, version, flags, offset, length } in
+    for Section { id, version, flags, offset, length, .. } in
         snapshot::sections(&file).map_err(of_input(&file))?
     {
         line(&mut text, format_args!("{id} {version} {flags} {offset} {length}"));
     }
-    for Device { id, version, flags, offset, length } in snapshot::devices(&file)? {
-        line(&mut text, format_args!("device {id} {version} {flags} {offset} {length}"));
+    for Device { id, version, flags, offset, length, position } in snapshot::devices(&file)? {
+        line(&mut text, format_args!("device {id} {version} {flags} {offset} {length} {position}"));
     }
-    for Disk { id, base_offset, base_length, overlay_length } in snapshot::disks(&file)? {
-        line(&mut text, format_args!("disk {id} {base_offset} {base_length} {overlay_length}"));
+    for Disk { id, base_offset, base_length, overlay_length, position } in snapshot::disks(&file)? {
+        line(
+            &mut text,
+            format_args!("disk {id} {base_offset} {base_length} {overlay_length} {position}"),
+        );
     }
     files::print(&text)
 }
@@ -103,14 +106,14 @@ fn add_disk(words: &Words) -> Result<(), Failure> {
 fn wrapper(words: &Words) -> Result<(), Failure> {
     let [name] = words.plain("one FILE")?;
     let file = files::read(name, wrapper::MOST_BYTES)?;
-    let mut text = String::from("address bus device function tag offset length\n");
+    let mut text = String::from("address bus device function tag offset length position\n");
     for found in wrapper::controllers(&file)? {
-        let Controller { address, offset, length, .. } = found;
+        let Controller { address, offset, length, position, .. } = found;
         let (bus, device, function) = (found.bus(), found.device(), found.function());
         let tag = shown(&found.tag);
         line(
             &mut text,
-            format_args!("{address} {bus} {device} {function} {tag} {offset} {length}"),
+            format_args!("{address} {bus} {device} {function} {tag} {offset} {length} {position}"),
         );
     }
     files::print(&text)

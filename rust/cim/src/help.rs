@@ -47,8 +47,10 @@ in the order of their keys, and for each disk, in the order of their ids. Number
 count from the start of the file.
 
   id version flags offset length
-  device ID VERSION FLAGS OFFSET LENGTH
-  disk ID BASE-OFFSET BASE-LENGTH OVERLAY-LENGTH
+  device ID VERSION FLAGS OFFSET LENGTH POSITION
+  disk ID BASE-OFFSET BASE-LENGTH OVERLAY-LENGTH POSITION
+
+A position is the entry's number in the file's own list, from 0.
 
 The whole file is checked first; a refused file prints no line.
 ";
@@ -84,7 +86,9 @@ Checks a disk-controller wrapper and prints a heading and a line for each contro
 their addresses. Offsets count from the start of the wrapper. Bytes of a tag that are no letters are
 shown as \\x20.
 
-  address bus device function tag offset length
+  address bus device function tag offset length position
+
+A position is the controller's number in the wrapper's own list, from 0.
 ";
 
 pub const MESSAGE: &str = "\

@@ -125,7 +125,7 @@ fn list_prints_the_listing_of_document_01() {
     put(&at, "good", TWO_DEVICES);
     put(&at, "bad", &key_again());
     let listing =
-        "id version flags offset length\n4 1 0 32 39\ndevice 3 1 0 69 2\ndevice 14 1 0 52 1\n";
+        "id version flags offset length\n4 1 0 32 39\ndevice 3 1 0 69 2 1\ndevice 14 1 0 52 1 0\n";
     prints(run(&at, &["list", "good"]), listing);
     prints(fed(&at, &["list", "-"], TWO_DEVICES), listing);
     fails(run(&at, &["list", "bad"]), "refused 13 KEY at 53: key again\n", 1);
@@ -164,8 +164,8 @@ fn the_sample_is_listed_in_key_order() {
     put(&at, "panel", &panel::panel());
     let listing = "id version flags offset length\n\
         4096 7 1 32 14\n6 1 0 62 64\n4 1 0 142 120\n5 1 0 278 80\n1 1 0 374 50\n\
-        device 3 0 0 260 2\ndevice 3 1 0 242 2\ndevice 14 1 0 225 1\ndevice 256 1 0 162 47\n\
-        disk 1 326 9 19\ndisk 2 290 24 0\n";
+        device 3 0 0 260 2 3\ndevice 3 1 0 242 2 2\ndevice 14 1 0 225 1 1\ndevice 256 1 0 162 47 0\n\
+        disk 1 326 9 19 1\ndisk 2 290 24 0 0\n";
     prints(run(&at, &["list", "panel"]), listing);
 }
 
@@ -177,7 +177,7 @@ fn canon_writes_the_canonical_form() {
     put(&at, "in", TWO_DEVICES);
     prints(run(&at, &["canon", "in", "out"]), "71 bytes written to out\n");
     let listing =
-        "id version flags offset length\n4 1 0 32 39\ndevice 3 1 0 52 2\ndevice 14 1 0 70 1\n";
+        "id version flags offset length\n4 1 0 32 39\ndevice 3 1 0 52 2 0\ndevice 14 1 0 70 1 1\n";
     prints(run(&at, &["list", "out"]), listing);
     assert_eq!(names(&at), ["in", "out"]);
 
@@ -231,7 +231,7 @@ fn adds_in_any_order_end_in_the_same_bytes() {
     device("b", "b", "14", "p14");
     assert_eq!(fs::read(at.join("a")).unwrap(), fs::read(at.join("b")).unwrap());
     let listing = "id version flags offset length\n4 1 0 32 39\n5 1 0 87 24\n\
-        device 3 1 0 52 2\ndevice 14 1 0 70 1\ndisk 7 99 8 0\n";
+        device 3 1 0 52 2 0\ndevice 14 1 0 70 1 1\ndisk 7 99 8 0 0\n";
     prints(run(&at, &["list", "a"]), listing);
 }
 
@@ -451,8 +451,8 @@ fn wrapper_lists_controllers_in_address_order() {
     let mut bad = *wrapper;
     bad[8] = b'X';
     put(&at, "bad", &bad);
-    let listing = "address bus device function tag offset length\n\
-        250 0 31 2 S\\x20T\\xff 45 0\n256 1 0 0 NVME 32 1\n";
+    let listing = "address bus device function tag offset length position\n\
+        250 0 31 2 S\\x20T\\xff 45 0 1\n256 1 0 0 NVME 32 1 0\n";
     prints(run(&at, &["wrapper", "good"]), listing);
     prints(fed(&at, &["wrapper", "-"], wrapper), listing);
     fails(run(&at, &["wrapper", "bad"]), "refused 2 MAGIC at 8: letters wrong\n", 1);

@@ -84,14 +84,14 @@ fn long(length: usize) -> Vec<u8> {
 #[test]
 fn two_devices_in_key_order() {
     let expected =
-        "id version flags offset length\n4 1 0 32 39\ndevice 3 1 0 69 2\ndevice 14 1 0 52 1\n";
+        "id version flags offset length\n4 1 0 32 39\ndevice 3 1 0 69 2 1\ndevice 14 1 0 52 1 0\n";
     assert_eq!(listing(&two_devices()), expected);
 }
 
 #[test]
 fn a_file_with_disks() {
     let (expected, good) = cim_list(&sample());
-    assert!(good && expected.contains("\ndisk 1 326 9 19\ndisk 2 290 24 0\n"));
+    assert!(good && expected.contains("\ndisk 1 326 9 19 1\ndisk 2 290 24 0 0\n"));
     assert_eq!(listing(&sample()), expected);
 }
 

@@ -271,13 +271,13 @@ pub fn check(file: &[u8]) -> Answer {
     unsafe { c::cimbrolau_check(file.as_ptr(), file.len()) }
 }
 
-/// Writes a record of 24 bytes for each section, in file order.
+/// Writes a record of 32 bytes for each section, in file order.
 ///
 /// ```
-/// let mut table = [7; 24];
+/// let mut table = [7; 32];
 /// let answer = cimbrolau::raw::sections(&cimbrolau::snapshot::EMPTY, &mut table);
 /// assert_eq!((answer.number, answer.place), (0, 0)); // no section, so no record
-/// assert_eq!(table, [7; 24]);
+/// assert_eq!(table, [7; 32]);
 /// ```
 pub fn sections(file: &[u8], table: &mut [u8]) -> Answer {
     // SAFETY: each pointer and length are of one live slice; the library reads `file` and writes within `table`,
@@ -285,7 +285,7 @@ pub fn sections(file: &[u8], table: &mut [u8]) -> Answer {
     unsafe { c::cimbrolau_sections(file.as_ptr(), file.len(), table.as_mut_ptr(), table.len()) }
 }
 
-/// Writes a record of 24 bytes for each device, in the order of their keys.
+/// Writes a record of 32 bytes for each device, in the order of their keys.
 ///
 /// ```
 /// let answer = cimbrolau::raw::devices(&cimbrolau::snapshot::EMPTY, &mut []);
@@ -297,7 +297,7 @@ pub fn devices(file: &[u8], table: &mut [u8]) -> Answer {
     unsafe { c::cimbrolau_devices(file.as_ptr(), file.len(), table.as_mut_ptr(), table.len()) }
 }
 
-/// Writes a record of 24 bytes for each disk, in the order of their ids.
+/// Writes a record of 32 bytes for each disk, in the order of their ids.
 ///
 /// ```
 /// let answer = cimbrolau::raw::disks(&cimbrolau::snapshot::EMPTY, &mut []);
@@ -393,7 +393,7 @@ pub fn wrapper_check(wrapper: &[u8]) -> Answer {
     unsafe { c::cimbrolau_wrapper_check(wrapper.as_ptr(), wrapper.len()) }
 }
 
-/// Writes a record of 24 bytes for each controller, in the order of their addresses.
+/// Writes a record of 32 bytes for each controller, in the order of their addresses.
 ///
 /// ```
 /// let answer = cimbrolau::raw::controllers(&cimbrolau::wrapper::EMPTY, &mut []);

@@ -1,13 +1,16 @@
-//! The 24-byte records of tables, and the parts of an input that they name.
+//! The records of tables, 32 bytes each, and the parts of an input that they name.
 
 /// Bytes in a record.
-pub(crate) const RECORD: usize = 24;
+pub(crate) const RECORD: usize = 32;
 
 /// The most bytes that the table of a list can have, whose entries have at least `least` bytes each: as many records as the
 /// input has room for entries, and no more than there may be.
 pub(crate) fn table_most(input: &[u8], least: usize, entries: usize) -> usize {
     RECORD * entries.min(input.len() / least)
 }
+
+/// Where the position stands in each of them.
+const POSITION: usize = 24;
 
 /// The records of a table, each read by `read`.
 pub(crate) fn all<T>(table: &[u8], read: impl Fn(&[u8]) -> T) -> Vec<T> {
@@ -33,6 +36,11 @@ pub(crate) fn u64_at(record: &[u8], at: usize) -> u64 {
     u64::from_le_bytes(bytes(record, at))
 }
 
+/// The number of a record's entry in the file's own list, from 0.
+pub(crate) fn position(record: &[u8]) -> u32 {
+    u32_at(record, POSITION)
+}
+
 /// The part of an input that a record names; none where the input is not the one that the record came from and is too short.
 pub(crate) fn part(input: &[u8], offset: u64, length: u64) -> Option<&[u8]> {
     let start = usize::try_from(offset).ok()?;
@@ -55,11 +63,15 @@ mod tests {
 
     #[test]
     fn numbers_are_little_endian() {
-        let mut table = [0; 48];
-        table[24..].copy_from_slice(&[
-            15, 0, 0, 0, 0, 1, 2, 0, 0, 0, 0, 0, 1, 0, 0, 0, 9, 0, 0, 0, 0, 0, 0, 128,
+        let mut table = [0; 64];
+        table[32..].copy_from_slice(&[
+            15, 0, 0, 0, 0, 1, 2, 0, 0, 0, 0, 0, 1, 0, 0, 0, 9, 0, 0, 0, 0, 0, 0, 128, 0, 1, 0, 0,
+            0, 0, 0, 0,
         ]);
-        let read = all(&table, |r| (u32_at(r, 0), u16_at(r, 4), u64_at(r, 8), u64_at(r, 16)));
-        assert_eq!(read, [(0, 0, 0, 0), (15, 256, 1 << 32, (1 << 63) + 9)]);
+        let numbers = |r: &[u8]| (u32_at(r, 0), u16_at(r, 4), u64_at(r, 8), u64_at(r, 16), position(r));
+        assert_eq!(
+            all(&table, numbers),
+            [(0, 0, 0, 0, 0), (15, 256, 1 << 32, (1 << 63) + 9, 256)]
+        );
     }
 }

@@ -1,7 +1,7 @@
 //! Snapshot files: checking, tables, the canonical form, adding.
 
 use crate::raw;
-use crate::records::{self, table_most, u16_at, u32_at, u64_at, RECORD};
+use crate::records::{self, position, table_most, u16_at, u32_at, u64_at, RECORD};
 use crate::refusal::{filled, outcome, Result};
 
 /// The shortest snapshot: the header, and no section.
@@ -32,6 +32,8 @@ pub struct Section {
     pub offset: u64,
     /// How many bytes its payload has.
     pub length: u64,
+    /// Its number in the file, from 0.
+    pub position: u32,
 }
 
 impl Section {
@@ -56,6 +58,7 @@ impl Section {
             flags: u16_at(record, 6),
             offset: u64_at(record, 8),
             length: u64_at(record, 16),
+            position: position(record),
         }
     }
 }
@@ -97,6 +100,8 @@ pub struct Device {
     pub offset: u64,
     /// How many bytes its payload has.
     pub length: u64,
+    /// Its number in the file's own list of devices, from 0: who came first.
+    pub position: u32,
 }
 
 impl Device {
@@ -131,6 +136,7 @@ impl Device {
             flags: u16_at(record, 6),
             offset: u64_at(record, 8),
             length: u64_at(record, 16),
+            position: position(record),
         }
     }
 }
@@ -146,6 +152,8 @@ pub struct Disk {
     pub base_length: u32,
     /// How many bytes the overlay image's name has.
     pub overlay_length: u32,
+    /// Its number in the file's own list of disks, from 0: who came first.
+    pub position: u32,
 }
 
 impl Disk {
@@ -189,6 +197,7 @@ impl Disk {
             base_length: u32_at(record, 4),
             base_offset: u64_at(record, 8),
             overlay_length: u32_at(record, 16),
+            position: position(record),
         }
     }
 }

@@ -1,7 +1,7 @@
 //! Disk-controller wrappers (`DSKC`): checking, the table of controllers, the canonical form.
 
 use crate::raw;
-use crate::records::{self, bytes, table_most, u16_at, u64_at};
+use crate::records::{self, bytes, position, table_most, u16_at, u64_at};
 use crate::refusal::{filled, outcome, Result};
 
 /// The shortest wrapper: the header, and no controller.
@@ -30,6 +30,8 @@ pub struct Controller {
     pub offset: u64,
     /// How many bytes its payload has.
     pub length: u64,
+    /// Its number in the wrapper's own list, from 0.
+    pub position: u32,
 }
 
 impl Controller {
@@ -37,7 +39,7 @@ impl Controller {
     ///
     /// ```
     /// # use cimbrolau::wrapper::Controller;
-    /// let at = |address| Controller { address, tag: *b"SATA", offset: 0, length: 0 };
+    /// let at = |address| Controller { address, tag: *b"SATA", offset: 0, length: 0, position: 0 };
     /// assert_eq!((at(250).bus(), at(250).device(), at(250).function()), (0, 31, 2));
     /// assert_eq!((at(256).bus(), at(256).device(), at(256).function()), (1, 0, 0));
     /// ```
@@ -67,6 +69,7 @@ impl Controller {
             tag: bytes(record, 4),
             offset: u64_at(record, 8),
             length: u64_at(record, 16),
+            position: position(record),
         }
     }
 }
@@ -97,6 +100,7 @@ pub fn check(wrapper: &[u8]) -> Result<()> {
 /// let found = wrapper::controllers(&file)?;
 /// assert_eq!((found[0].address, &found[0].tag), (250, b"NVME"));
 /// assert_eq!((found[1].address, &found[1].tag), (256, b"SATA"));
+/// assert_eq!((found[0].position, found[1].position), (1, 0)); // as they stand in the wrapper
 /// assert_eq!(found[1].payload(&file), Some(&[7][..]));
 /// # Ok::<(), cimbrolau::Refusal>(())
 /// ```

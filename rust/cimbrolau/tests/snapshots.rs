@@ -30,15 +30,18 @@ fn p1_to_p3_headers() {
 
 #[test]
 fn p4_and_p5_tables_and_canonical_form() {
-    let section = Section { id: 4, version: 1, flags: 0, offset: 32, length: 39 };
-    let three = Device { id: 3, version: 1, flags: 0, offset: 69, length: 2 };
-    let fourteen = Device { id: 14, version: 1, flags: 0, offset: 52, length: 1 };
+    let section = Section { id: 4, version: 1, flags: 0, offset: 32, length: 39, position: 0 };
+    let three = Device { id: 3, version: 1, flags: 0, offset: 69, length: 2, position: 1 };
+    let fourteen = Device { id: 14, version: 1, flags: 0, offset: 52, length: 1, position: 0 };
     assert_eq!(snapshot::sections(TWO_DEVICES), Ok(vec![section]));
     assert_eq!(snapshot::devices(TWO_DEVICES), Ok(vec![three, fourteen]));
     assert_eq!(snapshot::disks(TWO_DEVICES), Ok(vec![]));
 
     let canonical = snapshot::canonical(TWO_DEVICES).unwrap();
-    let moved = [Device { offset: 52, ..three }, Device { offset: 70, ..fourteen }];
+    let moved = [
+        Device { offset: 52, position: 0, ..three },
+        Device { offset: 70, position: 1, ..fourteen },
+    ];
     assert_eq!(snapshot::devices(&canonical), Ok(moved.to_vec()));
     assert_eq!(snapshot::canonical(&canonical), Ok(canonical));
 }
@@ -65,7 +68,7 @@ fn adds_in_any_order_end_in_the_same_bytes() {
     assert_eq!(disk(&pump(&tank(&snapshot::EMPTY))), file);
     assert_eq!(pump(&disk(&tank(&snapshot::EMPTY))), file);
     assert_eq!(snapshot::devices(&file).unwrap().len(), 2);
-    let seven = Disk { id: 7, base_offset: 99, base_length: 8, overlay_length: 9 };
+    let seven = Disk { id: 7, base_offset: 99, base_length: 8, overlay_length: 9, position: 0 };
     assert_eq!(snapshot::disks(&file), Ok(vec![seven]));
     assert_eq!((seven.base(&file), seven.overlay(&file)), (Some("base.img"), Some("night.img")));
 }
@@ -75,7 +78,7 @@ fn a_part_is_not_taken_from_another_file() {
     let device = snapshot::devices(TWO_DEVICES).unwrap()[0];
     assert_eq!(device.payload(TWO_DEVICES), Some(&[0xAB, 0xCD][..]));
     assert_eq!(device.payload(&TWO_DEVICES[..70]), None);
-    let disk = Disk { id: 0, base_offset: u64::MAX, base_length: 9, overlay_length: 9 };
+    let disk = Disk { id: 0, base_offset: u64::MAX, base_length: 9, overlay_length: 9, position: 0 };
     assert_eq!((disk.base(TWO_DEVICES), disk.overlay(TWO_DEVICES)), (None, None));
 }
 

@@ -23,10 +23,11 @@ pub enum Kind {
     Controllers,
 }
 
-/// An entry: its key, where it starts in the input, and its bytes.
+/// An entry: its key, its number in the list's own order, where it starts in the input, and its bytes.
 #[derive(Clone, Copy)]
 pub struct Entry<'a> {
     pub key: u64,
+    pub position: u32,
     pub start: usize,
     pub bytes: &'a [u8],
 }
@@ -60,7 +61,7 @@ fn read_entries<'a>(
         let bytes = cursor.take(kind.fixed_length() as u64)?;
         kind.check_fixed(bytes, start)?;
         let key = kind.key(bytes);
-        list.push(Entry { key, start, bytes });
+        list.push(Entry { key, position: at as u32, start, bytes });
         kind.read_rest(bytes, start, cursor)?;
         list[at].bytes = cursor.since(start);
     }
@@ -186,9 +187,13 @@ pub fn read_cpu_state(version: u16, length: usize, cursor: &mut Cursor) -> Taken
     Ok(())
 }
 
-/// Writes a 24-byte record for each entry, in key order; the bytes written.
-pub fn write_table(list: &List, record: fn(Entry) -> [u8; 24], table: &mut [u8]) -> Taken<usize> {
-    let needed = 24 * list.len();
+/// Writes a record for each entry, in key order; the bytes written.
+pub fn write_table(
+    list: &List,
+    record: fn(Entry) -> [u8; RECORD],
+    table: &mut [u8],
+) -> Taken<usize> {
+    let needed = RECORD * list.len();
     let mut output = Output::with_room(table, needed)?;
     for entry in list {
         output.put(&record(*entry));
@@ -196,11 +201,15 @@ pub fn write_table(list: &List, record: fn(Entry) -> [u8; 24], table: &mut [u8])
     Ok(needed)
 }
 
-/// A record of 24 bytes: eight bytes as they are, then two u64.
-pub fn record(head: &[u8], second: u64, third: u64) -> [u8; 24] {
-    let mut record = [0; 24];
+/// The bytes of a record.
+pub const RECORD: usize = 32;
+
+/// A record: eight bytes as they are, two u64, the u32 position and a u32 0.
+pub fn record(head: &[u8], second: u64, third: u64, position: u32) -> [u8; RECORD] {
+    let mut record = [0; RECORD];
     record[..8].copy_from_slice(head);
     record[8..16].copy_from_slice(&second.to_le_bytes());
-    record[16..].copy_from_slice(&third.to_le_bytes());
+    record[16..24].copy_from_slice(&third.to_le_bytes());
+    record[24..28].copy_from_slice(&position.to_le_bytes());
     record
 }

@@ -7,7 +7,7 @@ use crate::answer::{
 use crate::cursor::{is_text, u16_at, u32_at, u64_at, Cursor, Output};
 use crate::list::{
     device_key, is_cpu_length, mmu_length, read_cpu_state, read_list, record, write_table, Entry,
-    Kind, List, MOST_IMAGE, MOST_PAYLOAD,
+    Kind, List, MOST_IMAGE, MOST_PAYLOAD, RECORD,
 };
 
 const MOST_FILE: usize = 1024 << 20;
@@ -175,11 +175,11 @@ fn read_meta(mut payload: Cursor) -> Taken<()> {
 // Tables.
 
 fn write_sections(sections: &[Section], table: &mut [u8]) -> Taken<usize> {
-    let needed = 24 * sections.len();
+    let needed = RECORD * sections.len();
     let mut output = Output::with_room(table, needed)?;
-    for section in sections {
-        let offset = section.start + SECTION_HEADER;
-        output.put(&record(&section.bytes[..8], offset as u64, u64_at(section.bytes, 8)));
+    for (section, position) in sections.iter().zip(0..) {
+        let (offset, length) = (section.start + SECTION_HEADER, u64_at(section.bytes, 8));
+        output.put(&record(&section.bytes[..8], offset as u64, length, position));
     }
     Ok(needed)
 }
@@ -187,7 +187,7 @@ fn write_sections(sections: &[Section], table: &mut [u8]) -> Taken<usize> {
 fn list_table(
     file: &[u8],
     id: u32,
-    record: fn(Entry) -> [u8; 24],
+    record: fn(Entry) -> [u8; RECORD],
     table: &mut [u8],
 ) -> Taken<usize> {
     let sections = read_file(file)?;
@@ -196,16 +196,16 @@ fn list_table(
 }
 
 /// u32 id, u16 version and u16 flags stand so in the entry; then the payload's place and length.
-fn device_record(entry: Entry) -> [u8; 24] {
-    record(&entry.bytes[..8], entry.start as u64 + 16, u64_at(entry.bytes, 8))
+fn device_record(entry: Entry) -> [u8; RECORD] {
+    record(&entry.bytes[..8], entry.start as u64 + 16, u64_at(entry.bytes, 8), entry.position)
 }
 
 /// u32 id and u32 base length stand so in the entry; then the base's place, and the overlay's length
 /// with a u32 0 behind it.
-fn disk_record(entry: Entry) -> [u8; 24] {
+fn disk_record(entry: Entry) -> [u8; RECORD] {
     let base_length = u32_at(entry.bytes, 4) as usize;
     let overlay_length = u32_at(entry.bytes, 8 + base_length);
-    record(&entry.bytes[..8], entry.start as u64 + 8, u64::from(overlay_length))
+    record(&entry.bytes[..8], entry.start as u64 + 8, u64::from(overlay_length), entry.position)
 }
 
 // The canonical form.

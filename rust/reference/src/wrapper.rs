@@ -2,7 +2,7 @@
 
 use crate::answer::{answered, ask, Answer, Taken, MAGIC, SHORT, SIZE, VERSION};
 use crate::cursor::{u32_at, Cursor, Output};
-use crate::list::{read_list, record, write_table, Entry, Kind, List};
+use crate::list::{read_list, record, write_table, Entry, Kind, List, RECORD};
 
 const MOST_WRAPPER: usize = 64 << 20;
 const HEADER: &[u8; 16] = b"AERO\x01\x00\x00\x00DSKC\x01\x00\x00\x00";
@@ -32,9 +32,9 @@ fn read_wrapper(wrapper: &[u8]) -> Taken<List<'_>> {
 }
 
 /// u16 address, u16 0 and the four tag bytes stand so in the entry; then the payload's place and length.
-fn controller_record(entry: Entry) -> [u8; 24] {
+fn controller_record(entry: Entry) -> [u8; RECORD] {
     let length = u32_at(entry.bytes, 8);
-    record(&entry.bytes[..8], entry.start as u64 + 12, u64::from(length))
+    record(&entry.bytes[..8], entry.start as u64 + 12, u64::from(length), entry.position)
 }
 
 /// Nothing is left out and nothing added, so the form is as long as the wrapper.

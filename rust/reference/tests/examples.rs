@@ -39,12 +39,14 @@ fn p5() -> Vec<u8> {
     out.to_vec()
 }
 
-fn record(id: u32, version: u16, flags: u16, offset: u64, length: u64) -> Vec<u8> {
+fn record(id: u32, version: u16, flags: u16, place: (u64, u64), position: u32) -> Vec<u8> {
     let mut record = id.to_le_bytes().to_vec();
     record.extend(version.to_le_bytes());
     record.extend(flags.to_le_bytes());
-    record.extend(offset.to_le_bytes());
-    record.extend(length.to_le_bytes());
+    record.extend(place.0.to_le_bytes());
+    record.extend(place.1.to_le_bytes());
+    record.extend(position.to_le_bytes());
+    record.extend([0; 4]);
     record
 }
 
@@ -73,22 +75,22 @@ fn p4_two_devices() {
     let file = p4();
     assert_eq!(file.len(), 71);
     assert_eq!(check(&file), answer(0, 0));
-    let mut table = [0xEE; 50];
-    assert_eq!(sections(&file, &mut table), answer(0, 24));
-    assert_eq!(table[..24], record(4, 1, 0, 32, 39)[..]);
-    assert_eq!(devices(&file, &mut table), answer(0, 48));
-    assert_eq!(table[..24], record(3, 1, 0, 69, 2)[..]);
-    assert_eq!(table[24..48], record(14, 1, 0, 52, 1)[..]);
-    assert_eq!(table[48..], [0xEE; 2]);
-    assert_eq!(devices(&file, &mut table[..47]), answer(16, 48));
+    let mut table = [0xEE; 66];
+    assert_eq!(sections(&file, &mut table), answer(0, 32));
+    assert_eq!(table[..32], record(4, 1, 0, (32, 39), 0)[..]);
+    assert_eq!(devices(&file, &mut table), answer(0, 64));
+    assert_eq!(table[..32], record(3, 1, 0, (69, 2), 1)[..]);
+    assert_eq!(table[32..64], record(14, 1, 0, (52, 1), 0)[..]);
+    assert_eq!(table[64..], [0xEE; 2]);
+    assert_eq!(devices(&file, &mut table[..63]), answer(16, 64));
 }
 
 #[test]
 fn p5_canonical_devices() {
-    let mut table = [0; 48];
-    assert_eq!(devices(&p5(), &mut table), answer(0, 48));
-    assert_eq!(table[..24], record(3, 1, 0, 52, 2)[..]);
-    assert_eq!(table[24..], record(14, 1, 0, 70, 1)[..]);
+    let mut table = [0; 64];
+    assert_eq!(devices(&p5(), &mut table), answer(0, 64));
+    assert_eq!(table[..32], record(3, 1, 0, (52, 2), 0)[..]);
+    assert_eq!(table[32..], record(14, 1, 0, (70, 1), 1)[..]);
     assert_eq!(p5(), with_devices(&[device(3, 1, 0, &[0xAB, 0xCD]), device(14, 1, 0, &[0x11])]));
 }
 
@@ -148,9 +150,11 @@ fn p13_addresses() {
     // Bus 1, device 0, function 0, and behind it bus 0, device 31, function 2, which is 250.
     wrapper.extend(*b"\x00\x01\0\0AHCP\x01\0\0\0\x99");
     wrapper.extend(*b"\xFA\x00\0\0IDE0\x00\0\0\0");
-    let mut table = [0; 48];
-    assert_eq!(controllers(&wrapper, &mut table), answer(0, 48));
+    let mut table = [0; 64];
+    assert_eq!(controllers(&wrapper, &mut table), answer(0, 64));
     assert_eq!(table[..8], *b"\xFA\x00\0\0IDE0");
-    assert_eq!(table[24..32], *b"\x00\x01\0\0AHCP");
-    assert_eq!(table[32..40], 32u64.to_le_bytes());
+    assert_eq!(table[24..32], 1u64.to_le_bytes());
+    assert_eq!(table[32..40], *b"\x00\x01\0\0AHCP");
+    assert_eq!(table[40..48], 32u64.to_le_bytes());
+    assert_eq!(table[56..], 0u64.to_le_bytes());
 }

@@ -1,5 +1,5 @@
 use Rattle.tables.specs.Tables.{ROW}
-use Rattle.snapshot.proofs.Walks.{Rowing, rowing-start, rowing-done, rowing-room, rowing-next}
+use Rattle.snapshot.proofs.Walks.{Rowing, rowing-start, rowing-done, rowing-count, rowing-room, rowing-next}
 use Rattle.aerosnap.proofs.Standing.{endAt, goes}
 use Rattle.wire.proofs.Filling.{filling-long}
 use Rattle.aerosnap.specs.File.{fileOf}
@@ -14,10 +14,10 @@ use Rattle.snapshot.proofs.put_rows.Statement.{statement}
 use Rattle.snapshot.proofs.put_rows.Tie as tie
 
 abbrev Inv-loop : tie.InvT-loop
-Inv-loop file out₀ at₀ t₀ out at t = (l : List (List ℕ)) → fileOf file ≡ taken l → Rowing file l at t out₀ out
+Inv-loop file out₀ at₀ t₀ q₀ out at t q = (l : List (List ℕ)) → fileOf file ≡ taken l → Rowing file l at t q out₀ out
 
 abbrev μ-loop : tie.MeasureT-loop
-μ-loop file out₀ at₀ t₀ out at t = length file - at
+μ-loop file out₀ at₀ t₀ q₀ out at t q = length file - at
 
 -- a turn of the loop: what it keeps, room for one record, and a place before the end
 abbrev InTurn : Type 0
@@ -26,7 +26,7 @@ InTurn = tie.In-loop Inv-loop μ-loop
 abbrev start : InTurn → tie.Start Inv-loop μ-loop
 start c = c .before .before .before .before
 
-rows : (c : InTurn) → let t = start c in let l = c .before .loop in Rowing (t .args .file .now) (t .pre .0) (l .at) (l .t) (t .args .out .now) (l .out)
+rows : (c : InTurn) → let t = start c in let l = c .before .loop in Rowing (t .args .file .now) (t .pre .0) (l .at) (l .t) (l .q) (t .args .out .now) (l .out)
 rows c = c .before .loop .inv (start c .pre .0) (start c .pre .1)
 
 room : (c : InTurn) → let l = c .before .loop in l .t + ROW ≤ length (l .out)
@@ -55,6 +55,9 @@ end-at-requires c κs = let g = on (c .before .before .before .before .before) i
 
 add-t : tie.Need-add-t Inv-loop μ-loop
 add-t c = let k = c .before .before .before .before .before .before in omega (arith, room k, filling-long (rows k .fill))
+
+add-q : tie.Need-add-q Inv-loop μ-loop
+add-q c = let k = c .before .before .before .before .before .before in omega (arith, rowing-count (rows k) (k .loop-test .taken))
 
 loop-less : tie.Need-loop-less Inv-loop μ-loop
 loop-less c = let g = on (c .before .before .before .before .before .before) in omega (arith, g .0, g .1)
@@ -86,6 +89,7 @@ put-rows-spec =
     (λ c κs. search needs)
     end-at-requires
     add-t
+    add-q
     loop-less
     loop-again
     same-length

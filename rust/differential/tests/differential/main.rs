@@ -10,6 +10,7 @@ mod adds;
 mod bounds;
 mod breaks;
 mod messages;
+mod orders;
 mod rings;
 mod sheets;
 mod snapshots;
@@ -35,6 +36,8 @@ const GROUPS: &[Group] = &[
     ("snapshots: joined", snapshots::joined),
     ("snapshots: crowded", snapshots::crowded),
     ("snapshots: texts", snapshots::texts),
+    ("lists: every order of a few", orders::few),
+    ("lists: many in several orders", orders::many),
     ("wrappers: valid", wrappers::valid),
     ("wrappers: every address", wrappers::every_address),
     ("wrappers: every byte changed", wrappers::every_byte),
