@@ -32,6 +32,12 @@ pub use Rattle.numbers.proofs.Once.{numbers-of-once, message-of-once, read-once
 pub use Rattle.region.proofs.Once.{ahead-once, offset-of-once, ring-at-once, check-once as check-region-once, check-queue-once, report-once}
 -- rings: reserve; fill; commit; take
 pub use Rattle.rings.proofs.Once.{reserve-once, fill-once, commit-once, take-once}
+-- access: parts
+pub use Rattle.access.proofs.Once.{parts-once}
+-- fields: right_length; judge; field; set; cpu_field; mmu_field; cpu_set; mmu_set
+pub use Rattle.fields.proofs.Once.{right-length-once, judge-once, field-once, set-once, cpu-field-once, mmu-field-once, cpu-set-once, mmu-set-once}
+-- sheet: make_sse; xmm_of; cpu; mmu; cpu_over; mmu_over
+pub use Rattle.sheet.proofs.Once.{make-sse-once, xmm-of-once, cpu-once, mmu-once, cpu-over-once, mmu-over-once}
 -- payloads: index
 pub use Rattle.payloads.proofs.Once.{index-once as payloads-index-once}
 -- sections: small; scan; is_list; check_and_find; count_entries
@@ -41,4 +47,4 @@ pub use Rattle.canon.proofs.Once.{canonical-once, add-device-once, add-disk-onc
 -- snapshot: check; sections; devices; disks
 pub use Rattle.snapshot.proofs.Once.{check-once, sections-once, devices-once, disks-once}
 -- cimbrolau: the same calls for C, each law named after its function
-pub use Rattle.cimbrolau.proofs.Once.{check-once as cimbrolau-check-once, sections-once as cimbrolau-sections-once, devices-once as cimbrolau-devices-once, disks-once as cimbrolau-disks-once, canonical-once as cimbrolau-canonical-once, add-device-once as cimbrolau-add-device-once, add-disk-once as cimbrolau-add-disk-once, wrapper-check-once as cimbrolau-wrapper-check-once, controllers-once as cimbrolau-controllers-once, wrapper-canonical-once as cimbrolau-wrapper-canonical-once, message-read-once as cimbrolau-message-read-once, message-write-once as cimbrolau-message-write-once, region-check-once, ring-report-once, ring-reserve-once, ring-fill-once, ring-commit-once, ring-take-once}
+pub use Rattle.cimbrolau.proofs.Once.{check-once as cimbrolau-check-once, sections-once as cimbrolau-sections-once, devices-once as cimbrolau-devices-once, disks-once as cimbrolau-disks-once, canonical-once as cimbrolau-canonical-once, add-device-once as cimbrolau-add-device-once, add-disk-once as cimbrolau-add-disk-once, wrapper-check-once as cimbrolau-wrapper-check-once, controllers-once as cimbrolau-controllers-once, wrapper-canonical-once as cimbrolau-wrapper-canonical-once, message-read-once as cimbrolau-message-read-once, message-write-once as cimbrolau-message-write-once, region-check-once, ring-report-once, ring-reserve-once, ring-fill-once, ring-commit-once, ring-take-once, cpu-field-once as cimbrolau-cpu-field-once, mmu-field-once as cimbrolau-mmu-field-once, cpu-set-once as cimbrolau-cpu-set-once, mmu-set-once as cimbrolau-mmu-set-once, access-once as cimbrolau-access-once}

@@ -2,7 +2,7 @@
 -- Assumes nothing.
 use mathlib.Core.Path.{_≡_, refl, sym, ap, _∙_, subst}
 use mathlib.Core.Logic.{_↔_, _⊎_, inl, inr}
-use mathlib.Core.Bool.{Bool, true, false, _&&_, cond}
+use mathlib.Core.Bool.{Bool, true, false, _&&_, _||_, cond}
 use mathlib.Core.List.{List, [], _∷_, _++_}
 use Prim.Native.Nat.{ℕ, _+_, _*_, _≤_, _<_}
 use native.Mathlib.Omega.{arith}
@@ -17,7 +17,8 @@ use Rattle.answer.specs.Calls.{asked}
 use Rattle.answer.proofs.Checks.{pass-checked, checked-pass, checked-append, asked-pass, and-true}
 use Rattle.answer.proofs.Outcomes.{taken-is, taken-refused}
 use Rattle.answer.proofs.Firsts.{checked-first}
-use Rattle.wire.specs.Numbers.{Bytes}
+use Rattle.wire.specs.Numbers.{Bytes, leAt, bytesOf}
+use Rattle.wire.proofs.Numbers.{bytesOf-leAt}
 use Rattle.wire.specs.Parts.{splice}
 use Rattle.wire.proofs.Parts.{length-splice}
 use Rattle.access.specs.declared.Access.{Access}
@@ -38,9 +39,8 @@ use Rattle.sheet.specs.declared.MmuShown.{MmuShown}
 use Rattle.sheet.specs.Sheet.{cpuOf, cpuOver, mmuOf, mmuOver}
 use Rattle.sheet.specs.Members.{cpuMember, mmuMember}
 use Rattle.sheet.specs.Calls.{matches, cpuCount, cpuShown, mmuShown, cpuCall, mmuCall, cpuOverChecks, cpuOverCall, mmuOverCall}
-use Rattle.sheet.proofs.Back.{cpu-same, mmu-same}
+use Rattle.sheet.proofs.Back.{cpu-over-plain, cpu-over-extended, mmu-over}
 use Rattle.sheet.proofs.Ties.{cpu-ties, mmu-ties}
-use Rattle.sheet.proofs.Answers.{cpu-between}
 use Rattle.demands.specs.Sheet as stated
 use Rattle.demands.specs.Sheet.{Accepted, Has}
 
@@ -225,19 +225,38 @@ matches-self : (len : ℕ) (t : Bool) → leb 1191 len ≡ t → cond t (leb 119
 matches-self len true e = e
 matches-self len false e = lt-ltb len 1191 (leb-false 1191 len e)
 
-cpu-back-is : (s : List ℕ) → Bytes s → Accepted Cpu s → cpuOverCall (cpuOf s) s ≡ taken s
-unfolding cpuOverCall cpuOverChecks stateChecks
-cpu-back-is s b a =
-    let p = accept-pass Cpu s a in
-    let same = cpu-same s b (cpu-between (length s) (p .0) .least) in
-    let m : matches (cpuOf s .extension) (length s) ≡ true = matches-self (length s) (leb 1191 (length s)) refl in
-    pass-checked (cpuOverChecks (cpuOf s) s) (taken (cpuOver (cpuOf s) s)) (p .0, (m, subst (λ (l : List ℕ). Pass (valueChecks (listed Cpu (length s)) l)) (sym same) (p .1))) ∙ ap taken same
+-- the extension's length is 4 in every accepted state that has one
+four : (s : List ℕ) → Bytes s → length s ≡ 1191 → Accepted Cpu s → take 4 (drop 1183 s) ≡ bytesOf 4 4
+unfolding stateChecks
+four s b e a =
+    let p = subst (λ (k : ℕ). Pass (valueChecks (listed Cpu k) s)) e (accept-pass Cpu s a .1) in
+    let q = and-true (leb 4 (leAt 4 s 1183)) (leb (leAt 4 s 1183) 4) (p .1 .1 .1 .0) in
+    let z : leAt 4 s 1183 ≡ 4 = omega (arith, leb-true 4 (leAt 4 s 1183) (q .0), leb-true (leAt 4 s 1183) 4 (q .1)) in
+    sym (bytesOf-leAt 4 s 1183 b (omega arith)) ∙ ap (bytesOf 4) z
 
-cpu-back : (s new : List ℕ) (x : CpuShown) (r : Answer) → Bytes s → Accepted Cpu s → x ≡ cpuShown (cpuCall s) → Changes (cpuCount (length s)) (cpuOverCall (x .sheet) s) s r new → (r .number ≡ 0) × (new ≡ s)
-cpu-back s new x r b a e c =
+over-is : (s t : List ℕ) → Bytes s → Bytes t → Accepted Cpu s → Accepted Cpu t → length t ≡ length s → cpuOver (cpuOf s) t ≡ s
+over-is s t b d a c n = go (eqb (length s) 1183) refl (eqb (length s) 1191) refl (right Cpu s a)
+  where
+    go : (x : Bool) → eqb (length s) 1183 ≡ x → (y : Bool) → eqb (length s) 1191 ≡ y → (x || y) ≡ true → cpuOver (cpuOf s) t ≡ s
+    go true p y q h = cpu-over-plain s t b n (eqb-true (length s) 1183 p)
+    go false p true q h = let e = eqb-true (length s) 1191 q in cpu-over-extended s t b n e (four s b e a ∙ sym (four t d (n ∙ e) c))
+    go false p false q h = let z : _≡_ {A = ℕ} 0 1 = cc in absurd (omega arith)
+
+cpu-over-is : (s t : List ℕ) → Bytes s → Bytes t → Accepted Cpu s → Accepted Cpu t → length t ≡ length s → cpuOverCall (cpuOf s) t ≡ taken s
+unfolding cpuOverCall cpuOverChecks stateChecks
+cpu-over-is s t b d a c n =
+    let p = accept-pass Cpu s a in
+    let is = over-is s t b d a c n in
+    let m : matches (cpuOf s .extension) (length t) ≡ true = subst (λ (k : ℕ). matches (cpuOf s .extension) k ≡ true) (sym n) (matches-self (length s) (leb 1191 (length s)) refl) in
+    let v : Pass (valueChecks (listed Cpu (length t)) s) = subst (λ (k : ℕ). Pass (valueChecks (listed Cpu k) s)) (sym n) (p .1) in
+    pass-checked (cpuOverChecks (cpuOf s) t) (taken (cpuOver (cpuOf s) t)) (right Cpu t c, (m, subst (λ (l : List ℕ). Pass (valueChecks (listed Cpu (length t)) l)) (sym is) v)) ∙ ap taken is
+
+cpu-over : (s t new : List ℕ) (x : CpuShown) (r : Answer) → Bytes s → Bytes t → Accepted Cpu s → Accepted Cpu t → length t ≡ length s → x ≡ cpuShown (cpuCall s)
+    → Changes (cpuCount (length t)) (cpuOverCall (x .sheet) t) t r new → (r .number ≡ 0) × (new ≡ s)
+cpu-over s t new x r b d a c n e k =
     let shown : x .sheet ≡ cpuOf s = ap (λ (y : CpuShown). y .sheet) (e ∙ ap cpuShown (cpu-from s (cpuOf s) (a, refl))) in
-    let o : cpuOverCall (x .sheet) s ≡ taken s = ap (λ (y : CpuSheet). cpuOverCall y s) shown ∙ cpu-back-is s b a in
-    (ap (λ (y : Answer). y .number) (c .answers) ∙ rw o, c .leaves ∙ ap (λ (y : Outcome (List ℕ)). changed y s) o)
+    let o : cpuOverCall (x .sheet) t ≡ taken s = ap (λ (y : CpuSheet). cpuOverCall y t) shown ∙ cpu-over-is s t b d a c n in
+    (ap (λ (y : Answer). y .number) (k .answers) ∙ rw o, k .leaves ∙ ap (λ (y : Outcome (List ℕ)). changed y t) o)
 
 over-to : (c : CpuSheet) (s t : List ℕ) → cpuOverCall c s ≡ taken t → Pass (cpuOverChecks c s) × (t ≡ cpuOver c s)
 unfolding cpuOverCall
@@ -264,15 +283,19 @@ mmu-members s c b e have n i h =
     let q = mmu-to s c e in
     reads Mmu n i s have (q .0) h ∙ ap (fitting have) (sym (mmu-ties s b n i h) ∙ ap (λ (x : MmuSheet). mmuMember x n i) (sym (q .1)))
 
-mmu-back-is : (s : List ℕ) → Bytes s → Accepted Mmu s → mmuOverCall (mmuOf s) s ≡ taken s
+mmu-over-is : (s t : List ℕ) → Bytes s → Accepted Mmu s → Accepted Mmu t → mmuOverCall (mmuOf s) t ≡ taken s
 unfolding mmuOverCall
-mmu-back-is s b a = pass-checked ((lengths Mmu (length s), SHAPE, 0) ∷ []) (taken (mmuOver (mmuOf s) s)) (right Mmu s a, tt) ∙ ap taken (mmu-same s b)
+mmu-over-is s t b a c =
+    let e = eqb-true (length s) 264 (right Mmu s a) in
+    let f = eqb-true (length t) 264 (right Mmu t c) in
+    pass-checked ((lengths Mmu (length t), SHAPE, 0) ∷ []) (taken (mmuOver (mmuOf s) t)) (right Mmu t c, tt) ∙ ap taken (mmu-over s t b (f ∙ sym e) e)
 
-mmu-back : (s new : List ℕ) (x : MmuShown) (r : Answer) → Bytes s → Accepted Mmu s → x ≡ mmuShown (mmuCall s) → Changes 264 (mmuOverCall (x .sheet) s) s r new → (r .number ≡ 0) × (new ≡ s)
-mmu-back s new x r b a e c =
+mmu-over-back : (s t new : List ℕ) (x : MmuShown) (r : Answer) → Bytes s → Accepted Mmu s → Accepted Mmu t → x ≡ mmuShown (mmuCall s) → Changes 264 (mmuOverCall (x .sheet) t) t r new
+    → (r .number ≡ 0) × (new ≡ s)
+mmu-over-back s t new x r b a c e k =
     let shown : x .sheet ≡ mmuOf s = ap (λ (y : MmuShown). y .sheet) (e ∙ ap mmuShown (mmu-from s (mmuOf s) (a, refl))) in
-    let o : mmuOverCall (x .sheet) s ≡ taken s = ap (λ (y : MmuSheet). mmuOverCall y s) shown ∙ mmu-back-is s b a in
-    (ap (λ (y : Answer). y .number) (c .answers) ∙ rw o, c .leaves ∙ ap (λ (y : Outcome (List ℕ)). changed y s) o)
+    let o : mmuOverCall (x .sheet) t ≡ taken s = ap (λ (y : MmuSheet). mmuOverCall y t) shown ∙ mmu-over-is s t b a c in
+    (ap (λ (y : Answer). y .number) (k .answers) ∙ rw o, k .leaves ∙ ap (λ (y : Outcome (List ℕ)). changed y t) o)
 
 -- ---- all of it
 
@@ -292,10 +315,11 @@ sheet = record {
     refuses = cpu-refuses;
     members = cpu-members;
     extended = λ s c e. ap (λ (x : CpuSheet). x .extension .there) (cpu-to s c e .1);
-    back = cpu-back;
+    over = cpu-over;
+    back = λ s new x r b a e c. cpu-over s s new x r b b a a refl e c;
     over-takes = λ c s t. (over-to c s t, over-from c s t);
     over-refuses = over-refuses;
   };
-  mmu = record { takes = λ s m. (mmu-to s m, mmu-from s m); members = mmu-members; back = mmu-back };
+  mmu = record { takes = λ s m. (mmu-to s m, mmu-from s m); members = mmu-members; over = mmu-over-back; back = λ s new x r b a e c. mmu-over-back s s new x r b a a e c };
   access = record { shows = shows; determined = λ w v e. sym (shows w .sum) ∙ ap wordOf e ∙ shows v .sum };
 }

@@ -67,6 +67,9 @@ pub record CpuSheets : Type 0 where
   -- each member is the field that `cpu_field` reads
   pub members : (s : List ℕ) (c : CpuSheet) → Bytes s → cpuCall s ≡ taken c → (have n i : ℕ) → Has Cpu n i s → fieldCall Cpu have s n i ≡ fitting have (cpuMember c n i)
   pub extended : (s : List ℕ) (c : CpuSheet) → cpuCall s ≡ taken c → c .extension .there ≡ leb 1191 (length s)
+  -- the sheet of one accepted state written over another of its length: every byte is the first's
+  pub over : (s t new : List ℕ) (x : CpuShown) (r : Answer) → Bytes s → Bytes t → Accepted Cpu s → Accepted Cpu t → length t ≡ length s → x ≡ cpuShown (cpuCall s)
+      → Changes (cpuCount (length t)) (cpuOverCall (x .sheet) t) t r new → (r .number ≡ 0) × (new ≡ s)
   -- read and written back over its state: nothing changes
   pub back : (s new : List ℕ) (x : CpuShown) (r : Answer) → Bytes s → Accepted Cpu s → x ≡ cpuShown (cpuCall s) → Changes (cpuCount (length s)) (cpuOverCall (x .sheet) s) s r new
       → (r .number ≡ 0) × (new ≡ s)
@@ -76,6 +79,8 @@ pub record CpuSheets : Type 0 where
 pub record MmuSheets : Type 0 where
   pub takes : (s : List ℕ) (m : MmuSheet) → (mmuCall s ≡ taken m) ↔ (Accepted Mmu s × (m ≡ mmuOf s))
   pub members : (s : List ℕ) (m : MmuSheet) → Bytes s → mmuCall s ≡ taken m → (have n i : ℕ) → Has Mmu n i s → fieldCall Mmu have s n i ≡ fitting have (mmuMember m n i)
+  pub over : (s t new : List ℕ) (x : MmuShown) (r : Answer) → Bytes s → Accepted Mmu s → Accepted Mmu t → x ≡ mmuShown (mmuCall s)
+      → Changes 264 (mmuOverCall (x .sheet) t) t r new → (r .number ≡ 0) × (new ≡ s)
   pub back : (s new : List ℕ) (x : MmuShown) (r : Answer) → Bytes s → Accepted Mmu s → x ≡ mmuShown (mmuCall s) → Changes 264 (mmuOverCall (x .sheet) s) s r new
       → (r .number ≡ 0) × (new ≡ s)
 

@@ -87,13 +87,13 @@ abbrev pub mathOver : Math → List ℕ → List ℕ
 mathOver m s = at 281 2 (m .fds) (at 279 2 (m .fcs) (at 271 8 (m .fdp) (at 263 8 (m .fip) (at 261 2 (m .fop) (at 260 1 (m .top) (at 258 2 (m .ftw) (at 256 2 (m .fsw) (at 254 2 (m .fcw) s))))))))
 
 abbrev pub sseOver : Sse → List ℕ → List ℕ
-sseOver x s = at 411 4 (x .mxcsr) (splice 415 (joined (x .xmm)) s)
+sseOver x s = splice 415 (joined (x .xmm)) (at 411 4 (x .mxcsr) s)
 
 abbrev pub extensionOver : Extension → List ℕ → List ℕ
 extensionOver e s = at 1190 1 (e .vector) (at 1189 1 (e .valid) (at 1188 1 (e .irq13) (at 1187 1 (e .a20) s)))
 
 abbrev pub cpuOver : CpuSheet → List ℕ → List ℕ
-cpuOver c s = extensionOver (c .extension) (put 671 (c .image) (put 283 (c .st) (mathOver (c .math) (segmentsOver (c .segments) (frontOver (c .front) (gprsOver (c .gpr) (sseOver (c .sse) s)))))))
+cpuOver c s = extensionOver (c .extension) (put 671 (c .image) (sseOver (c .sse) (put 283 (c .st) (mathOver (c .math) (segmentsOver (c .segments) (frontOver (c .front) (gprsOver (c .gpr) s)))))))
 
 -- ---- an MMU state read
 

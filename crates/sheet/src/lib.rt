@@ -369,8 +369,8 @@ fn put_sse(s: &mut [u8], x: Sse)
     ensures { λ _. ⌜ now (s .exit) ≡ sseOver x (now (s .entry)) ⌝ }
 {
     let xmm = xmm_of(x);
-    put_vectors(s, 415, xmm);
     put_u32(s, 411, x.mxcsr);
+    put_vectors(s, 415, xmm);
 }
 
 fn put_image(s: &mut [u8], a: [u8; 512])
@@ -400,12 +400,12 @@ fn write_cpu(s: &mut [u8], c: CpuSheet)
     let sse = c.sse;
     let image = c.image;
     let extension = c.extension;
-    put_sse(s, sse);
     put_gprs(s, gpr);
     put_front(s, front);
     put_segments(s, sixes);
     put_math(s, math);
     put_st(s, st);
+    put_sse(s, sse);
     put_image(s, image);
     put_extension(s, extension);
 }

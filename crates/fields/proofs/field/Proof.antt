@@ -13,49 +13,22 @@ use Rattle.fields.proofs.hand_out.Reads as hand-out-reads
 use Rattle.fields.proofs.judge.Reads as judge-reads
 
 -- src/lib.rt:208:11
-find-requires : tie.Need-find-requires
-find-requires c κs = search needs
-
 -- src/lib.rt:209:18
-enum-known-at : tie.Need-enum-known-at
-enum-known-at c = search needs
-
 -- src/lib.rt:209:38
-judge-requires : tie.Need-judge-requires
-judge-requires c κs = search needs
-
 -- src/lib.rt:210:25
-enum-known-number : tie.Need-enum-known-number
-enum-known-number c = search needs
-
 -- src/lib.rt:215:25
-enum-told : tie.Need-enum-told
-enum-told c = search needs
-
 -- src/lib.rt:215:25
 add-e : tie.Need-add-e
 add-e c = let a = c .before .before .before .before .before .before .before .before .before .args in let g = found (a .kind) (a .n) (a .i) (length (a .state .now)) (c .before .before .before .before .before .before .find .ensures) (c .before .before .before .before .at .given .1) in omega (arith, g .ends)
 
 -- src/lib.rt:216:26
-sub-hand-out : tie.Need-sub-hand-out
-sub-hand-out c = search needs
-
 -- src/lib.rt:216:26
-part-hand-out-start : tie.Need-part-hand-out-start
-part-hand-out-start c = search needs
-
 -- src/lib.rt:216:26
 part-hand-out-end : tie.Need-part-hand-out-end
 part-hand-out-end c = let a = c .before .before .before .before .before .before .before .before .before .args in let g = found (a .kind) (a .n) (a .i) (length (a .state .now)) (c .before .before .before .before .before .before .find .ensures) (c .before .before .before .before .at .given .1) in g .ends
 
 -- src/lib.rt:216:17
-hand-out-requires : tie.Need-hand-out-requires
-hand-out-requires c κs = search needs
-
 -- src/lib.rt:219:24
-enum-told-2 : tie.Need-enum-told-2
-enum-told-2 c = search needs
-
 -- src/lib.rt:205:1
 returns : tie.Need-returns
 returns c =
@@ -64,9 +37,6 @@ returns c =
     reads-fault (a .kind) (a .state .now) (a .n) (a .i) _ (g .has) (sym (ap testOf (c .before .number .given .1)) ∙ c .before .before .before .judge .ensures)
 
 -- src/lib.rt:205:1
-same-length : tie.Need-same-length
-same-length c = search needs
-
 -- src/lib.rt:205:1
 returns-2 : tie.Need-returns-2
 returns-2 c =
@@ -84,18 +54,18 @@ pub field-spec : {M : Type 1} → statement M
 field-spec =
     tie.close
     (tie.spec
-    find-requires
-    enum-known-at
-    judge-requires
-    enum-known-number
-    enum-told
+    (λ c κs. search needs)
+    (λ c. search needs)
+    (λ c κs. search needs)
+    (λ c. search needs)
+    (λ c. search needs)
     add-e
-    sub-hand-out
-    part-hand-out-start
+    (λ c. search needs)
+    (λ c. search needs)
     part-hand-out-end
-    hand-out-requires
-    enum-told-2
+    (λ c κs. search needs)
+    (λ c. search needs)
     returns
-    same-length
+    (λ c. search needs)
     returns-2
     returns-3)

@@ -10,9 +10,6 @@ use Rattle.fields.proofs.row_of.Reads as row-of-reads
 use Rattle.wire.proofs.fits.Reads as fits-reads
 
 -- src/lib.rt:140:9
-row-of-requires : tie.Need-row-of-requires
-row-of-requires c κs = search needs
-
 -- src/lib.rt:142:9
 returns : tie.Need-returns
 returns c = let a = c .before .before .before .args in found-over (a .kind) (a .n) (c .before .before .row-of .ensures) (a .i) (a .len) (c .if1 .taken)
@@ -29,9 +26,6 @@ add-at c =
     omega (arith, stride (a .kind) (a .n) e (a .i) (c .before .before .if1 .left), small-is (a .kind) (a .n) e .at)
 
 -- src/lib.rt:146:8
-fits-requires : tie.Need-fits-requires
-fits-requires c κs = search needs
-
 -- src/lib.rt:147:9
 returns-2 : tie.Need-returns-2
 returns-2 c = let a = c .before .before .before .before .before .before .before .args in found-here (a .kind) (a .n) (c .before .before .before .before .before .before .row-of .ensures) (a .i) (a .len) (c .before .before .before .before .if1 .left) (sym (c .before .fits2 .ensures) ∙ c .if2 .taken)
@@ -42,4 +36,4 @@ returns-3 c = let a = c .before .before .before .before .before .before .before 
 
 pub find-spec : {M : Type 1} → statement M
 find-spec =
-    tie.close (tie.spec row-of-requires returns mul-at add-at fits-requires returns-2 returns-3)
+    tie.close (tie.spec (λ c κs. search needs) returns mul-at add-at (λ c κs. search needs) returns-2 returns-3)

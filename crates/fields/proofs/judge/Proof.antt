@@ -10,17 +10,8 @@ use Rattle.fields.proofs.judge.Lts as lts
 use Rattle.entries.proofs.cpu_state.Reads as cpu-state-reads
 
 -- src/lib.rt:172:23
-enum-told : tie.Need-enum-told
-enum-told c = search needs
-
 -- src/lib.rt:172:23
-cpu-state-requires : tie.Need-cpu-state-requires
-cpu-state-requires c κs = search needs
-
 -- src/lib.rt:174:16
-enum-told-2 : tie.Need-enum-told-2
-enum-told-2 c = search needs
-
 -- src/lib.rt:175:17
 returns : tie.Need-returns
 returns c = let a = c .before .before .before .before .args in rw (c .before .enum-told2 .given .1) (judge-mmu (a .state .now) _ (eq-eqb (length (a .state .now)) 264 (c .if1 .taken)))
@@ -35,4 +26,4 @@ returns-3 c = let a = c .before .before .before .before .args in rw (c .before .
 
 pub judge-spec : {M : Type 1} → statement M
 judge-spec =
-    tie.close (tie.spec enum-told cpu-state-requires enum-told-2 returns returns-2 returns-3)
+    tie.close (tie.spec (λ c. search needs) (λ c κs. search needs) (λ c. search needs) returns returns-2 returns-3)

@@ -8,29 +8,11 @@ use Rattle.fields.proofs.mmu_row.Reads as reads
 use Rattle.fields.proofs.mmu_row.Lts as lts
 
 -- src/lib.rt:91:13
-mul-r : tie.Need-mul-r
-mul-r c = search needs
-
 -- src/lib.rt:91:13
-array-copy-out-r : tie.Need-array-copy-out-r
-array-copy-out-r c = search needs
-
 -- src/lib.rt:93:13
-array-read-t15 : tie.Need-array-read-t15
-array-read-t15 c = search needs
-
 -- src/lib.rt:94:16
-array-read-t23 : tie.Need-array-read-t23
-array-read-t23 c = search needs
-
 -- src/lib.rt:95:16
-array-read-t26 : tie.Need-array-read-t26
-array-read-t26 c = search needs
-
 -- src/lib.rt:96:15
-array-read-t29 : tie.Need-array-read-t29
-array-read-t29 c = search needs
-
 -- src/lib.rt:87:1
 returns : tie.Need-returns
 unfolding rowAt
@@ -40,10 +22,10 @@ pub mmu-row-spec : {M : Type 1} → statement M
 mmu-row-spec =
     tie.close
     (tie.spec
-    mul-r
-    array-copy-out-r
-    array-read-t15
-    array-read-t23
-    array-read-t26
-    array-read-t29
+    (λ c. search needs)
+    (λ c. search needs)
+    (λ c. search needs)
+    (λ c. search needs)
+    (λ c. search needs)
+    (λ c. search needs)
     returns)

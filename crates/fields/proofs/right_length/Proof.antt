@@ -14,9 +14,6 @@ returns : tie.Need-returns
 returns c = rw (c .before .enum-told .given .1, eq-eqb (c .before .before .before .args .len) 1183 (c .if1 .taken))
 
 -- src/lib.rt:163:23
-enum-told-2 : tie.Need-enum-told-2
-enum-told-2 c = search needs
-
 -- src/lib.rt:153:1
 returns-2 : tie.Need-returns-2
 returns-2 c = rw (c .before .enum-told .given .1, ne-eqb (c .before .before .before .args .len) 1183 (c .if1 .left))
@@ -26,4 +23,4 @@ returns-3 : tie.Need-returns-3
 returns-3 c = rw (c .enum-told2 .given .1)
 
 pub right-length-spec : {M : Type 1} → statement M
-right-length-spec = tie.close (tie.spec enum-told returns enum-told-2 returns-2 returns-3)
+right-length-spec = tie.close (tie.spec enum-told returns (λ c. search needs) returns-2 returns-3)

@@ -12,21 +12,12 @@ enum-told : tie.Need-enum-told
 enum-told c = search needs
 
 -- src/lib.rt:107:17
-cpu-row-requires : tie.Need-cpu-row-requires
-cpu-row-requires c κs = search needs
-
 -- src/lib.rt:107:17
 returns : tie.Need-returns
 returns c = rw (c .before .before .enum-told .given .1) (c .cpu-row .ensures)
 
 -- src/lib.rt:117:16
-enum-told-2 : tie.Need-enum-told-2
-enum-told-2 c = search needs
-
 -- src/lib.rt:118:17
-mmu-row-requires : tie.Need-mmu-row-requires
-mmu-row-requires c κs = search needs
-
 -- src/lib.rt:118:17
 returns-2 : tie.Need-returns-2
 returns-2 c = rw (c .before .before .enum-told2 .given .1) (c .mmu-row .ensures)
@@ -44,10 +35,10 @@ row-of-spec =
     tie.close
     (tie.spec
     enum-told
-    cpu-row-requires
+    (λ c κs. search needs)
     returns
-    enum-told-2
-    mmu-row-requires
+    (λ c. search needs)
+    (λ c κs. search needs)
     returns-2
     returns-3
     returns-4)

@@ -13,17 +13,8 @@ use Rattle.fields.proofs.right_length.Reads as right-length-reads
 use Rattle.fields.proofs.store_at.Reads as store-at-reads
 
 -- src/lib.rt:257:8
-right-length-requires : tie.Need-right-length-requires
-right-length-requires c κs = search needs
-
 -- src/lib.rt:258:15
-find-requires : tie.Need-find-requires
-find-requires c κs = search needs
-
 -- src/lib.rt:259:22
-enum-known-at : tie.Need-enum-known-at
-enum-known-at c = search needs
-
 -- src/lib.rt:261:21
 store-at-requires : tie.Need-store-at-requires
 store-at-requires c κs =
@@ -32,9 +23,6 @@ store-at-requires c κs =
     (omega (arith, g .ends, c .before .if2 .taken), omega (arith, g .short, c .before .if2 .taken))
 
 -- src/lib.rt:261:21
-same-length : tie.Need-same-length
-same-length c = search needs
-
 -- src/lib.rt:261:21
 returns : tie.Need-returns
 returns c =
@@ -50,9 +38,6 @@ returns-2 c =
     sets-wide (a .kind) (a .n) (a .i) (a .v .now) (a .state .now) (sym (c .before .before .before .before .before .before .right-length .ensures) ∙ c .before .before .before .before .before .if1 .taken) g (ne-eqb _ _ (c .if2 .left))
 
 -- src/lib.rt:269:17
-enum-told : tie.Need-enum-told
-enum-told c = search needs
-
 -- src/lib.rt:269:17
 returns-3 : tie.Need-returns-3
 returns-3 c =
@@ -67,13 +52,13 @@ pub set-spec : {M : Type 1} → statement M
 set-spec =
     tie.close
     (tie.spec
-    right-length-requires
-    find-requires
-    enum-known-at
+    (λ c κs. search needs)
+    (λ c κs. search needs)
+    (λ c. search needs)
     store-at-requires
-    same-length
+    (λ c. search needs)
     returns
     returns-2
-    enum-told
+    (λ c. search needs)
     returns-3
     returns-4)

@@ -21,45 +21,15 @@ use Rattle.fields.proofs.judge.Reads as judge-reads
 use Rattle.wire.proofs.copy.Reads as copy-reads
 
 -- src/lib.rt:234:13
-add-e : tie.Need-add-e
-add-e c = search needs
-
 -- src/lib.rt:236:16
-slice-aggregate-copy : tie.Need-slice-aggregate-copy
-slice-aggregate-copy c = search needs
-
 -- src/lib.rt:236:29
-sub-copy : tie.Need-sub-copy
-sub-copy c = search needs
-
 -- src/lib.rt:236:29
-part-copy-start : tie.Need-part-copy-start
-part-copy-start c = search needs
-
 -- src/lib.rt:236:29
-part-copy-end : tie.Need-part-copy-end
-part-copy-end c = search needs
-
 -- src/lib.rt:236:5
-copy-requires : tie.Need-copy-requires
-copy-requires c κs = search needs
-
 -- src/lib.rt:237:5
-copy-requires-2 : tie.Need-copy-requires-2
-copy-requires-2 c κs = search needs
-
 -- src/lib.rt:238:11
-judge-requires : tie.Need-judge-requires
-judge-requires c κs = search needs
-
 -- src/lib.rt:239:21
-enum-known-number : tie.Need-enum-known-number
-enum-known-number c = search needs
-
 -- src/lib.rt:240:31
-array-share-prefix-old : tie.Need-array-share-prefix-old
-array-share-prefix-old c = search needs
-
 -- src/lib.rt:240:31
 slice-aggregate-copy-2 : tie.Need-slice-aggregate-copy-2
 slice-aggregate-copy-2 c =
@@ -69,17 +39,8 @@ slice-aggregate-copy-2 c =
     sym (length-take-le n (t .copy .last .0) (omega (arith, c .before .before .before .before .before .before .before .before .before .before .before .before .before .before .before .before .before .before .pre .1)))
 
 -- src/lib.rt:240:13
-copy-requires-3 : tie.Need-copy-requires-3
-copy-requires-3 c κs = search needs
-
 -- src/lib.rt:248:20
-enum-told : tie.Need-enum-told
-enum-told c = search needs
-
 -- src/lib.rt:229:1
-same-length : tie.Need-same-length
-same-length c = search needs
-
 -- src/lib.rt:229:1
 returns : tie.Need-returns
 returns c =
@@ -93,9 +54,6 @@ returns c =
     rw same (changes-refused (asked-stop (stateChecks (a .kind) new) (taken new) bad))
 
 -- src/lib.rt:229:1
-same-length-2 : tie.Need-same-length-2
-same-length-2 c = search needs
-
 -- src/lib.rt:229:1
 returns-2 : tie.Need-returns-2
 returns-2 c =
@@ -111,20 +69,20 @@ pub store-at-spec : {M : Type 1} → statement M
 store-at-spec =
     tie.close
     (tie.spec
-    add-e
-    slice-aggregate-copy
-    sub-copy
-    part-copy-start
-    part-copy-end
-    copy-requires
-    copy-requires-2
-    judge-requires
-    enum-known-number
-    array-share-prefix-old
+    (λ c. search needs)
+    (λ c. search needs)
+    (λ c. search needs)
+    (λ c. search needs)
+    (λ c. search needs)
+    (λ c κs. search needs)
+    (λ c κs. search needs)
+    (λ c κs. search needs)
+    (λ c. search needs)
+    (λ c. search needs)
     slice-aggregate-copy-2
-    copy-requires-3
-    enum-told
-    same-length
+    (λ c κs. search needs)
+    (λ c. search needs)
+    (λ c. search needs)
     returns
-    same-length-2
+    (λ c. search needs)
     returns-2)

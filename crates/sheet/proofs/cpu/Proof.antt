@@ -10,21 +10,9 @@ use Rattle.fields.proofs.judge.Reads as judge-reads
 use Rattle.sheet.proofs.read_cpu.Reads as read-cpu-reads
 
 -- src/lib.rt:571:11
-judge-requires : tie.Need-judge-requires
-judge-requires c κs = search needs
-
 -- src/lib.rt:572:21
-enum-known-number : tie.Need-enum-known-number
-enum-known-number c = search needs
-
 -- src/lib.rt:574:34
-slice-aggregate-read-cpu : tie.Need-slice-aggregate-read-cpu
-slice-aggregate-read-cpu c = search needs
-
 -- src/lib.rt:574:17
-read-cpu-requires : tie.Need-read-cpu-requires
-read-cpu-requires c κs = search needs
-
 -- src/lib.rt:582:17
 enum-told : tie.Need-enum-told
 enum-told c = search needs
@@ -45,10 +33,10 @@ pub cpu-spec : {M : Type 1} → statement M
 cpu-spec =
     tie.close
     (tie.spec
-    judge-requires
-    enum-known-number
-    slice-aggregate-read-cpu
-    read-cpu-requires
+    (λ c κs. search needs)
+    (λ c. search needs)
+    (λ c. search needs)
+    (λ c κs. search needs)
     enum-told
     read-cpu-requires-2
     returns

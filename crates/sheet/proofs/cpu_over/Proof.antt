@@ -10,21 +10,12 @@ use Rattle.sheet.proofs.agrees.Reads as agrees-reads
 use Rattle.sheet.proofs.store_cpu.Reads as store-cpu-reads
 
 -- src/lib.rt:665:8
-right-length-requires : tie.Need-right-length-requires
-right-length-requires c κs = search needs
-
 -- src/lib.rt:666:12
-agrees-requires : tie.Need-agrees-requires
-agrees-requires c κs = search needs
-
 -- src/lib.rt:667:13
 store-cpu-requires : tie.Need-store-cpu-requires
 store-cpu-requires c κs = let g = cpu-between _ (sym (c .before .before .before .before .right-length .ensures) ∙ c .before .before .before .if1 .taken) in (g .least, g .most)
 
 -- src/lib.rt:667:13
-same-length : tie.Need-same-length
-same-length c = search needs
-
 -- src/lib.rt:667:13
 returns : tie.Need-returns
 returns c = let a = c .before .before .before .before .before .before .before .before .before .args in let e = c .before .before .store-cpu .ensures in over-stored (a .sheet) (a .state .now) (sym (c .before .before .before .before .before .before .before .right-length .ensures) ∙ c .before .before .before .before .before .before .if1 .taken) (sym (c .before .before .before .before .before .agrees .ensures) ∙ c .before .before .before .before .if2 .taken) (e .0) (e .1)
@@ -41,10 +32,10 @@ pub cpu-over-spec : {M : Type 1} → statement M
 cpu-over-spec =
     tie.close
     (tie.spec
-    right-length-requires
-    agrees-requires
+    (λ c κs. search needs)
+    (λ c κs. search needs)
     store-cpu-requires
-    same-length
+    (λ c. search needs)
     returns
     returns-2
     returns-3)

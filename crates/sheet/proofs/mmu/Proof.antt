@@ -10,29 +10,11 @@ use Rattle.fields.proofs.judge.Reads as judge-reads
 use Rattle.sheet.proofs.read_mmu.Reads as read-mmu-reads
 
 -- src/lib.rt:596:11
-judge-requires : tie.Need-judge-requires
-judge-requires c κs = search needs
-
 -- src/lib.rt:597:21
-enum-known-number : tie.Need-enum-known-number
-enum-known-number c = search needs
-
 -- src/lib.rt:599:34
-slice-aggregate-read-mmu : tie.Need-slice-aggregate-read-mmu
-slice-aggregate-read-mmu c = search needs
-
 -- src/lib.rt:599:17
-read-mmu-requires : tie.Need-read-mmu-requires
-read-mmu-requires c κs = search needs
-
 -- src/lib.rt:607:17
-enum-told : tie.Need-enum-told
-enum-told c = search needs
-
 -- src/lib.rt:607:17
-read-mmu-requires-2 : tie.Need-read-mmu-requires-2
-read-mmu-requires-2 c κs = search needs
-
 -- src/lib.rt:593:1
 returns : tie.Need-returns
 returns c = mmu-fault (c .before .before .before .before .before .before .before .args .state .now) (sym (ap testOf (c .before .before .before .number .given .1)) ∙ c .before .before .before .before .before .judge .ensures) (c .read-mmu .ensures)
@@ -45,11 +27,11 @@ pub mmu-spec : {M : Type 1} → statement M
 mmu-spec =
     tie.close
     (tie.spec
-    judge-requires
-    enum-known-number
-    slice-aggregate-read-mmu
-    read-mmu-requires
-    enum-told
-    read-mmu-requires-2
+    (λ c κs. search needs)
+    (λ c. search needs)
+    (λ c. search needs)
+    (λ c κs. search needs)
+    (λ c. search needs)
+    (λ c κs. search needs)
     returns
     returns-2)

@@ -9,17 +9,8 @@ use Rattle.fields.proofs.right_length.Reads as right-length-reads
 use Rattle.sheet.proofs.write_mmu.Reads as write-mmu-reads
 
 -- src/lib.rt:684:8
-right-length-requires : tie.Need-right-length-requires
-right-length-requires c κs = search needs
-
 -- src/lib.rt:685:9
-write-mmu-requires : tie.Need-write-mmu-requires
-write-mmu-requires c κs = search needs
-
 -- src/lib.rt:686:9
-same-length : tie.Need-same-length
-same-length c = search needs
-
 -- src/lib.rt:686:9
 returns : tie.Need-returns
 returns c = let a = c .before .before .before .before .before .before .before .args in mmu-over-fine (a .sheet) (a .state .now) (sym (c .before .before .before .before .before .right-length .ensures) ∙ c .before .before .before .before .if1 .taken) (c .before .before .write-mmu .ensures)
@@ -30,4 +21,4 @@ returns-2 c = let a = c .before .before .before .args in mmu-over-length (a .she
 
 pub mmu-over-spec : {M : Type 1} → statement M
 mmu-over-spec =
-    tie.close (tie.spec right-length-requires write-mmu-requires same-length returns returns-2)
+    tie.close (tie.spec (λ c κs. search needs) (λ c κs. search needs) (λ c. search needs) returns returns-2)

@@ -17,26 +17,8 @@ abbrev μ-loop : tie.MeasureT-loop
 loop-holds : tie.Need-loop-holds Inv-loop μ-loop
 loop-holds c = let x = c .before .args in (omega arith, refl, turn-none (λ (k : ℕ). segmentOver (k * 18 + 228) (getD (x .t2) k noSegment)) (x .s .now))
 
-mul-put-segment : tie.Need-mul-put-segment Inv-loop μ-loop
-mul-put-segment c = search needs
-
-add-put-segment : tie.Need-add-put-segment Inv-loop μ-loop
-add-put-segment c = search needs
-
-mul-put-segment-2 : tie.Need-mul-put-segment-2 Inv-loop μ-loop
-mul-put-segment-2 c = search needs
-
 array-copy-out-put-segment : tie.Need-array-copy-out-put-segment Inv-loop μ-loop
 array-copy-out-put-segment c = c .before .loop-test .taken
-
-put-segment-requires : tie.Need-put-segment-requires Inv-loop μ-loop
-put-segment-requires c κs = search needs
-
-add-i : tie.Need-add-i Inv-loop μ-loop
-add-i c = search needs
-
-loop-less : tie.Need-loop-less Inv-loop μ-loop
-loop-less c = search needs
 
 loop-again : tie.Need-loop-again Inv-loop μ-loop
 loop-again c =
@@ -62,13 +44,13 @@ put-system-spec =
     Inv-loop
     μ-loop
     loop-holds
-    mul-put-segment
-    add-put-segment
-    mul-put-segment-2
+    (λ c. search needs)
+    (λ c. search needs)
+    (λ c. search needs)
     array-copy-out-put-segment
-    put-segment-requires
-    add-i
-    loop-less
+    (λ c κs. search needs)
+    (λ c. search needs)
+    (λ c. search needs)
     loop-again
     same-length
     returns)

@@ -22,20 +22,11 @@ loop-holds : tie.Need-loop-holds Inv-loop μ-loop
 unfolding joined
 loop-holds c = (omega arith, refl, no-part (c .before .args .s .now) (c .before .args .at) (omega arith))
 
-mul-put-row : tie.Need-mul-put-row Inv-loop μ-loop
-mul-put-row c = search needs
-
 add-put-row : tie.Need-add-put-row Inv-loop μ-loop
 add-put-row c = omega (arith, c .before .loop-test .taken)
 
-mul-put-row-2 : tie.Need-mul-put-row-2 Inv-loop μ-loop
-mul-put-row-2 c = search needs
-
 array-copy-out-put-row : tie.Need-array-copy-out-put-row Inv-loop μ-loop
 array-copy-out-put-row c = c .before .loop-test .taken
-
-put-row-requires : tie.Need-put-row-requires Inv-loop μ-loop
-put-row-requires c κs = search needs
 
 add-i : tie.Need-add-i Inv-loop μ-loop
 add-i c = omega (arith, c .before .before .before .before .before .loop-test .taken)
@@ -73,11 +64,11 @@ put-vectors-spec =
     Inv-loop
     μ-loop
     loop-holds
-    mul-put-row
+    (λ c. search needs)
     add-put-row
-    mul-put-row-2
+    (λ c. search needs)
     array-copy-out-put-row
-    put-row-requires
+    (λ c κs. search needs)
     add-i
     loop-less
     loop-again

@@ -10,29 +10,11 @@ use Rattle.sheet.proofs.msrs_of.Reads as msrs-of-reads
 use Rattle.sheet.proofs.system_of.Reads as system-of-reads
 
 -- src/lib.rt:482:9
-control-of-requires : tie.Need-control-of-requires
-control-of-requires c κs = search needs
-
 -- src/lib.rt:483:9
-debug-of-requires : tie.Need-debug-of-requires
-debug-of-requires c κs = search needs
-
 -- src/lib.rt:484:9
-msrs-of-requires : tie.Need-msrs-of-requires
-msrs-of-requires c κs = search needs
-
 -- src/lib.rt:485:9
-bound-at-requires : tie.Need-bound-at-requires
-bound-at-requires c κs = search needs
-
 -- src/lib.rt:486:9
-bound-at-requires-2 : tie.Need-bound-at-requires-2
-bound-at-requires-2 c κs = search needs
-
 -- src/lib.rt:487:9
-system-of-requires : tie.Need-system-of-requires
-system-of-requires c κs = search needs
-
 -- src/lib.rt:479:1
 returns : tie.Need-returns
 returns c = rw (c .before .before .before .before .before .control-of .ensures, c .before .before .before .before .debug-of .ensures, c .before .before .before .msrs-of .ensures, c .before .before .bound-at .ensures, c .before .bound-at2 .ensures, c .system-of .ensures)
@@ -41,10 +23,10 @@ pub read-mmu-spec : {M : Type 1} → statement M
 read-mmu-spec =
     tie.close
     (tie.spec
-    control-of-requires
-    debug-of-requires
-    msrs-of-requires
-    bound-at-requires
-    bound-at-requires-2
-    system-of-requires
+    (λ c κs. search needs)
+    (λ c κs. search needs)
+    (λ c κs. search needs)
+    (λ c κs. search needs)
+    (λ c κs. search needs)
+    (λ c κs. search needs)
     returns)

@@ -24,29 +24,11 @@ use Rattle.sheet.proofs.write_cpu.Reads as write-cpu-reads
 use Rattle.wire.proofs.copy.Reads as copy-reads
 
 -- src/lib.rt:644:16
-slice-aggregate-copy : tie.Need-slice-aggregate-copy
-slice-aggregate-copy c = search needs
-
 -- src/lib.rt:644:5
-copy-requires : tie.Need-copy-requires
-copy-requires c κs = search needs
-
 -- src/lib.rt:645:5
-write-cpu-requires : tie.Need-write-cpu-requires
-write-cpu-requires c κs = search needs
-
 -- src/lib.rt:646:11
-judge-requires : tie.Need-judge-requires
-judge-requires c κs = search needs
-
 -- src/lib.rt:647:21
-enum-known-number : tie.Need-enum-known-number
-enum-known-number c = search needs
-
 -- src/lib.rt:648:30
-array-share-prefix-old : tie.Need-array-share-prefix-old
-array-share-prefix-old c = search needs
-
 -- src/lib.rt:648:30
 slice-aggregate-copy-2 : tie.Need-slice-aggregate-copy-2
 slice-aggregate-copy-2 c =
@@ -56,21 +38,9 @@ slice-aggregate-copy-2 c =
     sym (length-take-le n (t .copy .last .0) (omega (arith, c .before .before .before .before .before .before .before .before .before .before .before .before .before .before .before .before .pre .1)))
 
 -- src/lib.rt:648:13
-copy-requires-2 : tie.Need-copy-requires-2
-copy-requires-2 c κs = search needs
-
 -- src/lib.rt:656:20
-enum-told : tie.Need-enum-told
-enum-told c = search needs
-
 -- src/lib.rt:656:20
-count-of-requires : tie.Need-count-of-requires
-count-of-requires c κs = search needs
-
 -- src/lib.rt:638:1
-same-length : tie.Need-same-length
-same-length c = search needs
-
 -- src/lib.rt:638:1
 returns : tie.Need-returns
 returns c =
@@ -84,9 +54,6 @@ returns c =
     (long, rw same (changes-refused (asked-stop (stateChecks Cpu new) (taken new) bad)))
 
 -- src/lib.rt:638:1
-same-length-2 : tie.Need-same-length-2
-same-length-2 c = search needs
-
 -- src/lib.rt:638:1
 returns-2 : tie.Need-returns-2
 returns-2 c =
@@ -102,17 +69,17 @@ pub store-cpu-spec : {M : Type 1} → statement M
 store-cpu-spec =
     tie.close
     (tie.spec
-    slice-aggregate-copy
-    copy-requires
-    write-cpu-requires
-    judge-requires
-    enum-known-number
-    array-share-prefix-old
+    (λ c. search needs)
+    (λ c κs. search needs)
+    (λ c κs. search needs)
+    (λ c κs. search needs)
+    (λ c. search needs)
+    (λ c. search needs)
     slice-aggregate-copy-2
-    copy-requires-2
-    enum-told
-    count-of-requires
-    same-length
+    (λ c κs. search needs)
+    (λ c. search needs)
+    (λ c κs. search needs)
+    (λ c. search needs)
     returns
-    same-length-2
+    (λ c. search needs)
     returns-2)

@@ -20,9 +20,6 @@ loop-holds : tie.Need-loop-holds Inv-loop μ-loop
 unfolding rows
 loop-holds c = (omega arith, refl, refl)
 
-mul-row : tie.Need-mul-row Inv-loop μ-loop
-mul-row c = search needs
-
 add-row : tie.Need-add-row Inv-loop μ-loop
 add-row c = omega (arith, c .loop-test .taken)
 
@@ -63,7 +60,7 @@ vectors-spec =
     Inv-loop
     μ-loop
     loop-holds
-    mul-row
+    (λ c. search needs)
     add-row
     row-requires
     mul-a
