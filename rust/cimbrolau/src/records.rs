@@ -68,10 +68,8 @@ mod tests {
             15, 0, 0, 0, 0, 1, 2, 0, 0, 0, 0, 0, 1, 0, 0, 0, 9, 0, 0, 0, 0, 0, 0, 128, 0, 1, 0, 0,
             0, 0, 0, 0,
         ]);
-        let numbers = |r: &[u8]| (u32_at(r, 0), u16_at(r, 4), u64_at(r, 8), u64_at(r, 16), position(r));
-        assert_eq!(
-            all(&table, numbers),
-            [(0, 0, 0, 0, 0), (15, 256, 1 << 32, (1 << 63) + 9, 256)]
-        );
+        let numbers =
+            |r: &[u8]| (u32_at(r, 0), u16_at(r, 4), u64_at(r, 8), u64_at(r, 16), position(r));
+        assert_eq!(all(&table, numbers), [(0, 0, 0, 0, 0), (15, 256, 1 << 32, (1 << 63) + 9, 256)]);
     }
 }

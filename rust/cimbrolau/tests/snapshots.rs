@@ -78,7 +78,8 @@ fn a_part_is_not_taken_from_another_file() {
     let device = snapshot::devices(TWO_DEVICES).unwrap()[0];
     assert_eq!(device.payload(TWO_DEVICES), Some(&[0xAB, 0xCD][..]));
     assert_eq!(device.payload(&TWO_DEVICES[..70]), None);
-    let disk = Disk { id: 0, base_offset: u64::MAX, base_length: 9, overlay_length: 9, position: 0 };
+    let disk =
+        Disk { id: 0, base_offset: u64::MAX, base_length: 9, overlay_length: 9, position: 0 };
     assert_eq!((disk.base(TWO_DEVICES), disk.overlay(TWO_DEVICES)), (None, None));
 }
 
