@@ -22,7 +22,7 @@ use Rattle.sheet.specs.declared.CpuSheet.{CpuSheet}
 use Rattle.sheet.specs.declared.MmuSheet.{MmuSheet}
 use Rattle.sheet.specs.Sheet.{cpuOf, cpuOver, mmuOf, mmuOver}
 use Rattle.sheet.specs.Calls.{matches, cpuCount, cpuShown, mmuShown, cpuCall, mmuCall, cpuOverChecks, cpuOverCall, mmuOverCall}
-use Rattle.sheet.proofs.Arrays.{put-whole}
+use Rattle.sheet.proofs.Rows.{put-whole}
 
 -- ---- lengths
 
