@@ -19,6 +19,9 @@ use crate::raw;
 pub use crate::raw::{access, Access};
 use crate::refusal::{filled, outcome, Result};
 
+// The longest field, the FXSAVE image.
+const FIELD_MOST: usize = 512;
+
 macro_rules! fields {
     ($(#[$about:meta])* $name:ident: $($(#[$note:meta])* $field:ident = $number:literal $word:literal $count:literal,)*) => {
         $(#[$about])*
@@ -149,7 +152,7 @@ fields! {
 /// # Ok::<(), cimbrolau::Refusal>(())
 /// ```
 pub fn cpu_field(state: &[u8], field: CpuField, index: u32) -> Result<Vec<u8>> {
-    filled(|out| raw::cpu_field(state, field.number(), index, out))
+    filled(FIELD_MOST, |out| raw::cpu_field(state, field.number(), index, out))
 }
 
 /// The bytes of a field of an MMU state.
@@ -160,7 +163,7 @@ pub fn cpu_field(state: &[u8], field: CpuField, index: u32) -> Result<Vec<u8>> {
 /// # Ok::<(), cimbrolau::Refusal>(())
 /// ```
 pub fn mmu_field(state: &[u8], field: MmuField, index: u32) -> Result<Vec<u8>> {
-    filled(|out| raw::mmu_field(state, field.number(), index, out))
+    filled(FIELD_MOST, |out| raw::mmu_field(state, field.number(), index, out))
 }
 
 /// Sets a field of a CPU state; a refusal changes nothing. (See [the module][self] for an example.)
