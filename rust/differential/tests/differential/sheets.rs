@@ -20,8 +20,8 @@ fn state(random: &mut Random, kind: State, length: usize) -> Vec<u8> {
     }
     if kind == Cpu && length >= 1191 {
         state[1183..1187].copy_from_slice(&[4, 0, 0, 0]);
-        for place in 1187..1190 {
-            state[place] %= 2;
+        for byte in &mut state[1187..1190] {
+            *byte %= 2;
         }
     }
     state
