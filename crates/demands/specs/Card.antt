@@ -20,6 +20,8 @@ use Rattle.messages.specs.Reading as messages
 use Rattle.messages.specs.Writing.{writeMessage}
 use Rattle.numbers.specs.declared.Numbers.{Numbers}
 use Rattle.numbers.specs.Numbers.{writeNumbers}
+use Rattle.fields.specs.declared.State.{State}
+use Rattle.fields.specs.Fields.{fieldCall, setCall, Changes}
 use Rattle.region.specs.declared.Cursors.{Cursors}
 use Rattle.region.specs.Region.{regionChecks}
 use Rattle.region.specs.Report.{asCursors, reportCall}
@@ -46,7 +48,7 @@ pub record Card : Type 0 where
   -- so no address failed the check, and without it every answer of a wrapper stays
   pub never : (a : ℕ) → Pass (addressCheck a)
   pub stays : (a : ℕ) (behind : Outcome (List ℕ)) → checked (addressCheck a) behind ≡ behind
-  -- it is none of the numbers that are taken, and no call answers it
+  -- it is none of the numbers that are taken, and no call of the C boundary answers it
   pub gone : isNumber withdrawn ≡ false
   pub check : (file : List ℕ) (r : Answer) → r ≡ verdict (checkCall file) → r .number ≢ withdrawn
   pub sections : (file : List ℕ) → WritesNever (λ have. sectionsCall have file)
@@ -67,3 +69,5 @@ pub record Card : Type 0 where
   pub fill : (b : List ℕ) (q start end : ℕ) (m new : List ℕ) (r : Answer) → Leaves asAnswer (fillCall b q start end m) b r new → r .number ≢ withdrawn
   pub commit : (b : List ℕ) (q start end : ℕ) (new : List ℕ) (r : Answer) → Leaves asAnswer (commitCall b q start end) b r new → r .number ≢ withdrawn
   pub take : (b : List ℕ) (q : ℕ) (new : List ℕ) (r : Record) → Leaves asRecord (takeCall b q) b r new → r .number ≢ withdrawn
+  pub field : (k : State) (s : List ℕ) (n i : ℕ) → WritesNever (λ have. fieldCall k have s n i)
+  pub set : (k : State) (s : List ℕ) (n i : ℕ) (v new : List ℕ) (r : Answer) → Changes (length v) (setCall k s n i v) s r new → r .number ≢ withdrawn
