@@ -24,7 +24,7 @@ use Rattle.entries.specs.declared.Kind.{Kind}
 use Rattle.entries.specs.declared.Kind.the-variants.{Devices, Disks, Cpus, Mmus, Controllers}
 use Rattle.entries.specs.Kinds.{Description, leadChecks, devices, disks, cpus, mmus, controllers, controllerChecks}
 use Rattle.entries.specs.Code.{describe}
-use Rattle.entries.proofs.States.{state-within}
+use Rattle.entries.proofs.States.{held-within}
 
 pub record Lawful (d : Description) : Type 0 where
   -- the fixed part lies in the entry
@@ -77,7 +77,7 @@ cpus-lawful v = record {
   named = λ e rest h. id-named e rest (omega arith);
   passes = λ e rest h. tt;
   bounded = omega arith;
-  keeps = ((λ e h. tt), (((λ n. (refl, tt)), λ e h. state-within v e (h .0)), blob-keeps 8 67108864));
+  keeps = ((λ e h. tt), ((((λ n. (refl, tt)), λ e h. tt), held-within v), blob-keeps 8 67108864));
   early-in = λ b h. tt;
 }
 

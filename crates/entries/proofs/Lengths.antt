@@ -9,7 +9,7 @@ use lib.ListN.{length, take, drop, length-take}
 use Rattle.answer.specs.Outcome.{Checks}
 use Rattle.wire.specs.Numbers.{leAt}
 use Rattle.wire.proofs.Numbers.{leAt-here, leAt-drop}
-use Rattle.format.specs.Format.{Asks, block, sized, pair, span}
+use Rattle.format.specs.Format.{Asks, block, sized, pair, also, span}
 
 module _ (b : List ℕ) where
   -- n bytes
@@ -36,3 +36,9 @@ module _ (b : List ℕ) where
         go : Dec (8 + n ≤ length b) → min (4 + (4 + n + (w + leAt w b (8 + n)))) (length b) ≡ min (e + w + m) (length b)
         go (yes h) = let i : 8 + n ≡ e = omega arith in omega (arith, ap (leAt w b) i)
         go (no h) = omega arith
+
+    -- more that is asked of the first changes no length
+    pub two-lengths-also : (more : Asks) {n e m r : ℕ} → n ≡ leAt 4 b 4 → e ≡ min (8 + n) (length b) → m ≡ leAt w b e → r ≡ min (e + w + m) (length b)
+        → r ≡ length (take (span (pair (block 4 ask) (pair (also (sized 4 first one) more) (sized w second two))) b) b)
+    unfolding span
+    two-lengths-also more p q u v = two-lengths p q u v

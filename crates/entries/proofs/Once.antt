@@ -1,6 +1,7 @@
 -- Each promise fixes its answer: any two that it allows are equal.
 -- Assumes nothing.
 use mathlib.Core.Path.{_≡_}
+use mathlib.Core.Bool.{Bool}
 use mathlib.Core.List.{List}
 use Prim.Native.Nat.{ℕ}
 use lib.ListN.{length, take, drop}
@@ -19,6 +20,9 @@ use Rattle.entries.specs.Code.{describe}
 
 pub most-once : (k : Kind) {r p : ℕ} → r ≡ describe k .most → p ≡ describe k .most → r ≡ p
 most-once k e f = equal-once e f
+
+pub closed-once : (k : Kind) {r p : Bool} → r ≡ describe k .closed → p ≡ describe k .closed → r ≡ p
+closed-once k e f = equal-once e f
 
 pub cpu-state-once : (v : ℕ) (s : List ℕ) (r p : Test) → testOf r ≡ cpuWhole v s → testOf p ≡ cpuWhole v s → r ≡ p
 cpu-state-once v s r p e f = test-once r p (equal-once e f)

@@ -1,6 +1,7 @@
 -- The kinds of entry, each by its description. Everything else that is said of lists is said of any description.
 -- Assumes nothing.
 use mathlib.Core.List.{List, [], _∷_}
+use mathlib.Core.Bool.{Bool, true, false}
 use Prim.Native.Nat.{ℕ, _+_, _*_, _/_, _%_}
 use lib.Dec.{leb, eqb}
 use lib.ListN.{length}
@@ -9,7 +10,7 @@ use Rattle.answer.specs.Outcome.{Checks}
 use Rattle.answer.specs.Calls.{asked}
 use Rattle.wire.specs.Numbers.{leAt}
 use Rattle.format.specs.Format.{any, Format, block, sized, pair, bytes, blob, text}
-use Rattle.entries.specs.States.{cpuLengthChecks, cpuState, mmuLength}
+use Rattle.entries.specs.States.{heldState, mmuLength}
 
 pub record Description : Type 0 where
   -- how many bytes of an entry are one field
@@ -22,6 +23,8 @@ pub record Description : Type 0 where
   pub key : List ℕ → ℕ
   -- the whole entry
   pub form : Format
+  -- whether nothing may follow the last entry; else bytes behind it are a tail, as newer savers append them
+  pub closed : Bool
 
 -- what is asked of the entry that begins b before KEY: its fixed part is one field, then what its kind asks
 abbrev pub leadChecks : Description → List ℕ → Checks
@@ -49,11 +52,11 @@ abbrev pub deviceKey : List ℕ → ℕ
 deviceKey e = (leAt 4 e 0 * 65536 + leAt 2 e 4) * 65536 + leAt 2 e 6
 
 abbrev pub devices : Description
-devices = record { fixed = 16; most = 4096; early = nothing; key = deviceKey; form = pair (bytes 8) (blob 8 payloadMost) }
+devices = record { fixed = 16; most = 4096; early = nothing; key = deviceKey; form = pair (bytes 8) (blob 8 payloadMost); closed = false }
 
 -- DISKS: u32 disk id, base image, overlay image
 abbrev pub disks : Description
-disks = record { fixed = 4; most = 256; early = nothing; key = idKey; form = pair (bytes 4) (pair (text imageMost) (text imageMost)) }
+disks = record { fixed = 4; most = 256; early = nothing; key = idKey; form = pair (bytes 4) (pair (text imageMost) (text imageMost)); closed = false }
 
 -- CPUS: u32 APIC id, u32 state length, state, u64 length, internal blob
 abbrev pub cpus : ℕ → Description
@@ -62,12 +65,13 @@ cpus v = record {
   most = 256;
   early = nothing;
   key = idKey;
-  form = pair (bytes 4) (pair (sized 4 (cpuLengthChecks v) (cpuState v)) (blob 8 blobMost));
+  form = pair (bytes 4) (pair (heldState v) (blob 8 blobMost));
+  closed = false;
 }
 
 -- MMUS: u32 APIC id, state; all of it is one field
 abbrev pub mmus : ℕ → Description
-mmus v = record { fixed = 4 + mmuLength v; most = 256; early = nothing; key = idKey; form = bytes (4 + mmuLength v) }
+mmus v = record { fixed = 4 + mmuLength v; most = 256; early = nothing; key = idKey; form = bytes (4 + mmuLength v); closed = false }
 
 -- an address is bus × 256 + device × 8 + function
 abbrev pub address : ℕ → ℕ → ℕ → ℕ
@@ -106,4 +110,5 @@ controllers = record {
   early = controllerChecks;
   key = addressKey;
   form = pair controllerHead (sized 4 unbounded any);
+  closed = true;
 }

@@ -22,7 +22,7 @@ ghost use Rattle.answer.specs.Outcome.{moved};
 ghost use Rattle.answer.specs.Calls.{pieceOf, testOf, asked};
 ghost use Rattle.format.specs.Format.{any, sized, pair, blob, text, values, span};
 ghost use Rattle.format.specs.Places.{readAt};
-ghost use Rattle.entries.specs.States.{cpuLength, cpuLengthChecks, cpuState, cpuWhole, registers, extension, mmuLength};
+ghost use Rattle.entries.specs.States.{cpuLength, extends, cpuLengthChecks, cpuState, cpuWhole, registers, switches, extension, heldChecks, heldState, mmuLength};
 ghost use Rattle.entries.specs.Kinds.{blobMost, imageMost, leadChecks, controllerChecks, controllerHead, devices, disks, cpus, controllers};
 ghost use Rattle.entries.specs.Code.{describe};
 
@@ -59,6 +59,19 @@ pub fn most_of(kind: Kind) -> u32
     }
 }
 
+// Whether nothing may follow the last entry.
+pub fn closed(kind: Kind) -> bool
+    ensures { λ r. ⌜ r ≡ describe kind .closed ⌝ }
+{
+    match kind {
+        Kind::Devices => false,
+        Kind::Disks => false,
+        Kind::Cpus(_) => false,
+        Kind::Mmus(_) => false,
+        Kind::Controllers => true,
+    }
+}
+
 // ---- states
 
 fn cpu_length(version: u16, n: usize) -> bool
@@ -70,7 +83,18 @@ fn cpu_length(version: u16, n: usize) -> bool
     if n == 1183 {
         return true;
     }
-    n == 1191
+    1191 <= n
+}
+
+// Whether a state above 1191 bytes has the length that its extension says.
+fn extended(state: &[u8]) -> bool
+    ensures { λ r. ⌜ r ≡ extends (now (state .entry)) ⌝ }
+{
+    let n = state.len();
+    if n <= 1191 {
+        return true;
+    }
+    n == 1187 + (u32_at(state, 1183) as usize)
 }
 
 fn registers_in(state: &[u8]) -> Test
@@ -88,16 +112,9 @@ fn registers_in(state: &[u8]) -> Test
     Test::Fine
 }
 
-fn extension_in(state: &[u8]) -> Test
-    ensures { λ r. ⌜ testOf r ≡ values extension (now (state .entry)) ⌝ }
+fn switches_in(state: &[u8]) -> Test
+    ensures { λ r. ⌜ testOf r ≡ values switches (now (state .entry)) ⌝ }
 {
-    let n = u32_at(state, 1183);
-    if n < 4 {
-        return Test::Fault(VALUE, 1183);
-    }
-    if 4 < n {
-        return Test::Fault(VALUE, 1183);
-    }
     if 1 < u8_at(state, 1187) {
         return Test::Fault(VALUE, 1187);
     }
@@ -110,6 +127,22 @@ fn extension_in(state: &[u8]) -> Test
     Test::Fine
 }
 
+fn extension_in(state: &[u8]) -> Test
+    ensures { λ r. ⌜ testOf r ≡ values (extension (length (now (state .entry)))) (now (state .entry)) ⌝ }
+{
+    if state.len() != 1191 {
+        return switches_in(state);
+    }
+    let n = u32_at(state, 1183);
+    if n < 4 {
+        return Test::Fault(VALUE, 1183);
+    }
+    if 4 < n {
+        return Test::Fault(VALUE, 1183);
+    }
+    switches_in(state)
+}
+
 // The listed numbers of a state whose length is right.
 fn numbers_in(version: u16, state: &[u8]) -> Test
     ensures { λ r. ⌜ testOf r ≡ cpuState version (now (state .entry)) ⌝ }
@@ -120,7 +153,7 @@ fn numbers_in(version: u16, state: &[u8]) -> Test
     match registers_in(state) {
         Test::Fault(number, place) => Test::Fault(number, place),
         Test::Fine => {
-            if state.len() == 1191 {
+            if 1191 <= state.len() {
                 return extension_in(state);
             }
             Test::Fine
@@ -133,7 +166,10 @@ pub fn cpu_state(version: u16, state: &[u8]) -> Test
     ensures { λ r. ⌜ testOf r ≡ cpuWhole version (now (state .entry)) ⌝ }
 {
     if cpu_length(version, state.len()) {
-        return numbers_in(version, state);
+        if extended(state) {
+            return numbers_in(version, state);
+        }
+        return Test::Fault(SHAPE, 0);
     }
     Test::Fault(SHAPE, 0)
 }
@@ -281,23 +317,34 @@ fn held_state(version: u16, s: &[u8], at: usize) -> Piece
     Piece::Ends(b + n)
 }
 
+// What is asked of a state behind its length, given both.
+fn held_fine(version: u16, b: &[u8]) -> Test
+    ensures { λ r. ⌜ testOf r ≡ heldChecks version (now (b .entry)) ⌝ }
+{
+    let state = tail(b, 4);
+    if extended(state) {
+        return match numbers_in(version, state) {
+            Test::Fault(number, place) => Test::Fault(number, 4 + place),
+            Test::Fine => Test::Fine,
+        };
+    }
+    Test::Fault(SHAPE, 0)
+}
+
 fn state_at(version: u16, s: &[u8], at: usize) -> Piece
-    ensures { λ r. ⌜ pieceOf r ≡ readAt (sized 4 (cpuLengthChecks version) (cpuState version)) (now (s .entry)) at ⌝ }
+    ensures { λ r. ⌜ pieceOf r ≡ readAt (heldState version) (now (s .entry)) at ⌝ }
 {
     match held_state(version, s, at) {
         Piece::Stop(number, place) => Piece::Stop(number, place),
-        Piece::Ends(e) => {
-            let b = at + 4;
-            match numbers_in(version, &s[b..e]) {
-                Test::Fault(number, place) => Piece::Stop(number, b + place),
-                Test::Fine => Piece::Ends(e),
-            }
-        }
+        Piece::Ends(e) => match held_fine(version, &s[at..e]) {
+            Test::Fault(number, place) => Piece::Stop(number, at + place),
+            Test::Fine => Piece::Ends(e),
+        },
     }
 }
 
 fn cpu_rest_at(version: u16, s: &[u8], at: usize) -> Piece
-    ensures { λ r. ⌜ pieceOf r ≡ readAt (pair (sized 4 (cpuLengthChecks version) (cpuState version)) (blob 8 blobMost)) (now (s .entry)) at ⌝ }
+    ensures { λ r. ⌜ pieceOf r ≡ readAt (pair (heldState version) (blob 8 blobMost)) (now (s .entry)) at ⌝ }
 {
     match state_at(version, s, at) {
         Piece::Stop(number, place) => Piece::Stop(number, place),

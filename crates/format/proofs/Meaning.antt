@@ -16,7 +16,7 @@ use Rattle.answer.proofs.Checks.{checked-pass, pass-checked, pass-append, appen
 use Rattle.answer.proofs.Outcomes.{after-taken, moved-taken, shift-taken, taken-is}
 use Rattle.wire.specs.Numbers.{le, leAt}
 use Rattle.wire.proofs.Numbers.{leAt-front, leAt-zero, leAt-head}
-use Rattle.format.specs.Format.{Asks, Format, block, sized, option, pair, sizedChecks, optionChecks, read, Is}
+use Rattle.format.specs.Format.{Asks, Format, block, sized, option, pair, also, sizedChecks, optionChecks, read, Is}
 
 module _ (w : ℕ) (checks : ℕ → Checks) (ask : Asks) where
   -- what comes behind the checks of a sized piece
@@ -50,6 +50,7 @@ complete (option f) e rest (inr (x, q, h)) =
     rw (q, leAt-head 1 (x ++ rest), le-leb 1 (suc (length (x ++ rest))) (omega arith), q, complete f x rest h) (ap taken (omega arith))
 complete (pair f g) e rest (x, y, q, h, k) =
     rw (q, append-assoc, complete f x (y ++ rest) h, drop-at x (y ++ rest) (length x) refl, complete g y rest k, length-append) refl
+complete (also f ask) e rest (h, k) = rw (complete f e rest h, take-append-seam e rest, k)
 
 pub sound : (f : Format) (b : List ℕ) {k : ℕ} → read f b ≡ taken k → (k ≤ length b) × Is f (take k b)
 unfolding read
@@ -97,6 +98,11 @@ sound (pair f g) b {k} h =
     let v = sound g (drop (p .0) b) (q .1) in
     let l : length (drop (p .0) b) ≡ length b - p .0 = length-drop (p .0) b in
     (omega (arith, u .0, v .0, l, q .2), (take (p .0) b, take (q .0) (drop (p .0) b), ap (λ (n : ℕ). take n b) (q .2) ∙ take-add (p .0) (q .0) b, u .1, v .1))
+sound (also f ask) b {k} h =
+    let (j, p, q) = after-taken (read f b) (λ k. after (ask (take k b)) (λ _. taken k)) h in
+    let (_, r, z) = after-taken (ask (take j b)) (λ _. taken j) q in
+    let u = sound f b p in
+    rw (← taken-is z) (u .0, (u .1, r))
 
 -- a piece ends at one place, whatever follows: bytes begin with at most one piece of a format
 pub is-one : (f : Format) (e x rest more : List ℕ) → Is f e → Is f x → e ++ rest ≡ x ++ more → e ≡ x
@@ -110,6 +116,7 @@ least (block n ask) = n
 least (sized w checks ask) = w
 least (option f) = 1
 least (pair f g) = least f + least g
+least (also f ask) = least f
 
 pub least-le : (f : Format) (e : List ℕ) → Is f e → least f ≤ length e
 least-le (block n ask) e h = omega (arith, h .0)
@@ -117,3 +124,4 @@ least-le (sized w checks ask) e (x, y, q, i, j, k, m) = omega (arith, ap length 
 least-le (option f) e (inl q) = omega (arith, ap length q)
 least-le (option f) e (inr (x, q, h)) = omega (arith, ap length q)
 least-le (pair f g) e (x, y, q, h, k) = omega (arith, ap length q, length-append x y, least-le f x h, least-le g y k)
+least-le (also f ask) e (h, k) = least-le f e h

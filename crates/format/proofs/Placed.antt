@@ -12,7 +12,7 @@ use Rattle.answer.specs.Numbers.{SHAPE}
 use Rattle.answer.specs.Outcome.{Outcome, taken, refused, Checks, checked, after, moved, shift}
 use Rattle.answer.proofs.Outcomes.{shift-taken, shift-zero, shift-shift, after-shift}
 use Rattle.wire.specs.Numbers.{leAt}
-use Rattle.format.specs.Format.{Asks, any, Format, block, sized, option, pair, sizedChecks, optionChecks, read}
+use Rattle.format.specs.Format.{Asks, any, Format, block, sized, option, pair, also, sizedChecks, optionChecks, read}
 use Rattle.format.specs.Places.{readAt, presentAt}
 use Rattle.format.proofs.Meaning.{sound}
 
@@ -64,11 +64,27 @@ option-at f s at = through at (elim (eqb n 0) [ true ↦ taken 1 | false ↦ shi
 abbrev pub askedAt : Asks → List ℕ → ℕ → ℕ → Outcome ℕ
 askedAt ask s b e = after (moved b (ask (take (e - b) (drop b s)))) (λ _. taken e)
 
+-- asked of a piece at its own place
+asked-shift : (at n : ℕ) (r : Outcome (Unit {0})) → shift at (after r (λ _. taken n)) ≡ after (moved at r) (λ _. taken (at + n))
+asked-shift at n (taken u) = refl
+asked-shift at n (refused a p) = refl
+
+-- a piece, and then what is asked of all its bytes
+pub also-at : (f : Format) (ask : Asks) (s : List ℕ) (at : ℕ) → readAt (also f ask) s at ≡ after (readAt f s at) (askedAt ask s at)
+unfolding read
+also-at f ask s at = go (read f (drop at s))
+  where
+    go : (r : Outcome ℕ) → shift at (after r (λ k. after (ask (take k (drop at s))) (λ _. taken k))) ≡ after (shift at r) (askedAt ask s at)
+    go (taken k) =
+        let part : at + k - at ≡ k = omega arith in
+        asked-shift at k (ask (take k (drop at s))) ∙ ap (λ (j : ℕ). after (moved at (ask (take j (drop at s)))) (λ _. taken (at + k))) (sym part)
+    go (refused n p) = refl
+
 -- a block is its bytes, and then what is asked of them
 pub block-at : (n : ℕ) (ask : Asks) (s : List ℕ) (at : ℕ) → readAt (block n ask) s at ≡ after (readAt (block n any) s at) (askedAt ask s at)
 unfolding read
 block-at n ask s at =
-    through at (after (ask y) (λ _. taken n)) (taken n) (λ e. askedAt ask s at (at + e)) ((leb n (length (drop at s)), SHAPE, 0) ∷ []) (same (ask y) ∙ ap (λ (k : ℕ). after (moved at (ask (take k (drop at s)))) (λ _. taken (at + n))) (sym part))
+    through at (after (ask y) (λ _. taken n)) (taken n) (λ e. askedAt ask s at (at + e)) ((leb n (length (drop at s)), SHAPE, 0) ∷ []) (asked-shift at n (ask y) ∙ ap (λ (k : ℕ). after (moved at (ask (take k (drop at s)))) (λ _. taken (at + n))) (sym part))
     ∙ sym (after-shift at (checked ((leb n (length (drop at s)), SHAPE, 0) ∷ []) (taken n)) (askedAt ask s at))
   where
     y : List ℕ
@@ -76,10 +92,6 @@ block-at n ask s at =
 
     part : at + n - at ≡ n
     part = omega arith
-
-    same : (r : Outcome (Unit {0})) → shift at (after r (λ _. taken n)) ≡ after (moved at r) (λ _. taken (at + n))
-    same (taken u) = refl
-    same (refused a p) = refl
 
 -- a sized piece is the same with nothing asked of its bytes, and then what is asked of them
 pub sized-at : (w : ℕ) (checks : ℕ → Checks) (ask : Asks) (s : List ℕ) (at : ℕ)

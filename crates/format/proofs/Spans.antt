@@ -1,6 +1,6 @@
 -- How long a piece is, by its lengths alone: where it is read, that is where it ends.
 -- Assumes nothing.
-use mathlib.Core.Path.{_≡_}
+use mathlib.Core.Path.{_≡_, _∙_}
 use mathlib.Core.List.{List, [], _∷_}
 use mathlib.Core.Bool.{Bool, true, false}
 use Prim.Native.Nat.{ℕ, _+_}
@@ -12,7 +12,7 @@ use Rattle.answer.specs.Outcome.{Outcome, taken, after, moved, shift}
 use Rattle.answer.proofs.Checks.{checked-pass}
 use Rattle.answer.proofs.Outcomes.{after-taken, shift-taken, taken-is}
 use Rattle.wire.specs.Numbers.{leAt}
-use Rattle.format.specs.Format.{Format, block, sized, option, pair, sizedChecks, optionChecks, read, span}
+use Rattle.format.specs.Format.{Format, block, sized, option, pair, also, sizedChecks, optionChecks, read, span}
 
 pub span-read : (f : Format) (b : List ℕ) {w : ℕ} → read f b ≡ taken w → span f b ≡ w
 unfolding read span
@@ -33,3 +33,7 @@ span-read (pair f g) b {w} h =
     let p = after-taken (read f b) (λ k. shift k (read g (drop k b))) h in
     let q = shift-taken (p .0) (read g (drop (p .0) b)) (p .2) in
     rw (span-read f b (p .1)) (omega (arith, span-read g (drop (p .0) b) (q .1), q .2))
+span-read (also f ask) b {w} h =
+    let (j, p, q) = after-taken (read f b) (λ k. after (ask (take k b)) (λ _. taken k)) h in
+    let (_, r, z) = after-taken (ask (take j b)) (λ _. taken j) q in
+    span-read f b p ∙ taken-is z

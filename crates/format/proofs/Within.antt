@@ -15,7 +15,7 @@ use Rattle.answer.proofs.Within.{Within, Bounded, within-more, checked-within, 
 use Rattle.wire.specs.Numbers.{leAt}
 use Rattle.utf8.specs.Scan.{isText, breakAt}
 use Rattle.utf8.proofs.Reading.{break-within}
-use Rattle.format.specs.Format.{Asks, Format, block, sized, option, pair, sizedChecks, optionChecks, read, values, blob, text}
+use Rattle.format.specs.Format.{Asks, Format, block, sized, option, pair, also, sizedChecks, optionChecks, read, Is, values, blob, text}
 use Rattle.format.proofs.Meaning.{sound}
 
 -- checks whose place is the field's own start
@@ -33,6 +33,7 @@ Keeps (block n ask) = (e : List ℕ) → length e ≡ n → Within (ask e) n
 Keeps (sized w checks ask) = ((n : ℕ) → AtStart (checks n)) × ((e : List ℕ) → Pass (checks (length e)) → Within (ask e) (length e))
 Keeps (option f) = Keeps f
 Keeps (pair f g) = Keeps f × Keeps g
+Keeps (also f ask) = Keeps f × ((e : List ℕ) → Is f e → Within (ask e) (length e))
 
 -- the bytes behind a length
 sized-within : (w : ℕ) (checks : ℕ → Checks) (ask : Asks) (b : List ℕ) → Keeps (sized w checks ask) → w ≤ length b → leAt w b 0 ≤ length b - w
@@ -72,6 +73,11 @@ read-within (option f) b p =
 read-within (pair f g) b p =
     after-within (read f b) (λ k. shift k (read g (drop k b))) (length b) (read-within f b (p .0)) (λ k e.
     shift-within k (read g (drop k b)) (length b) (length (drop k b)) (read-within g (drop k b) (p .1)) (omega (arith, length-drop k b, sound f b e .0)))
+read-within (also f ask) b p =
+    after-within (read f b) (λ k. after (ask (take k b)) (λ _. taken k)) (length b) (read-within f b (p .0)) (λ k e.
+    let u = sound f b e in
+    let l : length (take k b) ≤ length b = omega (arith, length-take-le k b (u .0), u .0) in
+    after-within (ask (take k b)) (λ _. taken k) (length b) (within-more (ask (take k b)) l (p .1 (take k b) (u .1))) (λ _ _. tt))
 
 -- a listed number's place lies within, if its row's does
 abbrev pub RowsIn : List (ℕ × ℕ × ℕ × ℕ) → ℕ → Type 0

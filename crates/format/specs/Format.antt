@@ -26,6 +26,8 @@ pub data Format : Type 0 where
   option : Format → Format
   -- one after the other
   pair : Format → Format → Format
+  -- a piece, and what is then asked of all its bytes; places count from its start
+  also : Format → Asks → Format
 
 -- a length is checked when it is read: it fits, its own checks, its bytes fit
 abbrev pub sizedChecks : ℕ → (ℕ → Checks) → List ℕ → Checks
@@ -40,6 +42,7 @@ read (block n ask) b = checked ((leb n (length b), SHAPE, 0) ∷ []) (after (ask
 read (sized w checks ask) b = checked (sizedChecks w checks b) (after (moved w (ask (take (leAt w b 0) (drop w b)))) (λ _. taken (w + leAt w b 0)))
 read (option f) b = checked (optionChecks b) (elim (eqb (leAt 1 b 0) 0) [ true ↦ taken 1 | false ↦ shift 1 (read f (drop 1 b)) ])
 read (pair f g) b = after (read f b) (λ k. shift k (read g (drop k b)))
+read (also f ask) b = after (read f b) (λ k. after (ask (take k b)) (λ _. taken k))
 
 -- how many bytes the piece that begins b says that it has: only its lengths are looked at
 unfoldable pub span : Format → List ℕ → ℕ
@@ -47,6 +50,7 @@ span (block n ask) b = n
 span (sized w checks ask) b = w + leAt w b 0
 span (option f) b = elim (eqb (leAt 1 b 0) 0) [ true ↦ 1 | false ↦ 1 + span f (drop 1 b) ]
 span (pair f g) b = span f b + span g (drop (span f b) b)
+span (also f ask) b = span f b
 
 -- the bytes e are such a piece
 abbrev pub Is : Format → List ℕ → Type 0
@@ -54,6 +58,7 @@ Is (block n ask) e = (length e ≡ n) × (ask e ≡ taken tt)
 Is (sized w checks ask) e = (x : List ℕ) × (y : List ℕ) × (e ≡ x ++ y) × (length x ≡ w) × (le x ≡ length y) × Pass (checks (length y)) × (ask y ≡ taken tt)
 Is (option f) e = (e ≡ 0 ∷ []) ⊎ ((x : List ℕ) × (e ≡ 1 ∷ x) × Is f x)
 Is (pair f g) e = (x : List ℕ) × (y : List ℕ) × (e ≡ x ++ y) × Is f x × Is g y
+Is (also f ask) e = Is f e × (ask e ≡ taken tt)
 
 -- bytes of which nothing is asked
 abbrev pub any : Asks

@@ -42,8 +42,8 @@ payload = two ++ fourteen ++ three
 pub device-lists : (length payload ≡ 39)
     × ReadsAs devices payload (taken (21 ∷ 4 ∷ []))
     × ReadsAs devices (two ++ again ++ three) (refused KEY 21)
-    -- a byte left over
-    × ReadsAs devices (payload ++ (0 ∷ [])) (refused SHAPE 39)
+    -- a byte behind the last entry is a tail
+    × ReadsAs devices (payload ++ (0 ∷ [])) (taken (21 ∷ 4 ∷ []))
     -- no count; a count over its bound, with nothing behind it
     × ReadsAs devices (2 ∷ 0 ∷ 0 ∷ []) (refused SHAPE 0)
     × ReadsAs devices (1 ∷ 16 ∷ 0 ∷ 0 ∷ []) (refused LIMIT 0)

@@ -18,7 +18,7 @@ use Rattle.format.specs.Format.{read}
 use Rattle.format.specs.Places.{readAt}
 use Rattle.order.specs.Keyed.{insert, has}
 use Rattle.entries.specs.Kinds.{Description, leadChecks}
-use Rattle.lists.specs.Lists.{keyAt, entryChecks, entryAt, walk, listAt, partChecks}
+use Rattle.lists.specs.Lists.{keyAt, endsAt, entryChecks, entryAt, walk, listAt, partChecks}
 use Rattle.lists.specs.Steps.{Room}
 
 -- checks that were asked at a place, before others
@@ -79,13 +79,13 @@ module _ (d : Description) (s : List ℕ) where
     unfolding walk
     walk-stop n h = rw h
 
-    pub walk-left : at < length s → walk d s 0 at seen ≡ refused SHAPE at
+    pub walk-left : endsAt d s at ≡ false → walk d s 0 at seen ≡ refused SHAPE at
     unfolding walk
-    walk-left h = rw (lt-leb (length s) at h)
+    walk-left h = rw h
 
-    pub walk-done : length s ≤ at → walk d s 0 at seen ≡ taken seen
+    pub walk-done : endsAt d s at ≡ true → walk d s 0 at seen ≡ taken seen
     unfolding walk
-    walk-done h = rw (le-leb (length s) at h)
+    walk-done h = rw h
 
 -- ---- a part, too long or not
 

@@ -18,14 +18,14 @@ use Rattle.order.proofs.Inserts.{apart-insert, inserts-perm}
 use Rattle.order.proofs.Starts.{drop-past, past-le, map-starts}
 use Rattle.entries.specs.Kinds.{Description}
 use Rattle.entries.proofs.Lawful.{Lawful}
-use Rattle.lists.specs.Lists.{keyAt, entryAt, leftOver, walk}
+use Rattle.lists.specs.Lists.{keyAt, entryAt, endChecks, walk}
 use Rattle.lists.proofs.Walks.{Took, entry-taken, key-local, turn, entry-complete}
 use Rattle.lists.proofs.Ordered.{same-test, fresh-same}
 
 module _ {d : Description} (K : Lawful d) (s : List ℕ) where
   -- after m of n entries, at a place: the next one is at fault, or there is none and bytes are left over
   abbrev pub StopsAt : ℕ → ℕ → ℕ → List ℕ → ℕ → ℕ → Type 0
-  StopsAt n m at seen k p = ((m < n) × (entryAt d s at seen ≡ refused k p)) ⊎ ((m ≡ n) × (checked (leftOver s at) (taken seen) ≡ refused k p))
+  StopsAt n m at seen k p = ((m < n) × (entryAt d s at seen ≡ refused k p)) ⊎ ((m ≡ n) × (checked (endChecks d s at) (taken seen) ≡ refused k p))
 
   -- what a walk over n entries stops at: entries that are fine, and what comes behind them
   pub record Stops (n at : ℕ) (seen : List ℕ) (k p : ℕ) : Type 0 where

@@ -58,17 +58,17 @@ module _ {d : Description} (K : Lawful d) (s : List ℕ) {r : List ℕ} (h : lis
 
   -- the entries in the order of their keys
   pub list-order : map (pieceAt d s) r ≡ sort (d .key) (entries d s)
-  list-order = rw (starts, list-entries d s is) (sort-starts (self d) s 4 (is .items) [] (is .cut ∙ sym (append-nil _)) (is .are) (d .key) (key-local K))
+  list-order = rw (starts, list-entries d s is) (sort-starts (self d) s 4 (is .items) (is .tail) (is .cut) (is .are) (d .key) (key-local K))
 
   -- what holds wherever an entry begins holds at each start
   pub index-every : (P : List ℕ → Type 0) → ((e rest : List ℕ) → Is (d .form) e → P (e ++ rest)) → Every (λ y. P (drop y s)) r
-  index-every P p = rw starts (every-perm _ (Permᴰ·symm (sort-perm (keyAt d s) (startsFrom 4 (is .items)))) (every-starts s P p 4 (is .items) [] (is .cut ∙ sym (append-nil _)) (is .are)))
+  index-every P p = rw starts (every-perm _ (Permᴰ·symm (sort-perm (keyAt d s) (startsFrom 4 (is .items)))) (every-starts s P p 4 (is .items) (is .tail) (is .cut) (is .are)))
 
   -- a key is in the index if it is an entry's
   pub index-has : (k : ℕ) → has (keyAt d s) k r ≡ has (d .key) k (entries d s)
   index-has k =
       let t : List ℕ = startsFrom 4 (entries d s) in
-      let e : map (keyAt d s) t ≡ map (d .key) (entries d s) = rw (list-entries d s is) (keys K s 4 (is .items) (is .cut) (is .are)) in
+      let e : map (keyAt d s) t ≡ map (d .key) (entries d s) = rw (list-entries d s is) (keys K s 4 (is .items) (is .tail) (is .cut) (is .are)) in
       same-test _ _
       (λ f. fresh-has _ k (entries d s) (fresh-same (keyAt d s) (d .key) k t (entries d s) e (every-perm _ index-perm (has-fresh _ k r f))))
       (λ f. fresh-has _ k r (every-perm _ (Permᴰ·symm index-perm) (fresh-same (d .key) (keyAt d s) k (entries d s) t (sym e) (has-fresh _ k (entries d s) f))))

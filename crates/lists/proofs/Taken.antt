@@ -3,20 +3,21 @@
 use mathlib.Core.Path.{_≡_, sym, _∙_, ap}
 use mathlib.Core.List.{List, [], _++_, append-nil}
 use Prim.Native.Nat.{ℕ, _≤_}
-use lib.ListN.{length}
+use lib.ListN.{length, drop}
+use lib.Seq.{drop-append-seam}
 use borrow.Author.Tests.{leb-true, le-leb}
 use Rattle.answer.specs.Outcome.{taken}
 use Rattle.answer.proofs.Checks.{checked-pass}
 use Rattle.wire.specs.Numbers.{leAt}
 use Rattle.format.specs.Format.{Is}
 use Rattle.format.proofs.Meaning.{complete}
-use Rattle.order.specs.Keyed.{sort, Apart}
+use Rattle.order.specs.Keyed.{weigh, sort, Apart}
 use Rattle.order.specs.Entries.{join, startsFrom, split, SelfDelimiting}
 use Rattle.order.proofs.Keys.{apart-same}
 use Rattle.order.proofs.Sorts.{inserts-sort}
-use Rattle.order.proofs.Entries.{split-join}
+use Rattle.order.proofs.Entries.{split-join, length-join}
 use Rattle.entries.specs.Kinds.{Description}
-use Rattle.lists.specs.Lists.{keyAt, walk, countChecks, listAt, widthOf, entries, IsList}
+use Rattle.lists.specs.Lists.{keyAt, walk, countChecks, listAt, widthOf, entries, tailOf, IsList}
 use Rattle.entries.proofs.Lawful.{Lawful}
 use Rattle.lists.proofs.Walks.{keys, walk-sound, walk-complete}
 
@@ -26,7 +27,13 @@ self d = record { measured = λ e rest h. rw (complete (d .form) e rest h, width
 
 -- the entries of bytes that are a list
 pub list-entries : (d : Description) (s : List ℕ) (h : IsList d s) → entries d s ≡ h .items
-list-entries d s h = rw (h .number, h .cut) (ap (split (widthOf d) (length (h .items))) (sym (append-nil (join (h .items)))) ∙ split-join (self d) (h .items) [] (h .are))
+list-entries d s h = rw (h .number, h .cut) (split-join (self d) (h .items) (h .tail) (h .are))
+
+-- and what follows them
+pub list-tail : (d : Description) (s : List ℕ) (h : IsList d s) → tailOf d s ≡ h .tail
+list-tail d s h =
+    ap (λ (l : List (List ℕ)). drop (weigh length l) (drop 4 s)) (list-entries d s h) ∙ ap (drop (weigh length (h .items))) (h .cut)
+    ∙ ap (λ (n : ℕ). drop n (join (h .items) ++ h .tail)) (sym (length-join (h .items))) ∙ drop-append-seam (join (h .items)) (h .tail)
 
 -- the content is unique
 pub items-one : (d : Description) (s : List ℕ) (h k : IsList d s) → h .items ≡ k .items
@@ -43,15 +50,17 @@ module _ {d : Description} (K : Lawful d) (s : List ℕ) where
         count = f;
         few = leb-true _ _ (p .0 .1 .0);
         items = v .found;
+        tail = v .tail;
         number = sym (v .number);
         cut = v .cut;
         are = v .are;
-        apart = apart-same (keyAt d s) (d .key) (startsFrom 4 (v .found)) (v .found) (keys K s 4 (v .found) (v .cut) (v .are)) (rw append-nil at (v .apart));
+        apart = apart-same (keyAt d s) (d .key) (startsFrom 4 (v .found)) (v .found) (keys K s 4 (v .found) (v .tail) (v .cut) (v .are)) (rw append-nil at (v .apart));
+        ended = v .ended;
       }
 
   -- the starts have distinct keys too
   pub starts-apart : (h : IsList d s) → Apart (keyAt d s) (startsFrom 4 (h .items))
-  starts-apart h = apart-same (d .key) (keyAt d s) (h .items) (startsFrom 4 (h .items)) (sym (keys K s 4 (h .items) (h .cut) (h .are))) (h .apart)
+  starts-apart h = apart-same (d .key) (keyAt d s) (h .items) (startsFrom 4 (h .items)) (sym (keys K s 4 (h .items) (h .tail) (h .cut) (h .are))) (h .apart)
 
   pub list-complete : (h : IsList d s) → listAt d s ≡ taken (sort (keyAt d s) (startsFrom 4 (h .items)))
   unfolding listAt
@@ -59,5 +68,5 @@ module _ {d : Description} (K : Lawful d) (s : List ℕ) where
       let l : List ℕ = startsFrom 4 (h .items) in
       let a : Apart (keyAt d s) (l ++ []) = rw append-nil (starts-apart h) in
       rw (le-leb 4 (length s) (h .count), le-leb (leAt 4 s 0) (d .most) (h .few), h .number)
-      (walk-complete K s (h .items) 4 [] (h .count) (h .cut) (h .are) a
+      (walk-complete K s (h .items) (h .tail) 4 [] (h .count) (h .cut) (h .ended) (h .are) a
       ∙ ap taken (inserts-sort (keyAt d s) [] l tt a ∙ ap (sort (keyAt d s)) (append-nil l)))

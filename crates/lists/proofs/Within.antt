@@ -17,7 +17,7 @@ use Rattle.format.specs.Format.{read}
 use Rattle.format.proofs.Within.{read-within}
 use Rattle.order.specs.Keyed.{insert, has}
 use Rattle.entries.specs.Kinds.{Description, leadChecks}
-use Rattle.lists.specs.Lists.{keyAt, entryChecks, entryAt, leftOver, walk, countChecks, listAt}
+use Rattle.lists.specs.Lists.{keyAt, entryChecks, entryAt, endChecks, walk, countChecks, listAt}
 use Rattle.entries.proofs.Lawful.{Lawful, lead-within}
 use Rattle.lists.proofs.Walks.{entry-taken}
 
@@ -51,7 +51,7 @@ module _ {d : Description} (K : Lawful d) (s : List ℕ) where
 
   pub walk-within : (n at : ℕ) (seen : List ℕ) → at ≤ length s → Within (walk d s n at seen) (length s)
   unfolding walk
-  walk-within zero at seen h = checked-within (leftOver s at) (taken seen) (length s) (h, λ _. tt)
+  walk-within zero at seen h = checked-within (endChecks d s at) (taken seen) (length s) (h, λ _. tt)
   walk-within (suc n) at seen h =
       after-within (entryAt d s at seen) (λ e. walk d s n e (insert (keyAt d s) at seen)) (length s) (entry-within at seen h)
       (λ e q. walk-within n e (insert (keyAt d s) at seen) (entry-end at seen h q))

@@ -1,7 +1,7 @@
 -- Entries written as a list: it is taken and has them. A list that is taken: how long it is, also in the order of its keys, and where an entry more goes.
 -- Assumes nothing.
 use mathlib.Core.Path.{_≡_, refl, sym, _∙_, ap}
-use mathlib.Core.List.{List, [], _∷_, _++_, map, Permᴰ·symm}
+use mathlib.Core.List.{List, [], _∷_, _++_, map, append-nil, append-assoc, Permᴰ·symm}
 use mathlib.Core.Bool.{true, false}
 use Prim.Native.Nat.{ℕ, zero, suc, _+_, _≤_}
 use native.Mathlib.Omega.{arith}
@@ -18,11 +18,11 @@ use Rattle.order.proofs.Sorts.{sort-perm}
 use Rattle.order.proofs.Entries.{length-join, first-append}
 use Rattle.entries.specs.Kinds.{Description}
 use Rattle.lists.specs.declared.Found.the-variants.{There, Free}
-use Rattle.lists.specs.Lists.{keyAt, listAt, widthOf, entries, listBytes, IsList}
+use Rattle.lists.specs.Lists.{keyAt, listAt, widthOf, entries, tailOf, listBytes, IsList}
 use Rattle.lists.specs.Promises.{findIn}
 use Rattle.entries.proofs.Lawful.{Lawful}
 use Rattle.lists.proofs.Walks.{key-local}
-use Rattle.lists.proofs.Taken.{self, list-entries, list-sound, list-complete}
+use Rattle.lists.proofs.Taken.{self, list-entries, list-tail, list-sound, list-complete}
 use Rattle.lists.proofs.Ordered.{pieceAt, index-asc, list-order, index-every, index-has}
 use Rattle.lists.proofs.Finds.{there-has, free-insert, free-has, find-map}
 
@@ -63,10 +63,12 @@ module _ {d : Description} (K : Lawful d) (l : List (List ℕ)) (g : Good d l) w
         count = omega (arith, length-list l);
         few = rw n (g .few);
         items = l;
+        tail = [];
         number = n;
-        cut = drop-at (bytesOf 4 (length l)) (join l) 4 (length-bytesOf 4 (length l));
+        cut = drop-at (bytesOf 4 (length l)) (join l) 4 (length-bytesOf 4 (length l)) ∙ sym (append-nil (join l));
         are = g .are;
         apart = g .apart;
+        ended = λ _. refl;
       }
 
   pub entries-list : entries d (listBytes l) ≡ l
@@ -87,20 +89,20 @@ withEntry d s e = insert (d .key) e (inOrder d s)
 -- what a list that is taken is written as
 module _ {d : Description} (K : Lawful d) (s : List ℕ) {r : List ℕ} (h : listAt d s ≡ taken r) where
   -- how many bytes its entries are
-  pub list-length : length s ≡ 4 + weigh length (entries d s)
+  pub list-length : length s ≡ 4 + weigh length (entries d s) + length (tailOf d s)
   list-length =
       let i = list-sound K s h in
-      rw (list-entries d s i) (omega (arith, i .count, ap length (i .cut), length-join (i .items), length-drop 4 s))
+      rw (list-tail d s i, list-entries d s i) (omega (arith, i .count, ap length (i .cut), length-append (join (i .items)) (i .tail), length-join (i .items), length-drop 4 s))
 
-  pub sorted-length : length (listBytes (inOrder d s)) ≡ length s
-  sorted-length = length-list (inOrder d s) ∙ ap (λ (n : ℕ). 4 + n) (perm-weigh length (sort-perm (d .key) (entries d s))) ∙ sym list-length
+  pub sorted-length : length (listBytes (inOrder d s)) + length (tailOf d s) ≡ length s
+  sorted-length = omega (arith, length-list (inOrder d s), perm-weigh length (sort-perm (d .key) (entries d s)), list-length)
 
   -- the bytes are the list of their entries
-  pub list-bytes : Bytes s → s ≡ listBytes (entries d s)
+  pub list-bytes : Bytes s → s ≡ listBytes (entries d s) ++ tailOf d s
   list-bytes b =
       let i = list-sound K s h in
       let c : bytesOf 4 (length (i .items)) ≡ take 4 s = ap (bytesOf 4) (sym (i .number)) ∙ bytesOf-leAt 4 s 0 b (i .count) in
-      rw (list-entries d s i, c, ← i .cut) (sym (take-append-drop 4 s))
+      rw (list-tail d s i, list-entries d s i, c, append-assoc (take 4 s) (join (i .items)) (i .tail), ← i .cut) (sym (take-append-drop 4 s))
 
   -- ---- a search in the index
 

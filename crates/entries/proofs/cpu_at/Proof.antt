@@ -1,5 +1,5 @@
-use Rattle.entries.specs.States.{cpuLengthChecks, cpuState}
-use Rattle.format.specs.Format.{Format, sized, pair, bytes, blob}
+use Rattle.entries.specs.States.{heldState}
+use Rattle.format.specs.Format.{Format, pair, bytes, blob}
 use Rattle.format.proofs.Exits.{pair-stop, pair-next}
 use Prim.Native.Nat.{ℕ}
 use borrow.Author.Needs.{needs}
@@ -8,7 +8,7 @@ use Rattle.entries.proofs.cpu_at.Tie as tie
 
 -- what stands behind the id
 abbrev rest : ℕ → Format
-rest version = pair (sized 4 (cpuLengthChecks version) (cpuState version)) (blob 8 67108864)
+rest version = pair (heldState version) (blob 8 67108864)
 
 returns : tie.Need-returns
 returns c = let k = c .before .before .before in let a = k .before .before .args in pair-stop (a .s .now) (a .at) (bytes 4) (rest (a .version)) (rw (c .before .number .given .1) at (k .block-at .ensures))
