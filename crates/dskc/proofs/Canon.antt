@@ -1,14 +1,14 @@
 -- The canonical form of a wrapper that is taken: its bytes, its length, and how they are written.
 -- Assumes nothing.
 use mathlib.Core.Path.{_≡_, refl, sym, _∙_, ap}
-use mathlib.Core.List.{List, _++_}
+use mathlib.Core.List.{List, [], _++_, append-nil}
 use Prim.Native.Nat.{ℕ, _-_, _≤_, _<_}
 use native.Mathlib.Omega.{arith}
 use lib.ListN.{length, take, drop, length-append, length-drop}
 use borrow.Author.Tests.{leb-true, le-leb, lt-leb}
 use Rattle.answer.specs.declared.Answer.{Answer}
 use Rattle.answer.specs.Numbers.{ROOM}
-use Rattle.answer.specs.Outcome.{Outcome, taken, refused, after, done, fitting}
+use Rattle.answer.specs.Outcome.{Outcome, taken, refused, checked, after, done, fitting}
 use Rattle.answer.specs.Calls.{memory, Writes}
 use Rattle.answer.proofs.Outcomes.{done-taken, done-stop}
 use Rattle.wire.specs.Parts.{Wrote}
@@ -17,7 +17,8 @@ use Rattle.order.specs.Keyed.{sort}
 use Rattle.entries.specs.Kinds.{controllers}
 use Rattle.entries.specs.declared.Kind.the-variants as kind
 use Rattle.entries.proofs.Lawful.{lawful}
-use Rattle.lists.specs.Lists.{listAt, listBytes}
+use Rattle.lists.specs.Lists.{partChecks, listAt, tailOf, listBytes}
+use Rattle.lists.proofs.Taken.{list-sound, closed-tail}
 use Rattle.lists.proofs.Written.{sorted-length}
 use Rattle.writer.specs.Writer.{sortedOf}
 use Rattle.dskc.specs.Wrapper.{header, wrapperOf, wrapperBytes, controllersOf, canonicalCall}
@@ -34,8 +35,12 @@ module _ (s : List ℕ) (h : taken tt ≡ done (wrapperOf s)) where
   long : 16 ≤ length s
   long = let t = done-taken (wrapperOf s) (sym h) in leb-true 16 (length s) (whole s (t .1) .0 .1 .0)
 
+  -- nothing stands behind the last controller
+  no-tail : tailOf controllers (drop 16 s) ≡ []
+  no-tail = let t = done-taken (wrapperOf s) (sym h) in closed-tail controllers (drop 16 s) refl (list-sound (lawful kind.Controllers) (drop 16 s) (whole s (t .1) .1))
+
   listed-length : length (listed s) ≡ length (drop 16 s)
-  listed-length = let t = done-taken (wrapperOf s) (sym h) in sorted-length (lawful kind.Controllers) (drop 16 s) (whole s (t .1) .1)
+  listed-length = let t = done-taken (wrapperOf s) (sym h) in omega (arith, sorted-length (lawful kind.Controllers) (drop 16 s) (whole s (t .1) .1), ap length no-tail)
 
   pub canon-length : (16 ≤ length s) × (length (wrapperBytes (sort (controllers .key) (controllersOf s))) ≡ length s)
   canon-length = (long, omega (arith, long, length-append header (listed s), listed-length, length-drop 16 s))
@@ -57,8 +62,10 @@ module _ (s : List ℕ) (h : taken tt ≡ done (wrapperOf s)) where
   list-written {b} {old} {new} e k w =
       let t = done-taken (wrapperOf s) (sym h) in
       let p = whole s (t .1) in
+      let bare : listed s ++ tailOf controllers (drop 16 s) ≡ listed s = ap (λ (b : List ℕ). listed s ++ b) no-tail ∙ append-nil (listed s) in
       let f : sortedOf controllers (length old) (drop 16 s) ≡ taken (listed s) =
-      list-whole s (p .0) (after (listAt controllers (drop 16 s)) (λ _. fitting (length old) (listed s)))
+      ap (λ (b : List ℕ). checked (partChecks (drop 16 s)) (after (listAt controllers (drop 16 s)) (λ _. fitting (length old) b))) bare
+      ∙ list-whole s (p .0) (after (listAt controllers (drop 16 s)) (λ _. fitting (length old) (listed s)))
       ∙ ap (λ (o : Outcome (List ℕ)). after o (λ _. fitting (length old) (listed s))) (p .1)
       ∙ rw (listed-length, le-leb (length (drop 16 s)) (length old) (omega (arith, ap length e))) in
       let g : sortedOf controllers (length old) b ≡ taken (listed s) = ap (sortedOf controllers (length old)) e ∙ f in

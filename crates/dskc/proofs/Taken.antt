@@ -2,7 +2,7 @@
 -- Assumes nothing.
 use mathlib.Core.Path.{_≡_, refl, sym, _∙_, ap}
 use mathlib.Core.Bool.{true}
-use mathlib.Core.List.{List, [], _∷_, _++_}
+use mathlib.Core.List.{List, [], _∷_, _++_, append-nil}
 use Prim.Native.Nat.{ℕ, _+_, _≤_, _<_}
 use native.Mathlib.Omega.{arith}
 use lib.ListN.{length, take, drop}
@@ -22,8 +22,8 @@ use Rattle.entries.specs.Kinds.{address, busOf, deviceOf, functionOf, controlle
 use Rattle.entries.specs.declared.Kind.the-variants as kind
 use Rattle.entries.proofs.Lawful.{Lawful, lawful}
 use Rattle.lists.specs.Lists.{keyAt, listAt, listBytes}
-use Rattle.lists.proofs.Taken.{list-sound}
-use Rattle.lists.proofs.Written.{Good, good-sort, good-entries, length-list, list-taken, entries-list, list-bytes}
+use Rattle.lists.proofs.Taken.{list-sound, closed-tail}
+use Rattle.lists.proofs.Written.{Good, good-sort, good-entries, length-list, bare-taken, entries-bare, list-bytes}
 use Rattle.dskc.specs.Wrapper.{wrapperMost, aero, dskc, header, headerChecks, wrapperOf, wrapperBytes, IsWrapper, controllersOf}
 use Rattle.dskc.proofs.Reading.{whole}
 
@@ -58,7 +58,11 @@ wrapper-sound s b h =
     let w = whole s h in
     let g = good-entries controllers (drop 16 s) (list-sound K (drop 16 s) (w .1)) in
     let part : Bytes (drop 16 s) = λ i. rw (getD-drop 16 s i 0) (b (16 + i)) in
-    let e : s ≡ wrapperBytes (controllersOf s) = header-sound s b (w .0) ∙ ap (λ (t : List ℕ). header ++ t) (list-bytes K (drop 16 s) (w .1) part) in
+    let e : s ≡ wrapperBytes (controllersOf s) = header-sound s b (w .0) ∙ ap (λ (t : List ℕ). header ++ t) (
+    list-bytes K (drop 16 s) (w .1) part
+    ∙ ap (λ (t : List ℕ). listBytes (controllersOf s) ++ t) (closed-tail controllers (drop 16 s) refl (list-sound K (drop 16 s) (w .1)))
+    ∙ append-nil (listBytes (controllersOf s))
+    ) in
     (e, record { few = g .few; short = omega (arith, leb-true (length s) wrapperMost (w .0 .0), ap length e); are = g .are; apart = g .apart })
 
 good : (l : List (List ℕ)) → IsWrapper l → Good controllers l
@@ -68,11 +72,11 @@ pub wrapper-complete : (l : List (List ℕ)) → IsWrapper l → wrapperOf (wrap
 unfolding wrapperOf
 wrapper-complete l v =
     pass-checked (headerChecks (wrapperBytes l)) (moved 16 (listAt controllers (listBytes l))) (header-complete (listBytes l) (v .short))
-    ∙ ap (moved 16) (list-taken K l (good l v))
+    ∙ ap (moved 16) (bare-taken K l (good l v))
 
 -- the controllers of a rendering are those that were rendered, so two renderings are equal only of the same
 pub controllers-back : (l : List (List ℕ)) → IsWrapper l → controllersOf (wrapperBytes l) ≡ l
-controllers-back l v = entries-list K l (good l v)
+controllers-back l v = entries-bare K l (good l v)
 
 pub wrapper-one : (l m : List (List ℕ)) → IsWrapper l → IsWrapper m → wrapperBytes l ≡ wrapperBytes m → l ≡ m
 wrapper-one l m v w e = sym (controllers-back l v) ∙ ap controllersOf e ∙ controllers-back m w

@@ -1,6 +1,7 @@
 -- A list is taken exactly if it is one: a count, and as many entries of its kind with distinct keys, and nothing after. Its entries are then one list.
 -- Assumes nothing.
 use mathlib.Core.Path.{_≡_, sym, _∙_, ap}
+use mathlib.Core.Bool.{true}
 use mathlib.Core.List.{List, [], _++_, append-nil}
 use Prim.Native.Nat.{ℕ, _≤_}
 use lib.ListN.{length, drop}
@@ -35,9 +36,13 @@ list-tail d s h =
     ap (λ (l : List (List ℕ)). drop (weigh length l) (drop 4 s)) (list-entries d s h) ∙ ap (drop (weigh length (h .items))) (h .cut)
     ∙ ap (λ (n : ℕ). drop n (join (h .items) ++ h .tail)) (sym (length-join (h .items))) ∙ drop-append-seam (join (h .items)) (h .tail)
 
--- the content is unique
-pub items-one : (d : Description) (s : List ℕ) (h k : IsList d s) → h .items ≡ k .items
-items-one d s h k = sym (list-entries d s h) ∙ list-entries d s k
+-- the reading is unique, the tail too
+pub list-one : (d : Description) (s : List ℕ) (h k : IsList d s) → (h .items ≡ k .items) × (h .tail ≡ k .tail)
+list-one d s h k = (sym (list-entries d s h) ∙ list-entries d s k, sym (list-tail d s h) ∙ list-tail d s k)
+
+-- a list of a closed kind has none
+pub closed-tail : (d : Description) (s : List ℕ) → d .closed ≡ true → IsList d s → tailOf d s ≡ []
+closed-tail d s c h = list-tail d s h ∙ h .ended c
 
 module _ {d : Description} (K : Lawful d) (s : List ℕ) where
   pub list-sound : {r : List ℕ} → listAt d s ≡ taken r → IsList d s

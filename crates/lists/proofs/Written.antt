@@ -1,4 +1,4 @@
--- Entries written as a list: it is taken and has them. A list that is taken: how long it is, also in the order of its keys, and where an entry more goes.
+-- Entries and a tail written as a list: it is taken and has them. A list that is taken: how long it is, also in the order of its keys, and where an entry more goes.
 -- Assumes nothing.
 use mathlib.Core.Path.{_≡_, refl, sym, _∙_, ap}
 use mathlib.Core.List.{List, [], _∷_, _++_, map, append-nil, append-assoc, Permᴰ·symm}
@@ -54,30 +54,43 @@ good-entries d s h = rw (list-entries d s h) (record { are = h .are; apart = h .
 pub length-list : (l : List (List ℕ)) → length (listBytes l) ≡ 4 + weigh length l
 length-list l = length-append (bytesOf 4 (length l)) (join l) ∙ omega (arith, length-bytesOf 4 (length l), length-join l)
 
--- any entries that a list may have, as a list
-module _ {d : Description} (K : Lawful d) (l : List (List ℕ)) (g : Good d l) where
-  pub list-is : IsList d (listBytes l)
+-- any entries that a list may have, and any tail, as a list
+module _ {d : Description} (K : Lawful d) (l : List (List ℕ)) (g : Good d l) (t : List ℕ) (c : d .closed ≡ true → t ≡ []) where
+  pub list-is : IsList d (listBytes l ++ t)
   list-is =
-      let n : leAt 4 (listBytes l) 0 ≡ length l = leAt-bytesOf 4 (length l) (join l) (omega (arith, g .few, K .bounded)) in
+      let b : listBytes l ++ t ≡ bytesOf 4 (length l) ++ (join l ++ t) = append-assoc (bytesOf 4 (length l)) (join l) t in
+      let n : leAt 4 (listBytes l ++ t) 0 ≡ length l = ap (λ (s : List ℕ). leAt 4 s 0) b ∙ leAt-bytesOf 4 (length l) (join l ++ t) (omega (arith, g .few, K .bounded)) in
       record {
-        count = omega (arith, length-list l);
+        count = omega (arith, length-append (listBytes l) t, length-list l);
         few = rw n (g .few);
         items = l;
-        tail = [];
+        tail = t;
         number = n;
-        cut = drop-at (bytesOf 4 (length l)) (join l) 4 (length-bytesOf 4 (length l)) ∙ sym (append-nil (join l));
+        cut = ap (drop 4) b ∙ drop-at (bytesOf 4 (length l)) (join l ++ t) 4 (length-bytesOf 4 (length l));
         are = g .are;
         apart = g .apart;
-        ended = λ _. refl;
+        ended = c;
       }
 
-  pub entries-list : entries d (listBytes l) ≡ l
+  pub entries-list : entries d (listBytes l ++ t) ≡ l
   unfolding list-is
-  entries-list = list-entries d (listBytes l) list-is
+  entries-list = list-entries d (listBytes l ++ t) list-is
 
-  pub list-taken : listAt d (listBytes l) ≡ taken (sort (keyAt d (listBytes l)) (startsFrom 4 l))
+  pub tail-list : tailOf d (listBytes l ++ t) ≡ t
   unfolding list-is
-  list-taken = list-complete K (listBytes l) list-is
+  tail-list = list-tail d (listBytes l ++ t) list-is
+
+  list-taken : listAt d (listBytes l ++ t) ≡ taken (sort (keyAt d (listBytes l ++ t)) (startsFrom 4 l))
+  unfolding list-is
+  list-taken = list-complete K (listBytes l ++ t) list-is
+
+-- with no tail
+module _ {d : Description} (K : Lawful d) (l : List (List ℕ)) (g : Good d l) where
+  pub entries-bare : entries d (listBytes l) ≡ l
+  entries-bare = ap (entries d) (sym (append-nil (listBytes l))) ∙ entries-list K l g [] (λ _. refl)
+
+  pub bare-taken : listAt d (listBytes l) ≡ taken (sort (keyAt d (listBytes l)) (startsFrom 4 l))
+  bare-taken = rw (append-nil (listBytes l)) at (list-taken K l g [] (λ _. refl))
 
 -- the entries of a list in the order of their keys, and with one more
 abbrev pub inOrder : Description → List ℕ → List (List ℕ)

@@ -266,7 +266,7 @@ module _ (t : Table) (s : List ℕ) (base : ℕ) (part post : List ℕ) (c : dro
         pieces : map (pieceAt d part) filed-starts ≡ entries d part
         pieces =
             let l = list-sound K part h in
-            rw (list-entries d part l) (first-starts (self d) part 4 (l .items) [] (l .cut ∙ sym (append-nil _)) (l .are))
+            rw (list-entries d part l) (first-starts (self d) part 4 (l .items) (l .tail) (l .cut) (l .are))
 
     pub list-table : IsTable t s (entries d part) (rowsAt t base part r)
     list-table =

@@ -38,8 +38,11 @@ pub sorted : (sortedOf devices 39 payload ≡ taken (counted 2 (three ++ fourtee
     × (sortedOf devices 38 payload ≡ refused ROOM 39)
     -- the list's own faults come first
     × (sortedOf devices 0 (counted 2 (three ++ three)) ≡ refused KEY 22)
+    -- a tail stays behind the entries, and counts in the room
+    × (sortedOf devices 41 (payload ++ (7 ∷ 8 ∷ [])) ≡ taken (counted 2 (three ++ fourteen) ++ (7 ∷ 8 ∷ [])))
+    × (sortedOf devices 40 (payload ++ (7 ∷ 8 ∷ [])) ≡ refused ROOM 41)
 unfolding listAt walk entryAt read leAt le bytesOf insert has split
-sorted = (refl, refl, refl, refl)
+sorted = (refl, refl, refl, refl, refl, refl)
 
 -- (3, 1, 0) fits, (14, 1, 0) does not, and nothing stands past the end
 pub run : (join (fits 34 (map (entryBy devices payload) (21 ∷ 4 ∷ []))) ≡ three) × (join (fits 35 (map (entryBy devices payload) (21 ∷ 99 ∷ 4 ∷ []))) ≡ three ++ fourteen)

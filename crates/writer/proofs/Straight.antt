@@ -2,7 +2,7 @@
 -- Assumes nothing.
 use mathlib.Core.Path.{_≡_, refl, sym, _∙_, ap}
 use mathlib.Core.Bool.{Bool, true, false, false≢true, _&&_}
-use mathlib.Core.List.{List, [], _∷_, map, append-nil}
+use mathlib.Core.List.{List, [], _∷_, _++_, map}
 use Prim.Native.Nat.{ℕ, _+_, _≤_, _<_}
 use native.Mathlib.Numerals.{add-one}
 use native.Mathlib.Omega.{arith}
@@ -12,14 +12,14 @@ use lib.Seq.{drop-cons}
 use borrow.Author.Tests.{leb-true, le-leb, lt-leb}
 use Rattle.wire.specs.Numbers.{Bytes}
 use Rattle.order.specs.Keyed.{Up, Apart, sort}
-use Rattle.order.specs.Entries.{join, startsFrom}
+use Rattle.order.specs.Entries.{startsFrom}
 use Rattle.order.proofs.Folds.{every-imp}
 use Rattle.order.proofs.Keys.{up-low, asc-apart}
 use Rattle.order.proofs.Sorts.{up-sort, sort-unique}
 use Rattle.order.proofs.Starts.{first-starts}
 use Rattle.entries.specs.Kinds.{Description}
 use Rattle.entries.proofs.Lawful.{Lawful}
-use Rattle.lists.specs.Lists.{keyAt, entries, listBytes}
+use Rattle.lists.specs.Lists.{keyAt, entries, tailOf, listBytes}
 use Rattle.lists.proofs.Taken.{self, list-sound, list-entries}
 use Rattle.lists.proofs.Ordered.{index-perm, index-asc, list-order}
 use Rattle.lists.proofs.Written.{list-bytes}
@@ -77,10 +77,10 @@ module _ {d : Description} (K : Lawful d) {s l : List ℕ} (h : Listed d s l) (o
   standing : map (entryFrom d s) (startsFrom 4 (entries d s)) ≡ entries d s
   standing =
       let is = list-sound K s (h .list) in
-      rw (list-entries d s is) (first-starts (self d) s 4 (is .items) [] (is .cut ∙ sym (append-nil (join (is .items)))) (is .are))
+      rw (list-entries d s is) (first-starts (self d) s 4 (is .items) (is .tail) (is .cut) (is .are))
 
   -- so the list is written as it stands, with its count
   pub straight-bytes : Bytes s → sortedBytes d s ≡ s
   straight-bytes b =
       let e : sort (d .key) (entries d s) ≡ entries d s = sym (list-order K s (h .list)) ∙ ap (map (entryFrom d s)) straight ∙ standing in
-      ap listBytes e ∙ sym (list-bytes K s (h .list) b)
+      ap (λ (m : List (List ℕ)). listBytes m ++ tailOf d s) e ∙ sym (list-bytes K s (h .list) b)

@@ -71,7 +71,7 @@ pub fn in_order(starts: &[u32]) -> bool
     true
 }
 
-// The list whose entries start at `starts`, where there is room: at once where they stand in the order of their keys.
+// The list whose entries start at `starts`, where there is room: at once where they stand in the order of their keys. A tail begins where the entries end.
 fn put_list(kind: Kind, s: &[u8], starts: &[u32], out: &mut [u8]) -> Answer
     requires { ⌜ Listed (describe kind) (now s) (now starts) ⌝ }
     ensures { λ r. ⌜ Writes (fitting (length (now (out .entry))) (sortedBytes (describe kind) (now (s .entry)))) (now (out .entry)) r (now (out .exit)) ⌝ }
@@ -91,9 +91,11 @@ fn put_list(kind: Kind, s: &[u8], starts: &[u32], out: &mut [u8]) -> Answer
     }
     wire::put_u32(out, 0, starts.len() as u32);
     let n = put_run(kind, s, starts, &mut out[4..]);
+    let at = 4 + n;
+    wire::copy(out, at, &s[at..]);
     Answer {
         number: TAKEN,
-        place: (4 + n) as u64,
+        place: s.len() as u64,
     }
 }
 

@@ -2,8 +2,9 @@ use Rattle.writer.specs.Writer.{sortedBytes}
 use Rattle.writer.proofs.Whole.{room-short, listed-few, sorted-size, straight-done, sorted-room, sorted-end, sorted-done}
 use Rattle.entries.specs.Code.{describe}
 use Rattle.entries.proofs.Lawful.{lawful}
-use mathlib.Core.Path.{sym, _∙_}
-use Prim.Native.Nat.{_≤_}
+use mathlib.Core.Path.{_≡_, sym, _∙_}
+use Prim.Native.Nat.{_+_, _≤_}
+use Rattle.lists.specs.Lists.{tailOf}
 use lib.ListN.{length}
 use native.Mathlib.Omega.{arith}
 use borrow.Author.Needs.{needs}
@@ -45,17 +46,31 @@ part-put-run-start c =
     let t = begun p in
     omega (arith, sorted-room (lawful (t .args .kind)) (t .pre) (t .args .out .now) (fits p) (p .put-u32 .ensures) .0)
 
-add-t6 : tie.Need-add-t6
-add-t6 c =
-    let p = c .before .before .before .before .before .before in
+-- the entries are written behind it, and end where the tail begins
+abbrev filled : tie.After-put-run → tie.After-put-u32
+filled c = c .before .before .before .before
+
+ended : (c : tie.After-put-run) → let t = begun (filled c) in 4 + c .put-run .result + length (tailOf (describe (t .args .kind)) (t .args .s .now)) ≡ length (t .args .s .now)
+ended c =
+    let p = filled c in
     let t = begun p in
-    omega (arith, t .pre .short, sorted-end (lawful (t .args .kind)) (t .pre) (t .args .out .now) (fits p) (p .put-u32 .ensures) (c .before .before .put-run .ensures))
+    sorted-end (lawful (t .args .kind)) (t .pre) (t .args .out .now) (fits p) (p .put-u32 .ensures) (c .put-run .ensures)
+
+add-at : tie.Need-add-at
+add-at c = let r = c .before .before in omega (arith, begun (filled r) .pre .short, ended r)
+
+sub-copy : tie.Need-sub-copy
+sub-copy c = omega (arith, ended (c .before .before .before))
+
+part-copy-start : tie.Need-part-copy-start
+part-copy-start c = omega (arith, ended (c .before .before .before))
 
 returns-3 : tie.Need-returns-3
 returns-3 c =
-    let p = c .before .before .before .before .before .before in
+    let r = c .before .before .before .before .before .before .before in
+    let p = filled r in
     let t = begun p in
-    sorted-done (lawful (t .args .kind)) (t .pre) (t .args .out .now) (fits p) (p .put-u32 .ensures) (c .before .before .put-run .ensures)
+    sorted-done (lawful (t .args .kind)) (t .pre) (t .args .out .now) (fits p) (p .put-u32 .ensures) (r .put-run .ensures) (c .before .before .copy2 .ensures)
 
 pub put-list-spec : {M : Type 1} → statement M
 put-list-spec =
@@ -72,6 +87,10 @@ put-list-spec =
     part-put-run-start
     (λ c. search needs)
     (λ c κs. search needs)
-    add-t6
+    add-at
+    sub-copy
+    part-copy-start
+    (λ c. search needs)
+    (λ c κs. search needs)
     (λ c. search needs)
     returns-3)
