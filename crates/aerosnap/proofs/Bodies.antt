@@ -1,28 +1,25 @@
 -- A payload is taken exactly if it is what its section's rules say; and its fault lies within it.
 -- Assumes nothing.
 use mathlib.Core.Path.{_≡_, refl, sym, _∙_, ap}
-use mathlib.Core.List.{List, [], _∷_, append-nil}
+use mathlib.Core.List.{List, [], _∷_}
 use mathlib.Core.Bool.{Bool, true, false}
-use Prim.Native.Nat.{ℕ, _≤_, zero-le}
-use native.Mathlib.Omega.{arith}
-use lib.ListN.{length}
-use lib.Seq.{take-all}
+use Prim.Native.Nat.{ℕ, zero-le}
+use lib.ListN.{length, take, drop, take-append-drop}
 use lib.Dec.{eqb}
-use borrow.Author.Tests.{leb-true, le-leb, eqb-true, eq-eqb}
+use borrow.Author.Tests.{eqb-true, eq-eqb}
 use Rattle.answer.specs.Numbers.{SHAPE}
-use Rattle.answer.specs.Outcome.{taken}
-use Rattle.answer.specs.Calls.{asked}
+use Rattle.answer.specs.Outcome.{taken, done}
 use Rattle.answer.proofs.Checks.{checked-pass}
-use Rattle.answer.proofs.Outcomes.{after-taken}
+use Rattle.answer.proofs.Outcomes.{after-taken, done-taken}
 use Rattle.answer.proofs.Within.{Within, checked-within, after-within}
 use Rattle.format.specs.Format.{read}
 use Rattle.format.proofs.Meaning.{sound, complete}
 use Rattle.format.proofs.Within.{Keeps, read-within, text-keeps}
-use Rattle.entries.specs.States.{cpuLengthChecks, cpuState, mmuLength}
+use Rattle.entries.specs.States.{cpuSized, cpuState, mmuLength}
 use Rattle.entries.specs.declared.Kind.the-variants.{Devices, Disks, Cpus, Mmus}
-use Rattle.entries.proofs.States.{state-within}
+use Rattle.entries.proofs.States.{whole-within}
 use Rattle.entries.proofs.Lawful.{Lawful, lawful}
-use Rattle.lists.specs.Lists.{leftOver, listAt}
+use Rattle.lists.specs.Lists.{listAt}
 use Rattle.lists.proofs.Taken.{list-sound, list-complete}
 use Rattle.lists.proofs.Within.{list-within}
 use Rattle.aerosnap.specs.Known.{META, CPU, MMU, DEVICES, DISKS, CPUS, MMUS}
@@ -53,19 +50,16 @@ lawful-body id v = by (eqb id META) (eqb id CPU) (eqb id MMU) (eqb id DEVICES) (
 pub payload-sound : (k : Body) → Lawfully k → (p : List ℕ) → payload k p ≡ taken tt → IsBody k p
 unfolding payload
 payload-sound meta K p h =
-    let q = after-taken (read metaForm p) (λ e. asked (leftOver p e)) h in
-    let r : length p ≤ q .0 = leb-true _ _ (checked-pass (leftOver p (q .0)) (taken tt) tt (q .2) .0 .0) in
-    rw (take-all (q .0) p r) at (sound metaForm p (q .1) .1)
-payload-sound (cpu v) K p h = let q = checked-pass (cpuLengthChecks v (length p)) (cpuState v p) tt h in (q .0 .0, q .1)
+    let q = done-taken (read metaForm p) h in
+    (take (q .0) p, drop (q .0) p, sym (take-append-drop (q .0) p), sound metaForm p (q .1) .1)
+payload-sound (cpu v) K p h = let q = checked-pass ((cpuSized v p, SHAPE, 0) ∷ []) (cpuState v p) tt h in (q .0 .0, q .1)
 payload-sound (mmu v) K p h = eqb-true _ _ (checked-pass ((eqb (length p) (mmuLength v), SHAPE, 0) ∷ []) (taken tt) tt h .0 .0)
 payload-sound (list d) K p h = list-sound K p (after-taken (listAt d p) (λ _. taken tt) h .1)
 payload-sound opaque K p h = tt
 
 pub payload-complete : (k : Body) → Lawfully k → (p : List ℕ) → IsBody k p → payload k p ≡ taken tt
 unfolding payload
-payload-complete meta K p h =
-    let r : read metaForm p ≡ taken (length p) = ap (read metaForm) (sym (append-nil p)) ∙ complete metaForm p [] h in
-    rw (r, le-leb (length p) (length p) (omega arith))
+payload-complete meta K p (x, tail, q, h) = ap (λ (b : List ℕ). done (read metaForm b)) q ∙ rw (complete metaForm x tail h)
 payload-complete (cpu v) K p h = rw (h .0) (h .1)
 payload-complete (mmu v) K p h = rw (eq-eqb (length p) (mmuLength v) h)
 payload-complete (list d) K p h = rw (list-complete K p h)
@@ -76,10 +70,8 @@ meta-keeps = ((λ e h. tt), ((λ e h. tt), ((λ e h. tt), text-keeps 4096)))
 
 pub payload-within : (k : Body) → Lawfully k → (p : List ℕ) → Within (payload k p) (length p)
 unfolding payload
-payload-within meta K p =
-    after-within (read metaForm p) (λ e. asked (leftOver p e)) (length p) (read-within metaForm p meta-keeps)
-    (λ e q. checked-within (leftOver p e) (taken tt) (length p) (sound metaForm p q .0, λ _. tt))
-payload-within (cpu v) K p = checked-within (cpuLengthChecks v (length p)) (cpuState v p) (length p) (zero-le, λ h. state-within v p h)
+payload-within meta K p = after-within (read metaForm p) (λ _. taken tt) (length p) (read-within metaForm p meta-keeps) (λ _ _. tt)
+payload-within (cpu v) K p = whole-within v p
 payload-within (mmu v) K p = checked-within ((eqb (length p) (mmuLength v), SHAPE, 0) ∷ []) (taken tt) (length p) (zero-le, λ _. tt)
 payload-within (list d) K p = after-within (listAt d p) (λ _. taken tt) (length p) (list-within K p) (λ _ _. tt)
 payload-within opaque K p = tt

@@ -18,9 +18,9 @@ use Rattle.utf8.specs.Scan.{isText, breakAt}
 use Rattle.format.specs.Format.{Format, block, sized, option, pair, read, sizedChecks, optionChecks, values, text}
 use Rattle.order.specs.Keyed.{Every, insert, has}
 use Rattle.order.proofs.Folds.{every-append}
-use Rattle.entries.specs.States.{cpuLengthChecks, cpuValues, cpuState, mmuLength}
+use Rattle.entries.specs.States.{cpuSized, extends, cpuValues, cpuState, heldChecks, mmuLength}
 use Rattle.entries.specs.Kinds.{Description, leadChecks}
-use Rattle.lists.specs.Lists.{keyAt, entryChecks, entryAt, leftOver, walk, countChecks, listAt}
+use Rattle.lists.specs.Lists.{keyAt, entryChecks, entryAt, endChecks, walk, countChecks, listAt}
 use Rattle.aerosnap.specs.Known.{META, CPU, MMU, DEVICES, DISKS, CPUS, MMUS, known}
 use Rattle.aerosnap.specs.Payloads.{metaForm, Body, meta, cpu, mmu, list, opaque, bodyBy, bodyOf, payload}
 use Rattle.aerosnap.specs.File.{sectionsMost, headerChecks, idOf, versionOf, flagsOf, lengthOf, payloadOf, frameChecks, knownChecks, ruled, sectionOf, sections, fileOf}
@@ -100,7 +100,7 @@ module _ {d : Description} (K : EntryFaults d) (s : List ℕ) where
 
   walk-faulty : (n at : ℕ) (seen : List ℕ) → Faulty (walk d s n at seen)
   unfolding walk
-  walk-faulty zero at seen = checked-faulty (leftOver s at) (taken seen) (refl, tt) tt
+  walk-faulty zero at seen = checked-faulty (endChecks d s at) (taken seen) (refl, tt) tt
   walk-faulty (suc n) at seen = after-faulty (entryAt d s at seen) (λ e. walk d s n e (insert (keyAt d s) at seen)) (entry-faulty at seen) (λ e. walk-faulty n e (insert (keyAt d s) at seen))
 
   pub list-faulty : Faulty (listAt d s)
@@ -122,21 +122,26 @@ body-faults id v = by (eqb id META) (eqb id CPU) (eqb id MMU) (eqb id DEVICES) (
     blob-faults : ((n : ℕ) → Numbered ((leb n 67108864, LIMIT, 0) ∷ [])) × ((e : List ℕ) → Faulty {A = Unit {0}} (taken tt))
     blob-faults = ((λ n. (refl, tt)), λ e. tt)
 
+    held-faulty : (e : List ℕ) → Faulty (heldChecks v e)
+    held-faulty e =
+        let y : List ℕ = drop 4 e in
+        checked-faulty ((extends y, SHAPE, 0) ∷ []) (moved 4 (cpuState v y)) (refl, tt) (moved-faulty 4 (cpuState v y) (values-faulty (cpuValues v (length y)) y))
+
     by : (a b c d e f g : Bool) → BodyFaults (bodyBy a b c d e f g v)
     by true b c d e f g = tt
     by false true c d e f g = tt
     by false false true d e f g = tt
     by false false false true e f g = record { early = λ b. tt; form = ((λ e. tt), blob-faults) }
     by false false false false true f g = record { early = λ b. tt; form = ((λ e. tt), (text-faults 65536, text-faults 65536)) }
-    by false false false false false true g = record { early = λ b. tt; form = ((λ e. tt), (((λ n. (refl, tt)), λ e. values-faulty (cpuValues v (length e)) e), blob-faults)) }
+    by false false false false false true g = record { early = λ b. tt; form = ((λ e. tt), ((((λ n. (refl, tt)), λ e. tt), held-faulty), blob-faults)) }
     by false false false false false false true = record { early = λ b. tt; form = λ e. tt }
     by false false false false false false false = tt
 
 payload-faulty : (k : Body) → BodyFaults k → (p : List ℕ) → Faulty (payload k p)
 unfolding payload
 payload-faulty meta K p =
-    after-faulty (read metaForm p) (λ e. asked (leftOver p e)) (read-faulty metaForm p ((λ e. tt), ((λ e. tt), ((λ e. tt), text-faults 4096)))) (λ e. checked-faulty (leftOver p e) (taken tt) (refl, tt) tt)
-payload-faulty (cpu v) K p = checked-faulty (cpuLengthChecks v (length p)) (cpuState v p) (refl, tt) (values-faulty (cpuValues v (length p)) p)
+    after-faulty (read metaForm p) (λ _. taken tt) (read-faulty metaForm p ((λ e. tt), ((λ e. tt), ((λ e. tt), text-faults 4096)))) (λ e. tt)
+payload-faulty (cpu v) K p = checked-faulty ((cpuSized v p, SHAPE, 0) ∷ []) (cpuState v p) (refl, tt) (values-faulty (cpuValues v (length p)) p)
 payload-faulty (mmu v) K p = one-faulty (eqb (length p) (mmuLength v)) SHAPE 0 refl
 payload-faulty (list d) K p = after-faulty (listAt d p) (λ _. taken tt) (list-faulty K p) (λ _. tt)
 payload-faulty opaque K p = tt

@@ -2,7 +2,7 @@
 -- Assumes nothing.
 use mathlib.Core.Path.{_≡_}
 use mathlib.Core.List.{List, [], _∷_, _++_}
-use mathlib.Core.Bool.{Bool, not, _&&_, cond}
+use mathlib.Core.Bool.{Bool, true, false, not, _&&_, cond}
 use Prim.Native.Nat.{ℕ}
 use lib.ListN.{length, drop}
 use lib.Dec.{eqb}
@@ -11,7 +11,7 @@ use Rattle.wire.specs.Numbers.{bytesOf}
 use Rattle.order.specs.Keyed.{flat, keep, sort}
 use Rattle.order.specs.Entries.{join}
 use Rattle.entries.specs.Kinds.{Description, devices, disks}
-use Rattle.lists.specs.Lists.{entries, listBytes}
+use Rattle.lists.specs.Lists.{entries, tailOf, listBytes}
 use Rattle.aerosnap.specs.Known.{DEVICES, DISKS, known}
 use Rattle.aerosnap.specs.Payloads.{Body, meta, cpu, mmu, list, opaque, bodyOf}
 use Rattle.aerosnap.specs.File.{header, idOf, versionOf, fileOf}
@@ -20,17 +20,22 @@ use Rattle.aerosnap.specs.File.{header, idOf, versionOf, fileOf}
 abbrev pub framed : ℕ → ℕ → ℕ → List ℕ → List ℕ
 framed id v f p = bytesOf 4 id ++ (bytesOf 2 v ++ (bytesOf 2 f ++ (bytesOf 8 (length p) ++ p)))
 
--- the section of a list; a list with no entries counts as absent, its version too, and isn't written
-abbrev pub listed : ℕ → ℕ → List (List ℕ) → List (List ℕ)
-listed id v [] = []
-listed id v (e ∷ l) = framed id v 0 (listBytes (e ∷ l)) ∷ []
+-- a list with no entries and no tail counts as absent
+abbrev pub isAbsent : List (List ℕ) → List ℕ → Bool
+isAbsent [] [] = true
+isAbsent [] (b ∷ t) = false
+isAbsent (e ∷ l) t = false
 
--- a section as it is written: lists in ascending key order, everything else copied
+-- the section of a list, its entries and its tail; one that counts as absent, its version too, isn't written
+abbrev pub listed : ℕ → ℕ → List (List ℕ) → List ℕ → List (List ℕ)
+listed id v l t = cond (isAbsent l t) [] (framed id v 0 (listBytes l ++ t) ∷ [])
+
+-- a section as it is written: lists in ascending key order with their tails, everything else copied
 abbrev pub tidied : Body → List ℕ → List (List ℕ)
 tidied meta e = e ∷ []
 tidied (cpu v) e = e ∷ []
 tidied (mmu v) e = e ∷ []
-tidied (list d) e = listed (idOf e) (versionOf e) (sort (d .key) (entries d (drop 16 e)))
+tidied (list d) e = listed (idOf e) (versionOf e) (sort (d .key) (entries d (drop 16 e))) (tailOf d (drop 16 e))
 tidied opaque e = e ∷ []
 
 abbrev pub tidy : List ℕ → List (List ℕ)
@@ -51,10 +56,16 @@ isOther e = not (isId DEVICES e) && not (isId DISKS e)
 abbrev pub entriesIn : ℕ → Description → List (List ℕ) → List (List ℕ)
 entriesIn i d l = flat (λ e. entries d (drop 16 e)) (keep (isId i) l)
 
--- The content: the devices and the disks in ascending key order, and the other sections as they are written.
+-- and what follows them
+abbrev pub tailIn : ℕ → Description → List (List ℕ) → List ℕ
+tailIn i d l = flat (λ e. tailOf d (drop 16 e)) (keep (isId i) l)
+
+-- The content: the devices and the disks in ascending key order, what follows each of the two lists, and the other sections as they are written.
 pub record Content : Type 0 where
   pub devices : List (List ℕ)
   pub disks : List (List ℕ)
+  pub deviceTail : List ℕ
+  pub diskTail : List ℕ
   pub rest : List (List ℕ)
 
 -- the content of a file's sections
@@ -62,12 +73,14 @@ abbrev pub contentOf : List (List ℕ) → Content
 contentOf l = record {
   devices = sort (devices .key) (entriesIn DEVICES devices l);
   disks = sort (disks .key) (entriesIn DISKS disks l);
+  deviceTail = tailIn DEVICES devices l;
+  diskTail = tailIn DISKS disks l;
   rest = sort rank (flat tidy (keep isOther l));
 }
 
 -- the sections that are written of it
 abbrev pub writtenSections : Content → List (List ℕ)
-writtenSections c = listed DEVICES 1 (c .devices) ++ (listed DISKS 1 (c .disks) ++ c .rest)
+writtenSections c = listed DEVICES 1 (c .devices) (c .deviceTail) ++ (listed DISKS 1 (c .disks) (c .diskTail) ++ c .rest)
 
 -- the same in their order
 abbrev pub secs : Content → List (List ℕ)

@@ -6,12 +6,12 @@ use Prim.Native.Nat.{ℕ}
 use lib.ListN.{length}
 use lib.Dec.{eqb}
 use Rattle.answer.specs.Numbers.{SHAPE}
-use Rattle.answer.specs.Outcome.{taken, after, done}
+use Rattle.answer.specs.Outcome.{taken, done}
 use Rattle.answer.specs.Calls.{asked}
 use Rattle.format.specs.Format.{Asks, Format, option, pair, bytes, text, read}
 use Rattle.entries.specs.States.{cpuWhole, mmuLength}
 use Rattle.entries.specs.Kinds.{Description, devices, disks, cpus, mmus}
-use Rattle.lists.specs.Lists.{leftOver, listAt}
+use Rattle.lists.specs.Lists.{listAt}
 use Rattle.aerosnap.specs.Known.{META, CPU, MMU, DEVICES, DISKS, CPUS, MMUS}
 
 -- META: u64 snapshot id; u8 0 or 1, and if 1 a u64 parent id; u64 time in ms; u8 0 or 1, and if 1 a u32 length and a UTF-8 label
@@ -40,9 +40,9 @@ bodyBy false false false false false false false v = opaque
 abbrev pub bodyOf : ℕ → ℕ → Body
 bodyOf id v = bodyBy (eqb id META) (eqb id CPU) (eqb id MMU) (eqb id DEVICES) (eqb id DISKS) (eqb id CPUS) (eqb id MMUS) v
 
--- the first fault of a payload, if any
+-- the first fault of a payload, if any; bytes behind the last field of META are a tail, and nothing is asked of them
 unfoldable pub payload : Body → Asks
-payload meta p = after (read metaForm p) (λ e. asked (leftOver p e))
+payload meta p = done (read metaForm p)
 payload (cpu v) p = cpuWhole v p
 payload (mmu v) p = asked ((eqb (length p) (mmuLength v), SHAPE, 0) ∷ [])
 payload (list d) p = done (listAt d p)

@@ -9,7 +9,7 @@ use Rattle.answer.specs.Outcome.{taken}
 use Rattle.format.specs.Format.{Is}
 use Rattle.order.specs.Keyed.{Every, Apart, keep}
 use Rattle.order.specs.Entries.{join}
-use Rattle.entries.specs.States.{cpuLength, cpuState, mmuLength}
+use Rattle.entries.specs.States.{cpuSized, cpuState, mmuLength}
 use Rattle.lists.specs.Lists.{IsList}
 use Rattle.aerosnap.specs.Known.{DEVICES, known, takes}
 use Rattle.aerosnap.specs.Payloads.{metaForm, Body, meta, cpu, mmu, list, opaque, bodyOf}
@@ -17,8 +17,8 @@ use Rattle.aerosnap.specs.File.{fileMost, sectionsMost, devicesMost, hea
 
 -- p is such a payload
 abbrev pub IsBody : Body → List ℕ → Type 0
-IsBody meta p = Is metaForm p
-IsBody (cpu v) p = (cpuLength v (length p) ≡ true) × (cpuState v p ≡ taken tt)
+IsBody meta p = (x : List ℕ) × (tail : List ℕ) × (p ≡ x ++ tail) × Is metaForm x
+IsBody (cpu v) p = (cpuSized v p ≡ true) × (cpuState v p ≡ taken tt)
 IsBody (mmu v) p = length p ≡ mmuLength v
 IsBody (list d) p = IsList d p
 IsBody opaque p = Unit {0}

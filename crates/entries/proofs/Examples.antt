@@ -2,15 +2,17 @@
 -- Assumes nothing.
 use mathlib.Core.Path.{_≡_, refl}
 use mathlib.Core.Bool.{true}
-use mathlib.Core.List.{List, [], _∷_}
+use mathlib.Core.List.{List, [], _∷_, _++_}
 use Prim.Native.Nat.{ℕ}
 use lib.Dec.{ltb}
-use Rattle.answer.specs.Numbers.{SHAPE, RESERVED}
+use lib.ListN.{replicate}
+use Rattle.answer.specs.Numbers.{SHAPE, RESERVED, VALUE}
 use Rattle.answer.specs.Outcome.{taken, refused}
 use Rattle.answer.specs.Calls.{asked}
 use Rattle.wire.specs.Numbers.{le, leAt, bytesOf}
-use Rattle.format.specs.Format.{read}
-use Rattle.entries.specs.Kinds.{leadChecks, address, busOf, deviceOf, functionOf, deviceKey, devices, controllers}
+use Rattle.format.specs.Format.{read, values}
+use Rattle.entries.specs.States.{cpuWhole}
+use Rattle.entries.specs.Kinds.{leadChecks, address, busOf, deviceOf, functionOf, deviceKey, devices, cpus, controllers}
 
 -- bus 0, device 31, function 2 is 250; bus 1, device 0, function 0 is stored `00 01`
 pub p13 : (address 0 31 2 ≡ 250) × (bytesOf 2 (address 1 0 0) ≡ 0 ∷ 1 ∷ [])
@@ -40,6 +42,27 @@ whole = (refl, refl)
 pub reserved : asked (leadChecks controllers (250 ∷ 0 ∷ 0 ∷ 1 ∷ 73 ∷ 68 ∷ 69 ∷ 48 ∷ 0 ∷ 0 ∷ 0 ∷ 0 ∷ [])) ≡ refused RESERVED 2
 unfolding leAt le
 reserved = refl
+
+-- states of 1200 bytes of version 2: the extension's length is 13, or the length is wrong, at the state's start, or in CPUS at its length
+abbrev zeros : ℕ → List ℕ
+zeros n = replicate n 0
+
+abbrev state : ℕ → List ℕ
+state n = zeros 1183 ++ (bytesOf 4 n ++ zeros 13)
+
+abbrev entry : ℕ → List ℕ
+entry n = bytesOf 4 9 ++ (bytesOf 4 1200 ++ (state n ++ bytesOf 8 0))
+
+pub longer : (cpuWhole 2 (state 13) ≡ taken tt)
+    × (cpuWhole 2 (state 12) ≡ refused SHAPE 0)
+    × (read (cpus 2 .form) (entry 13) ≡ taken 1216)
+    × (read (cpus 2 .form) (entry 12) ≡ refused SHAPE 4)
+    -- at 1191 bytes another length is a value of its own; bytes 1187 to 1189 are asked in longer states too
+    × (cpuWhole 2 (zeros 1191) ≡ refused VALUE 1183)
+    × (cpuWhole 2 (zeros 1183 ++ (bytesOf 4 13 ++ (0 ∷ 2 ∷ zeros 11))) ≡ refused VALUE 1188)
+    × (cpuWhole 2 (zeros 1184) ≡ refused SHAPE 0)
+unfolding read values leAt le bytesOf
+longer = (refl, refl, refl, refl, refl, refl, refl)
 
 pub cut : asked (leadChecks devices (3 ∷ 0 ∷ 0 ∷ 0 ∷ 1 ∷ 0 ∷ 0 ∷ 0 ∷ 0 ∷ 0 ∷ 0 ∷ 0 ∷ 0 ∷ 0 ∷ 0 ∷ [])) ≡ refused SHAPE 0
 cut = refl

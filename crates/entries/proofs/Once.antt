@@ -14,7 +14,7 @@ use Rattle.format.specs.Format.{span}
 use Rattle.format.specs.Places.{readAt}
 use Rattle.format.proofs.Once.{read-once}
 use Rattle.entries.specs.declared.Kind.{Kind}
-use Rattle.entries.specs.States.{cpuWhole, mmuLength}
+use Rattle.entries.specs.States.{cpuSized, cpuWhole, mmuLength}
 use Rattle.entries.specs.Kinds.{leadChecks}
 use Rattle.entries.specs.Code.{describe}
 
@@ -23,6 +23,9 @@ most-once k e f = equal-once e f
 
 pub closed-once : (k : Kind) {r p : Bool} → r ≡ describe k .closed → p ≡ describe k .closed → r ≡ p
 closed-once k e f = equal-once e f
+
+pub cpu-sized-once : (v : ℕ) (s : List ℕ) {r p : Bool} → r ≡ cpuSized v s → p ≡ cpuSized v s → r ≡ p
+cpu-sized-once v s e f = equal-once e f
 
 pub cpu-state-once : (v : ℕ) (s : List ℕ) (r p : Test) → testOf r ≡ cpuWhole v s → testOf p ≡ cpuWhole v s → r ≡ p
 cpu-state-once v s r p e f = test-once r p (equal-once e f)

@@ -3,7 +3,7 @@
 use mathlib.Core.Path.{_≡_, refl, sym, _∙_, ap}
 use mathlib.Core.Logic.{_≢_}
 use mathlib.Core.List.{List, [], _∷_, _++_}
-use mathlib.Core.Bool.{Bool, true, false, _||_}
+use mathlib.Core.Bool.{Bool, true, false, _&&_, _||_}
 use Prim.Native.Nat.{ℕ, _+_, _-_, _≤_, _<_, zero-le}
 use native.Mathlib.Omega.{arith}
 use lib.ListN.{length, take, drop, length-drop, length-append}
@@ -12,6 +12,7 @@ use lib.Dec.{leb, eqb}
 use borrow.Author.Tests.{eq-eqb, ne-eqb, eqb-true, eqb-false, leb-true, le-leb, lt-leb}
 use Rattle.answer.specs.Numbers.{SHAPE}
 use Rattle.answer.specs.Outcome.{Outcome, taken, refused, Pass, checked, after, moved}
+use Rattle.answer.proofs.Checks.{and-true}
 use Rattle.answer.proofs.Outcomes.{shift-taken}
 use Rattle.answer.proofs.Within.{Within, checked-within, moved-within}
 use Rattle.wire.specs.Numbers.{leAt}
@@ -21,7 +22,7 @@ use Rattle.format.proofs.Exits.{sized-inside}
 use Rattle.format.proofs.Meaning.{sound}
 use Rattle.format.proofs.Listed.{Listed, values-append, values-none}
 use Rattle.format.proofs.Within.{values-within}
-use Rattle.entries.specs.States.{cpuLength, extends, registers, switches, extension, cpuState, cpuLengthChecks, extensionChecks, cpuWhole, heldChecks, mmuLength}
+use Rattle.entries.specs.States.{cpuLength, extends, registers, switches, extension, cpuState, cpuSized, cpuLengthChecks, cpuWhole, heldChecks, mmuLength}
 
 -- ---- lengths, by the version
 
@@ -131,20 +132,20 @@ module _ (v : ℕ) (e : List ℕ) where
           values-within registers e (length e) (omega arith, (omega arith, (omega arith, tt)))
 
   -- a whole state
-  abbrev wholeBy : Bool → Bool → Outcome (Unit {0})
-  wholeBy a b = checked ((a, SHAPE, 0) ∷ (b, SHAPE, 0) ∷ []) (cpuState v e)
+  pub sized-not : cpuLength v (length e) ≡ false → false ≡ cpuSized v e
+  sized-not h = sym (ap (λ (b : Bool). b && extends e) h)
 
-  pub whole-bad : cpuLength v (length e) ≡ false → refused SHAPE 0 ≡ cpuWhole v e
-  whole-bad h = sym (ap (λ (b : Bool). wholeBy b (extends e)) h)
+  pub sized-next : cpuLength v (length e) ≡ true → {r : Bool} → r ≡ extends e → r ≡ cpuSized v e
+  sized-next h k = k ∙ sym (ap (λ (b : Bool). b && extends e) h)
 
-  pub whole-apart : cpuLength v (length e) ≡ true → extends e ≡ false → refused SHAPE 0 ≡ cpuWhole v e
-  whole-apart h k = sym (ap (λ (b : Bool). wholeBy b (extends e)) h ∙ ap (wholeBy true) k)
+  pub whole-bad : cpuSized v e ≡ false → refused SHAPE 0 ≡ cpuWhole v e
+  whole-bad h = sym (ap (λ (b : Bool). checked ((b, SHAPE, 0) ∷ []) (cpuState v e)) h)
 
-  pub whole-fine : cpuLength v (length e) ≡ true → extends e ≡ true → {r : Outcome (Unit {0})} → r ≡ cpuState v e → r ≡ cpuWhole v e
-  whole-fine h k j = j ∙ sym (ap (λ (b : Bool). wholeBy b (extends e)) h ∙ ap (wholeBy true) k)
+  pub whole-fine : cpuSized v e ≡ true → {r : Outcome (Unit {0})} → r ≡ cpuState v e → r ≡ cpuWhole v e
+  whole-fine h k = k ∙ sym (ap (λ (b : Bool). checked ((b, SHAPE, 0) ∷ []) (cpuState v e)) h)
 
   pub whole-within : Within (cpuWhole v e) (length e)
-  whole-within = checked-within (cpuLengthChecks v (length e) ++ extensionChecks e) (cpuState v e) (length e) (zero-le, λ h. (zero-le, λ _. state-within h))
+  whole-within = checked-within ((cpuSized v e, SHAPE, 0) ∷ []) (cpuState v e) (length e) (zero-le, λ h. state-within (and-true (cpuLength v (length e)) (extends e) h .0))
 
 pub mmu-small : (v : ℕ) → mmuLength v ≤ 264
 mmu-small v = go (eqb v 1)
@@ -160,7 +161,7 @@ heldBy a r = checked ((a, SHAPE, 0) ∷ []) (moved 4 r)
 
 module _ (v : ℕ) (b e : List ℕ) (q : e ≡ drop 4 b) where
   same-held : heldBy (extends e) (cpuState v e) ≡ heldChecks v b
-  same-held = ap (λ (x : List ℕ). checked (extensionChecks x) (moved 4 (cpuState v x))) q
+  same-held = ap (λ (x : List ℕ). checked ((extends x, SHAPE, 0) ∷ []) (moved 4 (cpuState v x))) q
 
   pub held-apart : extends e ≡ false → refused SHAPE 0 ≡ heldChecks v b
   held-apart h = sym (ap (λ (a : Bool). heldBy a (cpuState v e)) h) ∙ same-held
@@ -173,7 +174,7 @@ pub held-within : (v : ℕ) (e : List ℕ) → Is (sized 4 (cpuLengthChecks v) a
 held-within v e (x, y, q, i, n, k, m) =
     let d : drop 4 e ≡ y = ap (drop 4) q ∙ drop-at x y 4 i in
     let l : 4 + length y ≤ length e = omega (arith, ap length q, length-append x y) in
-    rw d (checked-within (extensionChecks y) (moved 4 (cpuState v y)) (length e) (zero-le, λ _. moved-within 4 (cpuState v y) (length e) (length y) (state-within v y (k .0)) l))
+    rw d (checked-within ((extends y, SHAPE, 0) ∷ []) (moved 4 (cpuState v y)) (length e) (zero-le, λ _. moved-within 4 (cpuState v y) (length e) (length y) (state-within v y (k .0)) l))
 
 -- a fault in the state of an entry lies before the end
 pub held-place : (v : ℕ) (s : List ℕ) (at : ℕ) {e n p : ℕ} → taken e ≡ readAt (sized 4 (cpuLengthChecks v) any) s at

@@ -1,7 +1,7 @@
 -- CPU and MMU states, by the version of their section.
 -- Assumes nothing.
 use mathlib.Core.List.{List, [], _∷_, _++_}
-use mathlib.Core.Bool.{Bool, true, false, _||_}
+use mathlib.Core.Bool.{Bool, true, false, _&&_, _||_}
 use Prim.Native.Nat.{ℕ, _+_}
 use lib.ListN.{length, drop}
 use lib.Dec.{leb, eqb}
@@ -41,17 +41,17 @@ cpuState v e = values (cpuValues v (length e)) e
 abbrev pub cpuLengthChecks : ℕ → ℕ → Checks
 cpuLengthChecks v n = (cpuLength v n, SHAPE, 0) ∷ []
 
--- that a longer state has the length that it says, once it is there
-abbrev pub extensionChecks : List ℕ → Checks
-extensionChecks e = (extends e, SHAPE, 0) ∷ []
+-- a state's length is right
+abbrev pub cpuSized : ℕ → List ℕ → Bool
+cpuSized v e = cpuLength v (length e) && extends e
 
 -- a whole CPU state: its length, before its values
 abbrev pub cpuWhole : ℕ → Asks
-cpuWhole v e = checked (cpuLengthChecks v (length e) ++ extensionChecks e) (cpuState v e)
+cpuWhole v e = checked ((cpuSized v e, SHAPE, 0) ∷ []) (cpuState v e)
 
--- what is asked of a state behind its length's four bytes, where both are there: a wrong length is the length's fault
+-- what is asked of a state and the four bytes of its length before it, where both are there: a wrong length is the fault of the length
 abbrev pub heldChecks : ℕ → Asks
-heldChecks v e = checked (extensionChecks (drop 4 e)) (moved 4 (cpuState v (drop 4 e)))
+heldChecks v e = checked ((extends (drop 4 e), SHAPE, 0) ∷ []) (moved 4 (cpuState v (drop 4 e)))
 
 -- in CPUS: a u32 length, the state
 abbrev pub heldState : ℕ → Format

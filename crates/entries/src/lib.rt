@@ -22,7 +22,7 @@ ghost use Rattle.answer.specs.Outcome.{moved};
 ghost use Rattle.answer.specs.Calls.{pieceOf, testOf, asked};
 ghost use Rattle.format.specs.Format.{any, sized, pair, blob, text, values, span};
 ghost use Rattle.format.specs.Places.{readAt};
-ghost use Rattle.entries.specs.States.{cpuLength, extends, cpuLengthChecks, cpuState, cpuWhole, registers, switches, extension, heldChecks, heldState, mmuLength};
+ghost use Rattle.entries.specs.States.{cpuLength, extends, cpuSized, cpuLengthChecks, cpuState, cpuWhole, registers, switches, extension, heldChecks, heldState, mmuLength};
 ghost use Rattle.entries.specs.Kinds.{blobMost, imageMost, leadChecks, controllerChecks, controllerHead, devices, disks, cpus, controllers};
 ghost use Rattle.entries.specs.Code.{describe};
 
@@ -161,15 +161,22 @@ fn numbers_in(version: u16, state: &[u8]) -> Test
     }
 }
 
+// Whether a state's length is right.
+pub fn cpu_sized(version: u16, state: &[u8]) -> bool
+    ensures { λ r. ⌜ r ≡ cpuSized version (now (state .entry)) ⌝ }
+{
+    if cpu_length(version, state.len()) {
+        return extended(state);
+    }
+    false
+}
+
 // A whole CPU state: its length, then its values.
 pub fn cpu_state(version: u16, state: &[u8]) -> Test
     ensures { λ r. ⌜ testOf r ≡ cpuWhole version (now (state .entry)) ⌝ }
 {
-    if cpu_length(version, state.len()) {
-        if extended(state) {
-            return numbers_in(version, state);
-        }
-        return Test::Fault(SHAPE, 0);
+    if cpu_sized(version, state) {
+        return numbers_in(version, state);
     }
     Test::Fault(SHAPE, 0)
 }

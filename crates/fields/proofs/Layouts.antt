@@ -18,5 +18,5 @@ mmu-size = refl
 pub cpu-ranges : ranges 0 cpuLayout ≡ registers
 cpu-ranges = refl
 
-pub cpu-ranges-extended : ranges 0 (cpuLayout ++ cpuExtension) ≡ registers ++ extension
+pub cpu-ranges-extended : ranges 0 (cpuLayout ++ cpuExtension) ≡ registers ++ extension 1191
 cpu-ranges-extended = refl

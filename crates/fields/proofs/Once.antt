@@ -12,13 +12,13 @@ use Rattle.answer.specs.Calls.{testOf, asked, Writes}
 use Rattle.answer.proofs.Once.{equal-once, writes-once, test-once}
 use Rattle.fields.specs.declared.State.{State}
 use Rattle.fields.specs.declared.State.the-variants.{Cpu, Mmu}
-use Rattle.fields.specs.Fields.{lengths, stateChecks, fieldCall, setCall, Changes}
+use Rattle.fields.specs.Fields.{rightLength, stateChecks, fieldCall, setCall, Changes}
 
 pub changes-once : {count : ℕ} {o : Outcome (List ℕ)} {old : List ℕ} {r s : Answer} {new now : List ℕ} → Changes count o old r new → Changes count o old s now → (r ≡ s) × (new ≡ now)
 changes-once a b = (equal-once (a .answers) (b .answers), equal-once (a .leaves) (b .leaves))
 
-pub right-length-once : (k : State) (n : ℕ) {a b : Bool} → a ≡ lengths k n → b ≡ lengths k n → a ≡ b
-right-length-once k n e f = equal-once e f
+pub right-length-once : (k : State) (s : List ℕ) {a b : Bool} → a ≡ rightLength k s → b ≡ rightLength k s → a ≡ b
+right-length-once k s e f = equal-once e f
 
 pub judge-once : (k : State) (s : List ℕ) (a b : Test) → testOf a ≡ asked (stateChecks k s) → testOf b ≡ asked (stateChecks k s) → a ≡ b
 judge-once k s a b e f = test-once a b (equal-once e f)

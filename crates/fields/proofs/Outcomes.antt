@@ -25,7 +25,7 @@ use Rattle.fields.specs.declared.Spot.the-variants.{At, Lacks}
 use Rattle.fields.specs.declared.State.{State}
 use Rattle.fields.specs.declared.State.the-variants.{Cpu, Mmu}
 use Rattle.fields.specs.Layout.{rowAt}
-use Rattle.fields.specs.Fields.{lengths, listed, valueChecks, stateChecks, placeOf, hasIn, findIn, spotOf, bytesAt, fieldChecks, fieldCall, setTo, setChecks, setCall, Changes}
+use Rattle.fields.specs.Fields.{rightLength, listed, valueChecks, stateChecks, placeOf, hasIn, findIn, spotOf, bytesAt, fieldChecks, fieldCall, setTo, setChecks, setCall, Changes}
 use Rattle.fields.proofs.Table.{Small, small-row}
 
 -- ---- what is asked of a state
@@ -37,7 +37,7 @@ values-rows (r ∷ l) s = ap (λ (o : Outcome (Unit {0})). checked ((leb (r .2) 
 
 pub judge-cpu : (s : List ℕ) → cpuWhole 2 s ≡ asked (stateChecks Cpu s)
 unfolding stateChecks
-judge-cpu s = ap (λ (o : Outcome (Unit {0})). checked ((lengths Cpu (length s), SHAPE, 0) ∷ []) o) (values-rows (cpuValues 2 (length s)) s)
+judge-cpu s = ap (λ (o : Outcome (Unit {0})). checked ((rightLength Cpu s, SHAPE, 0) ∷ []) o) (values-rows (cpuValues 2 (length s)) s)
 
 pub judge-mmu : (s : List ℕ) (b : Bool) → eqb (length s) 264 ≡ b → asked ((b, SHAPE, 0) ∷ []) ≡ asked (stateChecks Mmu s)
 unfolding stateChecks
@@ -92,7 +92,7 @@ handed old part e f =
 module _ {A : Type 0} (k : State) (r : Row) (i : ℕ) (s : List ℕ) (next : Outcome A) where
   field-lacks : hasIn r i (length s) ≡ false → checked (fieldChecks k r i s) next ≡ refused SHAPE 0
   unfolding fieldChecks
-  field-lacks e = go (lengths k (length s))
+  field-lacks e = go (rightLength k s)
     where
       go : (b : Bool) → checked ((b, SHAPE, 0) ∷ (hasIn r i (length s), SHAPE, 0) ∷ valueChecks (listed k (length s)) s) next ≡ refused SHAPE 0
       go true = rw e
@@ -100,7 +100,7 @@ module _ {A : Type 0} (k : State) (r : Row) (i : ℕ) (s : List ℕ) (next : Out
 
   field-there : hasIn r i (length s) ≡ true → checked (fieldChecks k r i s) next ≡ checked (stateChecks k s) next
   unfolding fieldChecks stateChecks
-  field-there e = ap (λ (b : Bool). checked ((lengths k (length s), SHAPE, 0) ∷ (b, SHAPE, 0) ∷ valueChecks (listed k (length s)) s) next) e
+  field-there e = ap (λ (b : Bool). checked ((rightLength k s, SHAPE, 0) ∷ (b, SHAPE, 0) ∷ valueChecks (listed k (length s)) s) next) e
 
 pub reads-lacks : (k : State) (s : List ℕ) (n i have : ℕ) {old : List ℕ} → hasIn (rowAt k n) i (length s) ≡ false → Writes (fieldCall k have s n i) old (record { number = SHAPE; place = 0 }) old
 unfolding fieldCall
@@ -136,41 +136,39 @@ pub changes-taken : {count : ℕ} {s b new : List ℕ} {o : Outcome (List ℕ)} 
 changes-taken e f = record { answers = rw e; leaves = f ∙ sym (rw e) }
 
 module _ {A : Type 0} (k : State) (r : Row) (i : ℕ) (v s : List ℕ) (next : Outcome A) where
-  pub set-length : lengths k (length s) ≡ false → checked (setChecks k r i v s) next ≡ refused SHAPE 0
+  pub set-length : rightLength k s ≡ false → checked (setChecks k r i v s) next ≡ refused SHAPE 0
   unfolding setChecks
   set-length e = rw e
 
-  pub set-lacks : lengths k (length s) ≡ true → hasIn r i (length s) ≡ false → checked (setChecks k r i v s) next ≡ refused SHAPE 0
+  pub set-lacks : rightLength k s ≡ true → hasIn r i (length s) ≡ false → checked (setChecks k r i v s) next ≡ refused SHAPE 0
   unfolding setChecks
   set-lacks e f = rw (e, f)
 
-  pub set-wide : lengths k (length s) ≡ true → hasIn r i (length s) ≡ true → eqb (length v) (r .width) ≡ false → checked (setChecks k r i v s) next ≡ refused VALUE (placeOf r i)
+  pub set-wide : rightLength k s ≡ true → hasIn r i (length s) ≡ true → eqb (length v) (r .width) ≡ false → checked (setChecks k r i v s) next ≡ refused VALUE (placeOf r i)
   unfolding setChecks
   set-wide e f g = rw (e, f, g)
 
-  pub set-tried : lengths k (length s) ≡ true → hasIn r i (length s) ≡ true → eqb (length v) (r .width) ≡ true → placeOf r i + length v ≤ length s
-      → checked (setChecks k r i v s) next ≡ checked (stateChecks k (setTo r i v s)) next
-  unfolding setChecks stateChecks
-  set-tried e f g h = rw (length-splice (placeOf r i) v s h, e, f, g)
+  pub set-tried : rightLength k s ≡ true → hasIn r i (length s) ≡ true → eqb (length v) (r .width) ≡ true → checked (setChecks k r i v s) next ≡ checked (stateChecks k (setTo r i v s)) next
+  unfolding setChecks
+  set-tried e f g = rw (e, f, g)
 
 module _ (k : State) (n i : ℕ) (v s : List ℕ) where
-  pub sets-length : lengths k (length s) ≡ false → Changes (length v) (setCall k s n i v) s (record { number = SHAPE; place = 0 }) s
+  pub sets-length : rightLength k s ≡ false → Changes (length v) (setCall k s n i v) s (record { number = SHAPE; place = 0 }) s
   unfolding setCall
   sets-length e = changes-refused (set-length k (rowAt k n) i v s (taken (setTo (rowAt k n) i v s)) e)
 
-  pub sets-lacks : lengths k (length s) ≡ true → hasIn (rowAt k n) i (length s) ≡ false → Changes (length v) (setCall k s n i v) s (record { number = SHAPE; place = 0 }) s
+  pub sets-lacks : rightLength k s ≡ true → hasIn (rowAt k n) i (length s) ≡ false → Changes (length v) (setCall k s n i v) s (record { number = SHAPE; place = 0 }) s
   unfolding setCall
   sets-lacks e f = changes-refused (set-lacks k (rowAt k n) i v s (taken (setTo (rowAt k n) i v s)) e f)
 
-  pub sets-wide : {at w : ℕ} → lengths k (length s) ≡ true → Found (rowAt k n) i (length s) at w → eqb (length v) w ≡ false → Changes (length v) (setCall k s n i v) s (record { number = VALUE; place = at }) s
+  pub sets-wide : {at w : ℕ} → rightLength k s ≡ true → Found (rowAt k n) i (length s) at w → eqb (length v) w ≡ false → Changes (length v) (setCall k s n i v) s (record { number = VALUE; place = at }) s
   unfolding setCall
   sets-wide e f g = rw (f .place) (changes-refused (set-wide k (rowAt k n) i v s (taken (setTo (rowAt k n) i v s)) e (f .has) (rw (← f .width) g)))
 
-  pub sets-tried : {at w : ℕ} {a : Answer} {new : List ℕ} → lengths k (length s) ≡ true → Found (rowAt k n) i (length s) at w → eqb (length v) w ≡ true
+  pub sets-tried : {at w : ℕ} {a : Answer} {new : List ℕ} → rightLength k s ≡ true → Found (rowAt k n) i (length s) at w → eqb (length v) w ≡ true
       → Changes (length v) (checked (stateChecks k (splice at v s)) (taken (splice at v s))) s a new → Changes (length v) (setCall k s n i v) s a new
   unfolding setCall
   sets-tried {at} {w} e f g so =
       let r = rowAt k n in
-      let h : placeOf r i + length v ≤ length s = omega (arith, f .ends, f .place, eqb-true (length v) w g) in
-      let q = set-tried k r i v s (taken (setTo r i v s)) e (f .has) (rw (← f .width) g) h in
+      let q = set-tried k r i v s (taken (setTo r i v s)) e (f .has) (rw (← f .width) g) in
       rw q (rw (f .place) at so)

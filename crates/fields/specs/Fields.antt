@@ -11,7 +11,7 @@ use Rattle.answer.specs.Outcome.{Outcome, taken, refused, Checks, checked, fitt
 use Rattle.answer.specs.declared.Answer.{Answer}
 use Rattle.wire.specs.Numbers.{leAt}
 use Rattle.wire.specs.Parts.{splice}
-use Rattle.entries.specs.States.{cpuLength, cpuValues, mmuLength}
+use Rattle.entries.specs.States.{cpuSized, cpuValues, mmuLength}
 use Rattle.fields.specs.declared.Row.{Row}
 use Rattle.fields.specs.declared.Spot.{Spot}
 use Rattle.fields.specs.declared.Spot.the-variants.{At, Lacks}
@@ -21,10 +21,10 @@ use Rattle.fields.specs.Layout.{rowAt}
 
 -- ---- what is asked of a state
 
--- the lengths that it may have
-abbrev pub lengths : State → ℕ → Bool
-lengths Cpu n = cpuLength 2 n
-lengths Mmu n = eqb n (mmuLength 2)
+-- its length is right
+abbrev pub rightLength : State → List ℕ → Bool
+rightLength Cpu s = cpuSized 2 s
+rightLength Mmu s = eqb (length s) (mmuLength 2)
 
 -- the numbers that are listed of one of n bytes
 abbrev pub listed : State → ℕ → List (ℕ × ℕ × ℕ × ℕ)
@@ -37,7 +37,7 @@ valueChecks (r ∷ l) s = (leb (r .2) (leAt (r .1) s (r .0)) && leb (leAt (r .1)
 
 -- its length, then its values in document 01's order
 unfoldable pub stateChecks : State → List ℕ → Checks
-stateChecks k s = (lengths k (length s), SHAPE, 0) ∷ valueChecks (listed k (length s)) s
+stateChecks k s = (rightLength k s, SHAPE, 0) ∷ valueChecks (listed k (length s)) s
 
 -- ---- a field's place
 
@@ -64,24 +64,24 @@ bytesAt r i s = take (r .width) (drop (placeOf r i) s)
 
 unfoldable pub fieldChecks : State → Row → ℕ → List ℕ → Checks
 fieldChecks k r i s =
-    (lengths k (length s), SHAPE, 0)
+    (rightLength k s, SHAPE, 0)
     ∷ (hasIn r i (length s), SHAPE, 0)
     ∷ valueChecks (listed k (length s)) s
 
 unfoldable pub fieldCall : State → ℕ → List ℕ → ℕ → ℕ → Outcome (List ℕ)
 fieldCall k have s n i = checked (fieldChecks k (rowAt k n) i s) (fitting have (bytesAt (rowAt k n) i s))
 
--- ---- setting: the length, the field, that the value is as wide as it, then the values of the state as it would be
+-- ---- setting: the length, the field, that the value is as wide as it, then the state as it would be
 
 abbrev pub setTo : Row → ℕ → List ℕ → List ℕ → List ℕ
 setTo r i v s = splice (placeOf r i) v s
 
 unfoldable pub setChecks : State → Row → ℕ → List ℕ → List ℕ → Checks
 setChecks k r i v s =
-    (lengths k (length s), SHAPE, 0)
+    (rightLength k s, SHAPE, 0)
     ∷ (hasIn r i (length s), SHAPE, 0)
     ∷ (eqb (length v) (r .width), VALUE, placeOf r i)
-    ∷ valueChecks (listed k (length s)) (setTo r i v s)
+    ∷ stateChecks k (setTo r i v s)
 
 unfoldable pub setCall : State → List ℕ → ℕ → ℕ → List ℕ → Outcome (List ℕ)
 setCall k s n i v = checked (setChecks k (rowAt k n) i v s) (taken (setTo (rowAt k n) i v s))

@@ -12,7 +12,7 @@ ghost use Rattle.answer.specs.Calls.{testOf, asked, Writes};
 ghost use Rattle.wire.specs.Parts.{splice};
 ghost use Rattle.fields.specs.declared.State.the-variants.{Cpu, Mmu};
 ghost use Rattle.fields.specs.Layout.{rowAt};
-ghost use Rattle.fields.specs.Fields.{lengths, stateChecks, findIn, spotOf, fieldCall, setCall, Changes};
+ghost use Rattle.fields.specs.Fields.{rightLength, stateChecks, findIn, spotOf, fieldCall, setCall, Changes};
 
 // The kinds of state.
 pub enum State {
@@ -149,18 +149,13 @@ fn find(kind: State, n: usize, i: usize, len: usize) -> Spot
     Spot::Lacks
 }
 
-// Whether a state may be that long.
-pub fn right_length(kind: State, len: usize) -> bool
-    ensures { λ r. ⌜ r ≡ lengths kind len ⌝ }
+// Whether the length of a state is right.
+pub fn right_length(kind: State, state: &[u8]) -> bool
+    ensures { λ r. ⌜ r ≡ rightLength kind (now (state .entry)) ⌝ }
 {
     match kind {
-        State::Cpu => {
-            if len == 1183 {
-                return true;
-            }
-            len == 1191
-        }
-        State::Mmu => len == 264,
+        State::Cpu => entries::cpu_sized(2, state),
+        State::Mmu => state.len() == 264,
     }
 }
 
@@ -254,7 +249,7 @@ fn store_at(kind: State, s: &mut [u8], at: usize, v: &[u8]) -> Answer
 pub fn set(kind: State, state: &mut [u8], n: u32, i: u32, v: &[u8]) -> Answer
     ensures { λ r. ⌜ Changes (length (now (v .entry))) (setCall kind (now (state .entry)) n i (now (v .entry))) (now (state .entry)) r (now (state .exit)) ⌝ }
 {
-    if right_length(kind, state.len()) {
+    if right_length(kind, state) {
         match find(kind, n as usize, i as usize, state.len()) {
             Spot::At(at, width) => {
                 if v.len() == width {

@@ -1,46 +1,39 @@
 -- The calls on sheets: the code's answers against the definitions.
 -- Assumes nothing.
 use mathlib.Core.Path.{_≡_, refl, sym, ap, _∙_, subst⁻¹}
-use mathlib.Core.Bool.{Bool, true, false, _||_}
-use mathlib.Core.List.{List, [], _∷_}
-use Prim.Native.Nat.{ℕ, _+_, _≤_, _<_}
+use mathlib.Core.Bool.{Bool, true, false}
+use mathlib.Core.List.{List, [], _∷_, _++_}
+use Prim.Native.Nat.{ℕ, _+_, _≤_, min}
+use native.Mathlib.Decide.{decLe}
 use native.Mathlib.Omega.{arith}
-use lib.Dec.{leb, eqb}
-use lib.ListN.{length, take, drop, replicate}
-use borrow.Author.Tests.{eqb-true}
+use lib.ListN.{length, take, drop, replicate, length-append, take-append-drop, drop-of-length-le}
+use lib.Seq.{take-all, length-take-le, drop-append-seam}
 use Rattle.answer.specs.Numbers.{SHAPE}
 use Rattle.answer.specs.Outcome.{Outcome, taken, refused, Checks, checked}
 use Rattle.answer.specs.Calls.{asked}
 use Rattle.answer.specs.declared.Answer.{Answer}
-use Rattle.answer.proofs.Checks.{asked-stop, asked-pass, pass-checked}
-use Rattle.wire.specs.Parts.{put}
+use Rattle.answer.proofs.Checks.{and-true, asked-stop, asked-pass, pass-checked}
+use Rattle.wire.specs.Parts.{splice, put}
+use Rattle.wire.proofs.Parts.{put-fits}
+use Rattle.entries.specs.States.{cpuLength, extends}
+use Rattle.entries.proofs.States.{two-wide}
 use Rattle.fields.specs.declared.State.the-variants.{Cpu, Mmu}
-use Rattle.fields.specs.Fields.{lengths, listed, valueChecks, stateChecks, Changes}
+use Rattle.fields.specs.Fields.{rightLength, stateChecks, Changes}
 use Rattle.fields.proofs.Splices.{kept}
 use Rattle.fields.proofs.Outcomes.{changes-refused, changes-taken}
 use Rattle.sheet.specs.declared.CpuSheet.{CpuSheet}
 use Rattle.sheet.specs.declared.MmuSheet.{MmuSheet}
-use Rattle.sheet.specs.Sheet.{cpuOf, cpuOver, mmuOf, mmuOver}
+use Rattle.sheet.specs.Sheet.{cpuOf, fieldsOver, cpuOver, mmuOf, mmuOver}
 use Rattle.sheet.specs.Calls.{matches, cpuCount, cpuShown, mmuShown, cpuCall, mmuCall, cpuOverChecks, cpuOverCall, mmuOverCall}
-use Rattle.sheet.proofs.Rows.{put-whole}
 
 -- ---- lengths
 
-pub record Between (n : ℕ) : Type 0 where
-  pub least : 1183 ≤ n
-  pub most : n ≤ 1191
-
-pub cpu-between : (n : ℕ) → lengths Cpu n ≡ true → Between n
-cpu-between n h = go (eqb n 1183) refl (eqb n 1191) refl h
-  where
-    go : (a : Bool) → eqb n 1183 ≡ a → (b : Bool) → eqb n 1191 ≡ b → (a || b) ≡ true → Between n
-    go true p b q h = let e = eqb-true n 1183 p in record { least = omega (arith, e); most = omega (arith, e) }
-    go false p true q h = let e = eqb-true n 1191 q in record { least = omega (arith, e); most = omega (arith, e) }
-    go false p false q h = let z : _≡_ {A = ℕ} 0 1 = cc in absurd (omega arith)
+pub cpu-wide : (s : List ℕ) → rightLength Cpu s ≡ true → 1183 ≤ length s
+cpu-wide s h = two-wide (length s) (and-true (cpuLength 2 (length s)) (extends s) h .0)
 
 pub cpu-long : (s : List ℕ) → taken tt ≡ asked (stateChecks Cpu s) → 1183 ≤ length s
 unfolding stateChecks
-cpu-long s e = cpu-between (length s) (asked-pass (stateChecks Cpu s) e .0) .least
+cpu-long s e = cpu-wide s (asked-pass (stateChecks Cpu s) e .0)
 
 -- ---- reading
 
@@ -63,37 +56,58 @@ mmu-fine s e f = rw (pass-checked (stateChecks Mmu s) (taken (mmuOf s)) (asked-p
 
 -- ---- writing over a state
 
--- all of it kept aside, and stored again
-pub restored : (s s₂ : List ℕ) {old s₃ : List ℕ} → length s ≤ 1191 → length s₂ ≡ length s → old ≡ put 0 s (replicate 1191 0) → s₃ ≡ put 0 (take (length s) old) s₂ → s₃ ≡ s
-restored s s₂ h n e f = f ∙ ap (λ (l : List ℕ). put 0 (take (length s) l) s₂) e ∙ ap (λ (l : List ℕ). put 0 l s₂) (kept s 1191 h) ∙ put-whole s s₂ (sym n)
+-- the first n bytes, all of them or 1191
+module _ (s : List ℕ) {n : ℕ} (e : n ≡ min (length s) 1191) where
+  pub reach-take : take n s ≡ take 1191 s
+  reach-take = go (decLe (length s) 1191)
+    where
+      go : Dec (length s ≤ 1191) → take n s ≡ take 1191 s
+      go (yes h) = take-all n s (omega arith) ∙ sym (take-all 1191 s h)
+      go (no h) = let f : n ≡ 1191 = omega arith in ap (λ (k : ℕ). take k s) f
 
--- asked of the state as it would be, which is as long
-over-same : (c : CpuSheet) (s : List ℕ) → lengths Cpu (length s) ≡ true → matches (c .extension) (length s) ≡ true → length (cpuOver c s) ≡ length s
-    → cpuOverCall c s ≡ checked (stateChecks Cpu (cpuOver c s)) (taken (cpuOver c s))
-unfolding cpuOverCall cpuOverChecks stateChecks
-over-same c s e f n =
-    rows-same (lengths Cpu (length s)) (matches (c .extension) (length s)) e f
-    ∙ ap (λ (k : ℕ). checked ((lengths Cpu k, SHAPE, 0) ∷ valueChecks (listed Cpu k) (cpuOver c s)) (taken (cpuOver c s))) (sym n)
-  where
-    rows-same : (a b : Bool) → lengths Cpu (length s) ≡ true → b ≡ true → _≡_ {A = Outcome (List ℕ)} (checked ((a, SHAPE, 0) ∷ (b, SHAPE, 0) ∷ valueChecks (listed Cpu (length s)) (cpuOver c s)) (taken (cpuOver c s))) (checked ((a, SHAPE, 0) ∷ valueChecks (listed Cpu (length s)) (cpuOver c s)) (taken (cpuOver c s)))
-    rows-same a b h k = ap (λ (t : Bool). checked ((a, SHAPE, 0) ∷ (t, SHAPE, 0) ∷ valueChecks (listed Cpu (length s)) (cpuOver c s)) (taken (cpuOver c s))) k
+  pub reach-drop : drop n s ≡ drop 1191 s
+  reach-drop = go (decLe (length s) 1191)
+    where
+      go : Dec (length s ≤ 1191) → drop n s ≡ drop 1191 s
+      go (yes h) = let g : length s ≤ n = omega arith in drop-of-length-le s g ∙ sym (drop-of-length-le s h)
+      go (no h) = let f : n ≡ 1191 = omega arith in ap (λ (k : ℕ). drop k s) f
 
-pub over-stored : (c : CpuSheet) (s : List ℕ) {a : Answer} {new : List ℕ} → lengths Cpu (length s) ≡ true → matches (c .extension) (length s) ≡ true → length (cpuOver c s) ≡ length s
+  -- the fields over them, and the others as they were
+  pub reach-over : (c : CpuSheet) {x : List ℕ} → x ≡ fieldsOver c (take n s) → x ++ drop n s ≡ cpuOver c s
+  reach-over c h = rw (h, reach-take, reach-drop)
+
+  -- kept aside, and stored again
+  pub restored : {old : List ℕ} (x : List ℕ) {s₃ : List ℕ} → length x ≡ length (take n s) → old ≡ put 0 (take n s) (replicate 1191 0) → s₃ ≡ put 0 (take n old) (x ++ drop n s) → s₃ ≡ s
+  unfolding splice
+  restored {old} x l q f =
+      let m : length (take n s) ≡ n = length-take-le n s (omega arith) in
+      let k : take n old ≡ take n s = ap (take n) q ∙ rw m at (kept (take n s) 1191 (omega arith)) in
+      let w : 0 + length (take n s) ≤ length (x ++ drop n s) = omega (arith, length-append x (drop n s)) in
+      let z : 0 + length (take n s) ≡ length x = omega arith in
+      f ∙ ap (λ (b : List ℕ). put 0 b (x ++ drop n s)) k ∙ put-fits 0 (take n s) (x ++ drop n s) w
+      ∙ ap (λ (j : ℕ). take n s ++ drop j (x ++ drop n s)) z ∙ ap (λ (b : List ℕ). take n s ++ b) (drop-append-seam x (drop n s)) ∙ take-append-drop n s
+
+-- asked of the state as it would be
+over-same : (c : CpuSheet) (s : List ℕ) → rightLength Cpu s ≡ true → matches (c .extension) (length s) ≡ true → cpuOverCall c s ≡ checked (stateChecks Cpu (cpuOver c s)) (taken (cpuOver c s))
+unfolding cpuOverCall cpuOverChecks
+over-same c s e f = rw (e, f)
+
+pub over-stored : (c : CpuSheet) (s : List ℕ) {a : Answer} {new : List ℕ} → rightLength Cpu s ≡ true → matches (c .extension) (length s) ≡ true
     → Changes (cpuCount (length s)) (checked (stateChecks Cpu (cpuOver c s)) (taken (cpuOver c s))) s a new → Changes (cpuCount (length s)) (cpuOverCall c s) s a new
-over-stored c s {a} {new} e f n so = subst⁻¹ (λ (o : Outcome (List ℕ)). Changes (cpuCount (length s)) o s a new) (over-same c s e f n) so
+over-stored c s {a} {new} e f so = subst⁻¹ (λ (o : Outcome (List ℕ)). Changes (cpuCount (length s)) o s a new) (over-same c s e f) so
 
-pub over-length : (c : CpuSheet) (s : List ℕ) → lengths Cpu (length s) ≡ false → Changes (cpuCount (length s)) (cpuOverCall c s) s (record { number = SHAPE; place = 0 }) s
+pub over-length : (c : CpuSheet) (s : List ℕ) → rightLength Cpu s ≡ false → Changes (cpuCount (length s)) (cpuOverCall c s) s (record { number = SHAPE; place = 0 }) s
 unfolding cpuOverCall cpuOverChecks
 over-length c s e = changes-refused (rw e)
 
-pub over-apart : (c : CpuSheet) (s : List ℕ) → lengths Cpu (length s) ≡ true → matches (c .extension) (length s) ≡ false → Changes (cpuCount (length s)) (cpuOverCall c s) s (record { number = SHAPE; place = 0 }) s
+pub over-apart : (c : CpuSheet) (s : List ℕ) → rightLength Cpu s ≡ true → matches (c .extension) (length s) ≡ false → Changes (cpuCount (length s)) (cpuOverCall c s) s (record { number = SHAPE; place = 0 }) s
 unfolding cpuOverCall cpuOverChecks
 over-apart c s e f = changes-refused (rw (e, f))
 
-pub mmu-over-fine : (m : MmuSheet) (s : List ℕ) {new : List ℕ} → lengths Mmu (length s) ≡ true → new ≡ mmuOver m s → Changes 264 (mmuOverCall m s) s (record { number = 0; place = 264 }) new
+pub mmu-over-fine : (m : MmuSheet) (s : List ℕ) {new : List ℕ} → rightLength Mmu s ≡ true → new ≡ mmuOver m s → Changes 264 (mmuOverCall m s) s (record { number = 0; place = 264 }) new
 unfolding mmuOverCall
 mmu-over-fine m s e f = changes-taken (rw e) f
 
-pub mmu-over-length : (m : MmuSheet) (s : List ℕ) → lengths Mmu (length s) ≡ false → Changes 264 (mmuOverCall m s) s (record { number = SHAPE; place = 0 }) s
+pub mmu-over-length : (m : MmuSheet) (s : List ℕ) → rightLength Mmu s ≡ false → Changes 264 (mmuOverCall m s) s (record { number = SHAPE; place = 0 }) s
 unfolding mmuOverCall
 mmu-over-length m s e = changes-refused (rw e)

@@ -8,7 +8,7 @@ use lib.ListN.{length, replicate}
 use Rattle.answer.specs.Numbers.{SHAPE}
 use Rattle.answer.specs.Outcome.{Outcome, taken, refused, Checks, checked}
 use Rattle.fields.specs.declared.State.the-variants.{Cpu, Mmu}
-use Rattle.fields.specs.Fields.{lengths, listed, valueChecks, stateChecks}
+use Rattle.fields.specs.Fields.{rightLength, stateChecks}
 use Rattle.sheet.specs.declared.Extension.{Extension}
 use Rattle.sheet.specs.declared.CpuSheet.{CpuSheet}
 use Rattle.sheet.specs.declared.MmuSheet.{MmuSheet}
@@ -33,7 +33,7 @@ abbrev pub mmuShown : Outcome MmuSheet → MmuShown
 mmuShown (taken m) = record { number = 0; place = 0; sheet = m }
 mmuShown (refused n p) = record { number = n; place = p; sheet = mmuOf (replicate 264 0) }
 
--- ---- writing over a state: its length, that sheet and state have the extension or both have none, then the values of the state as it would be
+-- ---- writing over a state: its length, that sheet and state have the extension or both have none, then the state as it would be
 
 abbrev pub matches : Extension → ℕ → Bool
 matches e len = cond (e .there) (leb 1191 len) (ltb len 1191)
@@ -44,12 +44,12 @@ cpuCount len = cond (leb 1191 len) 1187 1183
 
 unfoldable pub cpuOverChecks : CpuSheet → List ℕ → Checks
 cpuOverChecks c s =
-    (lengths Cpu (length s), SHAPE, 0)
+    (rightLength Cpu s, SHAPE, 0)
     ∷ (matches (c .extension) (length s), SHAPE, 0)
-    ∷ valueChecks (listed Cpu (length s)) (cpuOver c s)
+    ∷ stateChecks Cpu (cpuOver c s)
 
 unfoldable pub cpuOverCall : CpuSheet → List ℕ → Outcome (List ℕ)
 cpuOverCall c s = checked (cpuOverChecks c s) (taken (cpuOver c s))
 
 unfoldable pub mmuOverCall : MmuSheet → List ℕ → Outcome (List ℕ)
-mmuOverCall m s = checked ((lengths Mmu (length s), SHAPE, 0) ∷ []) (taken (mmuOver m s))
+mmuOverCall m s = checked ((rightLength Mmu s, SHAPE, 0) ∷ []) (taken (mmuOver m s))

@@ -92,8 +92,12 @@ sseOver x s = splice 415 (joined (x .xmm)) (at 411 4 (x .mxcsr) s)
 abbrev pub extensionOver : Extension → List ℕ → List ℕ
 extensionOver e s = at 1190 1 (e .vector) (at 1189 1 (e .valid) (at 1188 1 (e .irq13) (at 1187 1 (e .a20) s)))
 
+abbrev pub fieldsOver : CpuSheet → List ℕ → List ℕ
+fieldsOver c s = extensionOver (c .extension) (put 671 (c .image) (sseOver (c .sse) (put 283 (c .st) (mathOver (c .math) (segmentsOver (c .segments) (frontOver (c .front) (gprsOver (c .gpr) s)))))))
+
+-- the fields stand in the first 1191 bytes; those behind stay
 abbrev pub cpuOver : CpuSheet → List ℕ → List ℕ
-cpuOver c s = extensionOver (c .extension) (put 671 (c .image) (sseOver (c .sse) (put 283 (c .st) (mathOver (c .math) (segmentsOver (c .segments) (frontOver (c .front) (gprsOver (c .gpr) s)))))))
+cpuOver c s = fieldsOver c (take 1191 s) ++ drop 1191 s
 
 -- ---- an MMU state read
 

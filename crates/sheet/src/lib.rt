@@ -15,7 +15,7 @@ use wire::u32_at;
 use wire::u64_at;
 ghost use mathlib.Core.Path.{_≡_};
 ghost use mathlib.Core.Bool.{Bool};
-ghost use Prim.Native.Nat.{_+_, _≤_, _<_};
+ghost use Prim.Native.Nat.{_+_, _≤_, _<_, min};
 ghost use lib.ListN.{length, take, drop};
 ghost use lib.Dec.{leb};
 ghost use Rattle.answer.specs.Outcome.{taken, checked};
@@ -23,7 +23,7 @@ ghost use Rattle.wire.specs.Parts.{splice, put};
 ghost use Rattle.fields.specs.declared.State.the-variants.{Cpu, Mmu};
 ghost use Rattle.fields.specs.Fields.{stateChecks, Changes};
 ghost use Rattle.sheet.specs.Vectors.{rows, joined};
-ghost use Rattle.sheet.specs.Sheet.{gprsOf, frontOf, segmentAt, segmentsOf, mathOf, stOf, sseOf, imageOf, extensionOf, cpuOf, gprsOver, frontOver, segmentOver, segmentsOver, mathOver, sseOver, extensionOver, cpuOver, controlOf, debugOf, msrsOf, boundAt, systemOf, mmuOf, controlOver, debugOver, msrsOver, boundOver, systemOver, mmuOver};
+ghost use Rattle.sheet.specs.Sheet.{gprsOf, frontOf, segmentAt, segmentsOf, mathOf, stOf, sseOf, imageOf, extensionOf, cpuOf, gprsOver, frontOver, segmentOver, segmentsOver, mathOver, sseOver, extensionOver, cpuOver, fieldsOver, controlOf, debugOf, msrsOf, boundAt, systemOf, mmuOf, controlOver, debugOver, msrsOver, boundOver, systemOver, mmuOver};
 ghost use Rattle.sheet.specs.Calls.{matches, cpuCount, cpuShown, mmuShown, cpuCall, mmuCall, cpuOverCall, mmuOverCall};
 
 pub struct Front {
@@ -390,7 +390,7 @@ fn put_extension(s: &mut [u8], e: Extension)
 
 fn write_cpu(s: &mut [u8], c: CpuSheet)
     requires { ⌜ 1183 ≤ length (now s) ⌝ }
-    ensures { λ _. ⌜ now (s .exit) ≡ cpuOver c (now (s .entry)) ⌝ }
+    ensures { λ _. ⌜ now (s .exit) ≡ fieldsOver c (now (s .entry)) ⌝ }
 {
     let gpr = c.gpr;
     let front = c.front;
@@ -634,15 +634,26 @@ fn count_of(len: usize) -> u64
     1183
 }
 
-// A sheet over a state of at most 1191 bytes; if the state is refused then, all is as it was.
-fn store_cpu(sheet: CpuSheet, s: &mut [u8]) -> Answer
-    requires { ⌜ (1183 ≤ length (now s)) × (length (now s) ≤ 1191) ⌝ }
-    ensures { λ r. ⌜ (length (cpuOver sheet (now (s .entry))) ≡ length (now (s .entry))) × Changes (cpuCount (length (now (s .entry)))) (checked (stateChecks Cpu (cpuOver sheet (now (s .entry)))) (taken (cpuOver sheet (now (s .entry))))) (now (s .entry)) r (now (s .exit)) ⌝ }
+// How many bytes of a state of `len` bytes its fields stand in.
+fn reach_of(len: usize) -> usize
+    ensures { λ r. ⌜ r ≡ min len 1191 ⌝ }
 {
-    let n = s.len();
+    if len < 1191 {
+        return len;
+    }
+    1191
+}
+
+// A sheet over the first bytes of a state; if the state is refused then, all is as it was.
+fn store_cpu(sheet: CpuSheet, s: &mut [u8]) -> Answer
+    requires { ⌜ 1183 ≤ length (now s) ⌝ }
+    ensures { λ r. ⌜ Changes (cpuCount (length (now (s .entry)))) (checked (stateChecks Cpu (cpuOver sheet (now (s .entry)))) (taken (cpuOver sheet (now (s .entry))))) (now (s .entry)) r (now (s .exit)) ⌝ }
+{
+    let len = s.len();
+    let n = reach_of(len);
     let mut old = [0u8; 1191];
-    wire::copy(&mut old, 0, s);
-    write_cpu(s, sheet);
+    wire::copy(&mut old, 0, &s[..n]);
+    write_cpu(&mut s[..n], sheet);
     match fields::judge(State::Cpu, s) {
         Test::Fault(number, place) => {
             wire::copy(s, 0, &old[..n]);
@@ -653,7 +664,7 @@ fn store_cpu(sheet: CpuSheet, s: &mut [u8]) -> Answer
         }
         Test::Fine => Answer {
             number: TAKEN,
-            place: count_of(n),
+            place: count_of(len),
         },
     }
 }
@@ -662,7 +673,7 @@ fn store_cpu(sheet: CpuSheet, s: &mut [u8]) -> Answer
 pub fn cpu_over(sheet: CpuSheet, state: &mut [u8]) -> Answer
     ensures { λ r. ⌜ Changes (cpuCount (length (now (state .entry)))) (cpuOverCall sheet (now (state .entry))) (now (state .entry)) r (now (state .exit)) ⌝ }
 {
-    if fields::right_length(State::Cpu, state.len()) {
+    if fields::right_length(State::Cpu, state) {
         if agrees(sheet.extension, state.len()) {
             return store_cpu(sheet, state);
         }
@@ -681,7 +692,7 @@ pub fn cpu_over(sheet: CpuSheet, state: &mut [u8]) -> Answer
 pub fn mmu_over(sheet: MmuSheet, state: &mut [u8]) -> Answer
     ensures { λ r. ⌜ Changes 264 (mmuOverCall sheet (now (state .entry))) (now (state .entry)) r (now (state .exit)) ⌝ }
 {
-    if fields::right_length(State::Mmu, state.len()) {
+    if fields::right_length(State::Mmu, state) {
         write_mmu(state, sheet);
         return Answer {
             number: TAKEN,

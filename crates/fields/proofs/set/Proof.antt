@@ -12,41 +12,31 @@ use Rattle.fields.proofs.find.Reads as find-reads
 use Rattle.fields.proofs.right_length.Reads as right-length-reads
 use Rattle.fields.proofs.store_at.Reads as store-at-reads
 
--- src/lib.rt:257:8
--- src/lib.rt:258:15
--- src/lib.rt:259:22
--- src/lib.rt:261:21
 store-at-requires : tie.Need-store-at-requires
 store-at-requires c κs =
-    let a = c .before .before .before .before .before .before .before .before .before .before .args in
+    let a = c .before .before .before .before .before .before .before .before .before .before .before .args in
     let g = found (a .kind) (a .n) (a .i) (length (a .state .now)) (c .before .before .before .before .before .find .ensures) (c .before .before .before .at .given .1) in
     (omega (arith, g .ends, c .before .if2 .taken), omega (arith, g .short, c .before .if2 .taken))
 
--- src/lib.rt:261:21
--- src/lib.rt:261:21
 returns : tie.Need-returns
 returns c =
-    let a = c .before .before .before .before .before .before .before .before .before .before .before .before .before .args in
+    let a = c .before .before .before .before .before .before .before .before .before .before .before .before .before .before .args in
     let g = found (a .kind) (a .n) (a .i) (length (a .state .now)) (c .before .before .before .before .before .before .before .before .find .ensures) (c .before .before .before .before .before .before .at .given .1) in
     sets-tried (a .kind) (a .n) (a .i) (a .v .now) (a .state .now) (sym (c .before .before .before .before .before .before .before .before .before .before .right-length .ensures) ∙ c .before .before .before .before .before .before .before .before .before .if1 .taken) g (eq-eqb _ _ (c .before .before .before .before .if2 .taken)) (c .before .before .store-at .ensures)
 
--- src/lib.rt:263:17
 returns-2 : tie.Need-returns-2
 returns-2 c =
-    let a = c .before .before .before .before .before .before .before .before .before .args in
+    let a = c .before .before .before .before .before .before .before .before .before .before .args in
     let g = found (a .kind) (a .n) (a .i) (length (a .state .now)) (c .before .before .before .before .find .ensures) (c .before .before .at .given .1) in
     sets-wide (a .kind) (a .n) (a .i) (a .v .now) (a .state .now) (sym (c .before .before .before .before .before .before .right-length .ensures) ∙ c .before .before .before .before .before .if1 .taken) g (ne-eqb _ _ (c .if2 .left))
 
--- src/lib.rt:269:17
--- src/lib.rt:269:17
 returns-3 : tie.Need-returns-3
 returns-3 c =
-    let a = c .before .before .before .before .before .before .before .args in
+    let a = c .before .before .before .before .before .before .before .before .args in
     sets-lacks (a .kind) (a .n) (a .i) (a .v .now) (a .state .now) (sym (c .before .before .before .before .right-length .ensures) ∙ c .before .before .before .if1 .taken) (found-not (a .kind) (a .n) (a .i) (length (a .state .now)) (c .before .before .find .ensures) (c .enum-told .given .1))
 
--- src/lib.rt:254:1
 returns-4 : tie.Need-returns-4
-returns-4 c = let a = c .before .before .before .before .args in sets-length (a .kind) (a .n) (a .i) (a .v .now) (a .state .now) (sym (c .before .right-length .ensures) ∙ c .if1 .left)
+returns-4 c = let a = c .before .before .before .before .before .args in sets-length (a .kind) (a .n) (a .i) (a .v .now) (a .state .now) (sym (c .before .right-length .ensures) ∙ c .if1 .left)
 
 pub set-spec : {M : Type 1} → statement M
 set-spec =
@@ -58,7 +48,10 @@ set-spec =
     store-at-requires
     (λ c. search needs)
     returns
+    (λ c. search needs)
     returns-2
     (λ c. search needs)
+    (λ c. search needs)
     returns-3
+    (λ c. search needs)
     returns-4)

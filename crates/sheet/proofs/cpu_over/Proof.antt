@@ -1,32 +1,28 @@
 use mathlib.Core.Path.{sym, _∙_}
-use Rattle.sheet.proofs.Answers.{cpu-between, over-stored, over-apart, over-length}
+use Rattle.sheet.proofs.Answers.{cpu-wide, over-stored, over-apart, over-length}
 use borrow.Author.Needs.{needs}
 use Rattle.sheet.proofs.cpu_over.Statement.{statement}
 use Rattle.sheet.proofs.cpu_over.Tie as tie
-use Rattle.sheet.proofs.cpu_over.Reads as reads
-use Rattle.sheet.proofs.cpu_over.Lts as lts
-use Rattle.fields.proofs.right_length.Reads as right-length-reads
-use Rattle.sheet.proofs.agrees.Reads as agrees-reads
-use Rattle.sheet.proofs.store_cpu.Reads as store-cpu-reads
 
--- src/lib.rt:665:8
--- src/lib.rt:666:12
--- src/lib.rt:667:13
 store-cpu-requires : tie.Need-store-cpu-requires
-store-cpu-requires c κs = let g = cpu-between _ (sym (c .before .before .before .before .right-length .ensures) ∙ c .before .before .before .if1 .taken) in (g .least, g .most)
+store-cpu-requires c κs = cpu-wide (c .before .before .before .before .before .before .before .args .state .now) (sym (c .before .before .before .before .right-length .ensures) ∙ c .before .before .before .if1 .taken)
 
--- src/lib.rt:667:13
--- src/lib.rt:667:13
 returns : tie.Need-returns
-returns c = let a = c .before .before .before .before .before .before .before .before .before .args in let e = c .before .before .store-cpu .ensures in over-stored (a .sheet) (a .state .now) (sym (c .before .before .before .before .before .before .before .right-length .ensures) ∙ c .before .before .before .before .before .before .if1 .taken) (sym (c .before .before .before .before .before .agrees .ensures) ∙ c .before .before .before .before .if2 .taken) (e .0) (e .1)
+returns c =
+    let m = c .before .before .before .before .before in
+    let k = m .before .before in
+    let a = k .before .before .before .args in
+    over-stored (a .sheet) (a .state .now) (sym (k .right-length .ensures) ∙ m .before .if1 .taken) (sym (m .agrees .ensures) ∙ c .before .before .before .before .if2 .taken) (c .before .before .store-cpu .ensures)
 
--- src/lib.rt:669:9
 returns-2 : tie.Need-returns-2
-returns-2 c = let a = c .before .before .before .before .before .args in over-apart (a .sheet) (a .state .now) (sym (c .before .before .before .right-length .ensures) ∙ c .before .before .if1 .taken) (sym (c .before .agrees .ensures) ∙ c .if2 .left)
+returns-2 c =
+    let m = c .before in
+    let k = m .before .before in
+    let a = k .before .before .before .args in
+    over-apart (a .sheet) (a .state .now) (sym (k .right-length .ensures) ∙ m .before .if1 .taken) (sym (m .agrees .ensures) ∙ c .if2 .left)
 
--- src/lib.rt:662:1
 returns-3 : tie.Need-returns-3
-returns-3 c = let a = c .before .before .before .args in over-length (a .sheet) (a .state .now) (sym (c .before .right-length .ensures) ∙ c .if1 .left)
+returns-3 c = let k = c .before in let a = k .before .before .before .args in over-length (a .sheet) (a .state .now) (sym (k .right-length .ensures) ∙ c .if1 .left)
 
 pub cpu-over-spec : {M : Type 1} → statement M
 cpu-over-spec =
@@ -37,5 +33,7 @@ cpu-over-spec =
     store-cpu-requires
     (λ c. search needs)
     returns
+    (λ c. search needs)
     returns-2
+    (λ c. search needs)
     returns-3)
