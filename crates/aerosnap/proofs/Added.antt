@@ -2,28 +2,27 @@
 -- Assumes nothing.
 use mathlib.Core.Path.{_≡_, refl, sym, _∙_, ap}
 use mathlib.Core.Logic.{_≢_, _↔_}
-use mathlib.Core.Bool.{not}
-use mathlib.Core.List.{List, _∷_, _++_, map, List·Permᴰ, List·Permᴰ·trans, Permᴰ·map, Permᴰ·middle, Permᴰ·append-left, Permᴰ·append-right}
+use mathlib.Core.Bool.{Bool, true, false, not, cond}
+use mathlib.Core.List.{List, [], _∷_, _++_, map, List·Permᴰ, List·Permᴰ·trans, Permᴰ·map, Permᴰ·middle, Permᴰ·append-left, Permᴰ·append-right}
 use Prim.Native.Nat.{ℕ, suc, _+_, _-_, _*_, _≤_}
 use native.Mathlib.Omega.{arith}
-use lib.ListN.{length}
+use lib.ListN.{length, length-append}
 use borrow.Author.Tests.{leb-true, le-leb, not-true}
 use Rattle.answer.specs.Outcome.{taken, Pass, after, fitting}
 use Rattle.answer.proofs.Checks.{checked-pass, pass-checked, append-pass, pass-append}
 use Rattle.answer.proofs.Outcomes.{taken-is, after-taken}
 use Rattle.format.specs.Format.{Is}
-use Rattle.order.specs.Keyed.{Fresh, weigh, present, insert}
+use Rattle.order.specs.Keyed.{Fresh, weigh, insert}
 use Rattle.order.specs.Adding.{AddLaws}
-use Rattle.order.proofs.Folds.{present-min}
 use Rattle.order.proofs.Keys.{has-fresh, fresh-has}
-use Rattle.order.proofs.Inserts.{insert-perm, insert-comm, weigh-insert, length-insert, present-insert, every-insert, insert-every, asc-insert}
+use Rattle.order.proofs.Inserts.{insert-perm, insert-comm, weigh-insert, length-insert, every-insert, insert-every, asc-insert}
 use Rattle.order.proofs.Files.{Files}
 use Rattle.entries.specs.Kinds.{Description, devices, disks}
 use Rattle.lists.specs.Lists.{listBytes}
 use Rattle.lists.proofs.Written.{length-list}
-use Rattle.aerosnap.specs.Content.{Content, secs, render, contentAt}
-use Rattle.aerosnap.specs.Adding.{Item, device, disk, Wide, entryOf, kindOf, listIn, withItem, ownChecks, there, addChecks, addTo, addItem, Call}
-use Rattle.aerosnap.proofs.Canon.{countOf, sizeOf, FitsIn, Sorted, Canon, length-secs, length-render}
+use Rattle.aerosnap.specs.Content.{isAbsent, Content, secs, render, contentAt}
+use Rattle.aerosnap.specs.Adding.{Item, device, disk, Wide, entryOf, kindOf, listIn, tailFor, withItem, ownChecks, there, addChecks, addTo, addItem, Call}
+use Rattle.aerosnap.proofs.Canon.{shown, countOf, sizeOf, FitsIn, Sorted, Canon, length-secs, length-render}
 use Rattle.aerosnap.proofs.Back.{read-back}
 use Rattle.aerosnap.proofs.Canonical.{fits-taken, taken-fits}
 use Rattle.aerosnap.proofs.Items.{entry-is, deviceFrom, diskFrom, item-back}
@@ -110,27 +109,35 @@ held-put (disk a x y) c (w, o, _) =
 
 -- one entry more in a list
 module _ (d : Description) (e : List ℕ) (l : List (List ℕ)) where
-  list-up : (length (insert (d .key) e l) ≡ suc (length l)) × (weigh length (insert (d .key) e l) ≡ length e + weigh length l) × (present (insert (d .key) e l) ≡ 1) × (present l ≤ 1)
-  list-up = (length-insert (d .key) e l, weigh-insert (d .key) length e l, present-insert (d .key) e l, omega (arith, present-min l))
+  list-up : (t : List ℕ) → (length (insert (d .key) e l) ≡ suc (length l)) × (weigh length (insert (d .key) e l) ≡ length e + weigh length l) × (shown (insert (d .key) e l) t ≡ 1) × (shown l t ≤ 1)
+  list-up t = (length-insert (d .key) e l, weigh-insert (d .key) length e l, one (insert (d .key) e l) (length-insert (d .key) e l), most (isAbsent l t))
+    where
+      one : (m : List (List ℕ)) → length m ≡ suc (length l) → shown m t ≡ 1
+      one [] h = absurd (omega arith)
+      one (y ∷ m) h = refl
 
--- what an item adds: an entry, its bytes, and a section where its list was empty
+      most : (b : Bool) → cond b 0 1 ≤ 1
+      most true = omega arith
+      most false = omega arith
+
+-- what an item adds: an entry, its bytes, and a section where there was none for its list
 pub record Grows (x : Item) (c : Content) : Type 0 where
   pub count : length (listIn x (withItem x c)) ≡ suc (length (listIn x c))
-  pub sections-are : length (secs (withItem x c)) ≡ length (secs c) + (1 - present (listIn x c))
-  pub size : length (render (withItem x c)) ≡ length (render c) + length (entryOf x) + 20 * (1 - present (listIn x c))
+  pub sections-are : length (secs (withItem x c)) ≡ length (secs c) + (1 - shown (listIn x c) (tailFor x c))
+  pub size : length (render (withItem x c)) ≡ length (render c) + length (entryOf x) + 20 * (1 - shown (listIn x c) (tailFor x c))
   pub more-devices : length (c .devices) ≤ length (withItem x c .devices)
   pub more-disks : length (c .disks) ≤ length (withItem x c .disks)
-  pub longer-devices : length (listBytes (c .devices)) ≤ length (listBytes (withItem x c .devices))
+  pub longer-devices : length (listBytes (c .devices) ++ c .deviceTail) ≤ length (listBytes (withItem x c .devices) ++ withItem x c .deviceTail)
 
 numbers : (x : Item) (c : Content)
     → (length (listIn x (withItem x c)) ≡ suc (length (listIn x c)))
-    × (countOf (withItem x c) ≡ countOf c + (1 - present (listIn x c)))
-    × (sizeOf (withItem x c) ≡ sizeOf c + length (entryOf x) + 20 * (1 - present (listIn x c)))
+    × (countOf (withItem x c) ≡ countOf c + (1 - shown (listIn x c) (tailFor x c)))
+    × (sizeOf (withItem x c) ≡ sizeOf c + length (entryOf x) + 20 * (1 - shown (listIn x c) (tailFor x c)))
     × (length (c .devices) ≤ length (withItem x c .devices))
     × (length (c .disks) ≤ length (withItem x c .disks))
-    × (weigh length (c .devices) ≤ weigh length (withItem x c .devices))
-numbers (device a v f p) c = let (i, j, k, m) = list-up devices (entryOf (device a v f p)) (c .devices) in (i, omega arith, omega arith, omega arith, omega arith, omega arith)
-numbers (disk a x y) c = let (i, j, k, m) = list-up disks (entryOf (disk a x y)) (c .disks) in (i, omega arith, omega arith, omega arith, omega arith, omega arith)
+    × (weigh length (c .devices) + length (c .deviceTail) ≤ weigh length (withItem x c .devices) + length (withItem x c .deviceTail))
+numbers (device a v f p) c = let (i, j, k, m) = list-up devices (entryOf (device a v f p)) (c .devices) (c .deviceTail) in (i, omega arith, omega arith, omega arith, omega arith, omega arith)
+numbers (disk a x y) c = let (i, j, k, m) = list-up disks (entryOf (disk a x y)) (c .disks) (c .diskTail) in (i, omega arith, omega arith, omega arith, omega arith, omega arith)
 
 pub grows : (x : Item) (c : Content) → Grows x c
 grows x c =
@@ -142,7 +149,7 @@ grows x c =
       size = omega (arith, length-render c, length-render u);
       more-devices = l;
       more-disks = m;
-      longer-devices = omega (arith, length-list (c .devices), length-list (u .devices));
+      longer-devices = omega (arith, length-append (listBytes (c .devices)) (c .deviceTail), length-append (listBytes (u .devices)) (u .deviceTail), length-list (c .devices), length-list (u .devices));
     }
 
 size-up : (x : Item) (c : Content) → length (render c) ≤ length (render (withItem x c))

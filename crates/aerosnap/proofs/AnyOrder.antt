@@ -63,6 +63,11 @@ puts-disks c [] = refl
 puts-disks c (device id v f p ∷ l) = puts-disks (withItem (device id v f p) c) l
 puts-disks c (disk id x y ∷ l) = puts-disks (withItem (disk id x y) c) l
 
+puts-tails : (c : Content) (l : List Item) → (puts withItem c l .deviceTail ≡ c .deviceTail) × (puts withItem c l .diskTail ≡ c .diskTail)
+puts-tails c [] = (refl, refl)
+puts-tails c (device id v f p ∷ l) = puts-tails (withItem (device id v f p) c) l
+puts-tails c (disk id x y ∷ l) = puts-tails (withItem (disk id x y) c) l
+
 puts-rest : (c : Content) (l : List Item) → puts withItem c l .rest ≡ c .rest
 puts-rest c [] = refl
 puts-rest c (device id v f p ∷ l) = puts-rest (withItem (device id v f p) c) l
@@ -76,8 +81,9 @@ pub puts-grown : (c : Content) (l : List Item) → Canon c → Canon (puts withI
 puts-grown c l h k =
     let d = one-by-one (devices .key) (c .devices) (deviceEntries l) (puts withItem c l .devices) (puts-devices c l) (h .devices-sorted .asc) (k .devices-sorted .asc) in
     let e = one-by-one (disks .key) (c .disks) (diskEntries l) (puts withItem c l .disks) (puts-disks c l) (h .disks-sorted .asc) (k .disks-sorted .asc) in
+    let t = puts-tails c l in
     let r = puts-rest c l in
-    λ i. record { devices = d i; disks = e i; rest = r i }
+    λ i. record { devices = d i; disks = e i; deviceTail = t .0 i; diskTail = t .1 i; rest = r i }
 
 -- the file at the end of a chain of calls
 pub record Ends (s : List ℕ) (l : List Item) (b : List ℕ) : Type 0 where

@@ -2,13 +2,13 @@
 -- Assumes nothing.
 use mathlib.Core.Path.{_≡_, refl, _∙_, ap, subst}
 use mathlib.Core.List.{List, [], _∷_, _++_, append-nil, Permᴰ·symm}
-use mathlib.Core.Bool.{true, not, _&&_}
+use mathlib.Core.Bool.{Bool, true, false, not, _&&_, cond}
 use Prim.Native.Nat.{ℕ, _+_, _*_, _≤_}
 use native.Mathlib.Omega.{arith}
 use lib.ListN.{length, drop, length-append, length-drop}
 use lib.Dec.{eqb}
 use Rattle.format.specs.Format.{Is}
-use Rattle.order.specs.Keyed.{Every, Apart, Asc, Up, flat, keep, sort, weigh, present}
+use Rattle.order.specs.Keyed.{Every, Apart, Asc, Up, flat, keep, sort, weigh}
 use Rattle.order.specs.Entries.{join}
 use Rattle.order.proofs.Folds.{every-all, every-imp, every-flat, weigh-append}
 use Rattle.order.proofs.Perms.{perm-length, perm-weigh, every-perm}
@@ -18,52 +18,66 @@ use Rattle.order.proofs.Entries.{length-join}
 use Rattle.entries.specs.Kinds.{Description, devices, disks}
 use Rattle.entries.specs.declared.Kind.the-variants.{Devices, Disks}
 use Rattle.entries.proofs.Lawful.{Lawful, lawful}
-use Rattle.lists.specs.Lists.{entries, listBytes}
+use Rattle.lists.specs.Lists.{entries, tailOf, listBytes}
 use Rattle.lists.proofs.Written.{Good, good-sort, length-list}
 use Rattle.aerosnap.specs.Known.{DEVICES, DISKS}
 use Rattle.aerosnap.specs.Payloads.{list, bodyOf}
 use Rattle.aerosnap.specs.File.{fileMost, sectionsMost, devicesMost, header, idOf, versionOf}
 use Rattle.aerosnap.specs.Rules.{IsFile}
-use Rattle.aerosnap.specs.Content.{listed, tidy, rank, isOther, entriesIn, Content, contentOf, writtenSections, secs, render}
+use Rattle.aerosnap.specs.Content.{framed, isAbsent, listed, tidy, rank, isOther, entriesIn, tailIn, Content, contentOf, writtenSections, secs, render}
 use Rattle.aerosnap.proofs.Slots.{Once, once-perm}
 use Rattle.aerosnap.proofs.Framed.{length-framed}
-use Rattle.aerosnap.proofs.Written.{Tidy, Tidied, gone, kept, lists-of}
+use Rattle.aerosnap.proofs.Written.{Tidy, Tidied, gone, kept, absent-none, lists-of}
 use Rattle.aerosnap.proofs.Ranks.{of-only, of-tidied, ids-flat, once-flat, Only, absent, found, only-one, valid-tidied, secs-tidy}
 
--- ---- how many sections and bytes a content has: an empty list has neither
+-- ---- how many sections and bytes a content has: a list that counts as absent has neither
+
+-- 1 if the section of a list is written
+abbrev pub shown : List (List ℕ) → List ℕ → ℕ
+shown l t = cond (isAbsent l t) 0 1
+
+-- the bytes of that section
+abbrev pub weight : List (List ℕ) → List ℕ → ℕ
+weight l t = 20 * shown l t + (weigh length l + length t)
 
 abbrev pub countOf : Content → ℕ
-countOf c = present (c .devices) + present (c .disks) + length (c .rest)
+countOf c = shown (c .devices) (c .deviceTail) + shown (c .disks) (c .diskTail) + length (c .rest)
 
 abbrev pub sizeOf : Content → ℕ
-sizeOf c = 16 + (20 * present (c .devices) + weigh length (c .devices)) + (20 * present (c .disks) + weigh length (c .disks)) + weigh length (c .rest)
+sizeOf c = 16 + weight (c .devices) (c .deviceTail) + weight (c .disks) (c .diskTail) + weigh length (c .rest)
 
-length-listed : (id v : ℕ) (l : List (List ℕ)) → length (listed id v l) ≡ present l
-length-listed id v [] = refl
-length-listed id v (x ∷ l) = refl
+length-listed : (id v : ℕ) (l : List (List ℕ)) (t : List ℕ) → length (listed id v l t) ≡ shown l t
+length-listed id v l t = go (isAbsent l t)
+  where
+    go : (b : Bool) → length (cond b [] (framed id v 0 (listBytes l ++ t) ∷ [])) ≡ cond b 0 1
+    go true = refl
+    go false = refl
 
-weigh-listed : (id v : ℕ) (l : List (List ℕ)) → weigh length (listed id v l) ≡ 20 * present l + weigh length l
-weigh-listed id v [] = refl
-weigh-listed id v (x ∷ l) = omega (arith, length-framed id v 0 (listBytes (x ∷ l)), length-list (x ∷ l))
+weigh-listed : (id v : ℕ) (l : List (List ℕ)) (t : List ℕ) → weigh length (listed id v l t) ≡ weight l t
+weigh-listed id v l t = go (isAbsent l t) refl
+  where
+    go : (b : Bool) → isAbsent l t ≡ b → weigh length (cond b [] (framed id v 0 (listBytes l ++ t) ∷ [])) ≡ 20 * cond b 0 1 + (weigh length l + length t)
+    go true h = let e = absent-none l t h in omega (arith, ap (weigh length) (e .0), ap length (e .1))
+    go false h = omega (arith, length-framed id v 0 (listBytes l ++ t), length-append (listBytes l) t, length-list l)
 
 pub length-secs : (c : Content) → length (secs c) ≡ countOf c
 length-secs c =
-    let a : List (List ℕ) = listed DEVICES 1 (c .devices) in
-    let b : List (List ℕ) = listed DISKS 1 (c .disks) in
-    omega (arith, perm-length (sort-perm rank (writtenSections c)), length-append a (b ++ c .rest), length-append b (c .rest), length-listed DEVICES 1 (c .devices), length-listed DISKS 1 (c .disks))
+    let a : List (List ℕ) = listed DEVICES 1 (c .devices) (c .deviceTail) in
+    let b : List (List ℕ) = listed DISKS 1 (c .disks) (c .diskTail) in
+    omega (arith, perm-length (sort-perm rank (writtenSections c)), length-append a (b ++ c .rest), length-append b (c .rest), length-listed DEVICES 1 (c .devices) (c .deviceTail), length-listed DISKS 1 (c .disks) (c .diskTail))
 
 pub length-render : (c : Content) → length (render c) ≡ sizeOf c
 length-render c =
-    let a : List (List ℕ) = listed DEVICES 1 (c .devices) in
-    let b : List (List ℕ) = listed DISKS 1 (c .disks) in
+    let a : List (List ℕ) = listed DEVICES 1 (c .devices) (c .deviceTail) in
+    let b : List (List ℕ) = listed DISKS 1 (c .disks) (c .diskTail) in
     omega (
       arith,
       length-join (secs c),
       perm-weigh length (sort-perm rank (writtenSections c)),
       weigh-append length a (b ++ c .rest),
       weigh-append length b (c .rest),
-      weigh-listed DEVICES 1 (c .devices),
-      weigh-listed DISKS 1 (c .disks),
+      weigh-listed DEVICES 1 (c .devices) (c .deviceTail),
+      weigh-listed DISKS 1 (c .disks) (c .diskTail),
     )
 
 -- ---- a content in order
@@ -72,7 +86,7 @@ length-render c =
 pub record FitsIn (c : Content) : Type 0 where
   pub many-devices : length (c .devices) ≤ devices .most
   pub many-disks : length (c .disks) ≤ disks .most
-  pub long-devices : length (listBytes (c .devices)) ≤ devicesMost
+  pub long-devices : length (listBytes (c .devices) ++ c .deviceTail) ≤ devicesMost
   pub many : length (secs c) ≤ sectionsMost
   pub long : length (render c) ≤ fileMost
 
@@ -92,19 +106,19 @@ pub record Canon (c : Content) : Type 0 where
 
 -- ---- what is read of a file is in order
 
--- the entries of the one section of a list
-record Held (i : ℕ) (d : Description) (es : List (List ℕ)) : Type 0 where
+-- the entries and the tail of the one section of a list
+record Held (i : ℕ) (d : Description) (es : List (List ℕ)) (t : List ℕ) : Type 0 where
   good : Good d es
-  small : i ≡ DEVICES → 4 + weigh length es ≤ devicesMost
+  small : i ≡ DEVICES → 4 + weigh length es + length t ≤ devicesMost
 
-held : (i : ℕ) (d : Description) → ((v : ℕ) → bodyOf i v ≡ list d) → Lawful d → {m : List (List ℕ)} → Only i m → Held i d (flat (λ e. entries d (drop 16 e)) m)
+held : (i : ℕ) (d : Description) → ((v : ℕ) → bodyOf i v ≡ list d) → Lawful d → {m : List (List ℕ)} → Only i m → Held i d (flat (λ e. entries d (drop 16 e)) m) (flat (λ e. tailOf d (drop 16 e)) m)
 held i d q K absent = record { good = record { are = tt; apart = tt; few = omega arith }; small = λ _. omega arith }
 held i d q K (found {e} s w) =
     let b : bodyOf (idOf e) (versionOf e) ≡ list d = rw w (q (versionOf e)) in
     let u = lists-of e b K s in
-    rw append-nil (record { good = u .good; small = λ z. omega (arith, u .small (w ∙ z), u .size, length-drop 16 e) })
+    rw (append-nil, append-nil) (record { good = u .good; small = λ z. omega (arith, u .small (w ∙ z), u .size, length-drop 16 e) })
 
-sorted : {i : ℕ} {d : Description} {es : List (List ℕ)} → Held i d es → Sorted d (sort (d .key) es)
+sorted : {i : ℕ} {d : Description} {es : List (List ℕ)} {t : List ℕ} → Held i d es t → Sorted d (sort (d .key) es)
 sorted {d = d} {es = es} h = record { asc = sort-asc (d .key) es (h .good .apart); are = good-sort d es (h .good) .are }
 
 -- no more sections and bytes are written than were read
@@ -143,8 +157,8 @@ Neither i = (not (eqb i DEVICES) && not (eqb i DISKS)) ≡ true
 
 pub canon-of : (l : List (List ℕ)) → IsFile l → Canon (contentOf l)
 canon-of l v =
-    let d : Held DEVICES devices (entriesIn DEVICES devices l) = held DEVICES devices (λ v. refl) (lawful Devices) (only-one DEVICES refl l (v .are) (v .once)) in
-    let k : Held DISKS disks (entriesIn DISKS disks l) = held DISKS disks (λ v. refl) (lawful Disks) (only-one DISKS refl l (v .are) (v .once)) in
+    let d : Held DEVICES devices (entriesIn DEVICES devices l) (tailIn DEVICES devices l) = held DEVICES devices (λ v. refl) (lawful Devices) (only-one DEVICES refl l (v .are) (v .once)) in
+    let k : Held DISKS disks (entriesIn DISKS disks l) (tailIn DISKS disks l) = held DISKS disks (λ v. refl) (lawful Disks) (only-one DISKS refl l (v .are) (v .once)) in
     let t : Every (λ e. Tidied e (tidy e)) (keep isOther l) = every-keep isOther _ l (every-imp (λ e h _. h) l (valid-tidied l v)) in
     let o = every-imp (λ e. of-tidied) (keep isOther l) t in
     let r : List (List ℕ) = flat tidy (keep isOther l) in
@@ -154,7 +168,7 @@ canon-of l v =
       fits = record {
         many-devices = good-sort devices _ (d .good) .few;
         many-disks = good-sort disks _ (k .good) .few;
-        long-devices = omega (arith, length-list (contentOf l .devices), perm-weigh length (sort-perm (devices .key) (entriesIn DEVICES devices l)), d .small refl);
+        long-devices = omega (arith, length-append (listBytes (contentOf l .devices)) (contentOf l .deviceTail), length-list (contentOf l .devices), perm-weigh length (sort-perm (devices .key) (entriesIn DEVICES devices l)), d .small refl);
         many = omega (arith, f .0, v .few);
         long = omega (arith, f .1, v .short);
       };

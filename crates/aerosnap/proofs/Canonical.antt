@@ -16,7 +16,7 @@ use Rattle.entries.specs.Kinds.{devices, disks}
 use Rattle.aerosnap.specs.Known.{DEVICES, DISKS}
 use Rattle.aerosnap.specs.File.{fileOf}
 use Rattle.aerosnap.specs.Rules.{IsFile}
-use Rattle.aerosnap.specs.Content.{tidy, isOther, entriesIn, Content, contentOf, render, contentAt, canonical}
+use Rattle.aerosnap.specs.Content.{tidy, isOther, entriesIn, tailIn, Content, contentOf, render, contentAt, canonical}
 use Rattle.aerosnap.proofs.Taken.{file-sound}
 use Rattle.aerosnap.proofs.Canon.{Canon, canon-of, secs-fewer, entries-apart}
 use Rattle.aerosnap.proofs.Back.{read-back}
@@ -75,9 +75,9 @@ same-canonical have s t e = ap (λ r. after r (λ c. fitting have (render c))) e
 pub same-content : (have : ℕ) (s t b : List ℕ) → canonical have s ≡ taken b → canonical have t ≡ taken b → contentAt s ≡ contentAt t
 same-content have s t b h k = sym (canonical-is have s b h .same) ∙ canonical-is have t b k .same
 
--- Savers that hand over the same devices and the same disks in other orders save the same content.
+-- Savers that hand over the same devices and the same disks in other orders, and the same behind them, save the same content.
 pub any-saver : (l m : List (List ℕ)) → IsFile l → List·Permᴰ (entriesIn DEVICES devices l) (entriesIn DEVICES devices m) → List·Permᴰ (entriesIn DISKS disks l) (entriesIn DISKS disks m)
-    → flat tidy (keep isOther l) ≡ flat tidy (keep isOther m) → contentOf l ≡ contentOf m
-any-saver l m v p q r =
+    → tailIn DEVICES devices l ≡ tailIn DEVICES devices m → tailIn DISKS disks l ≡ tailIn DISKS disks m → flat tidy (keep isOther l) ≡ flat tidy (keep isOther m) → contentOf l ≡ contentOf m
+any-saver l m v p q t u r =
     let a = entries-apart l v in
     cc (sort-unique (devices .key) p (a .0), sort-unique (disks .key) q (a .1))

@@ -48,14 +48,19 @@ pub record Cases : Type 0 where
   pub meta-cut : seen (section META 1 (zeros 8 ++ (1 ∷ zeros 7)) ∷ []) ≡ refused SHAPE 41
   pub meta-text : seen (section META 1 (meta ++ (1 ∷ (bytesOf 4 1 ++ (255 ∷ [])))) ∷ []) ≡ refused TEXT 54
   pub meta-long : seen (section META 1 (meta ++ (1 ∷ bytesOf 4 4097)) ∷ []) ≡ refused LIMIT 50
-  pub meta-over : seen (section META 1 (meta ++ (0 ∷ 7 ∷ [])) ∷ []) ≡ refused SHAPE 50
+  pub meta-tail : seen (section META 1 (meta ++ (0 ∷ 7 ∷ [])) ∷ []) ≡ taken 1
   pub cpu-short : seen (section CPU 1 (zeros 411) ∷ []) ≡ refused SHAPE 32
   pub cpu-mode : seen (section CPU 2 (set (zeros 1183) 144 4) ∷ []) ≡ refused VALUE 176
   pub cpu-fine : seen (section CPU 2 (set (zeros 1191) 1183 4) ∷ section MMU 2 (zeros 264) ∷ []) ≡ taken 2
   pub cpu-extension : seen (section CPU 2 (zeros 1191) ∷ []) ≡ refused VALUE 1215
+  -- a longer state has 1187 bytes and as many as its extension's length says
+  pub cpu-longer : seen (section CPU 2 (set (zeros 1200) 1183 13) ∷ []) ≡ taken 1
+  pub cpu-shorter : seen (section CPU 2 (set (zeros 1200) 1183 12) ∷ []) ≡ refused SHAPE 32
+  pub cpus-longer : seen (section CPUS 2 (bytesOf 4 1 ++ cpu 9 (set (zeros 1200) 1183 12)) ∷ []) ≡ refused SHAPE 40
   pub cpus-fine : seen (section CPUS 2 (bytesOf 4 1 ++ cpu 9 (zeros 1183)) ∷ section MMUS 1 (bytesOf 4 1 ++ (bytesOf 4 9 ++ zeros 68)) ∷ []) ≡ taken 2
   pub cpus-length : seen (section CPUS 1 (bytesOf 4 1 ++ cpu 9 (zeros 413)) ∷ []) ≡ refused SHAPE 40
   pub cpus-value : seen (section CPUS 2 (bytesOf 4 1 ++ cpu 9 (set (zeros 1183) 260 8)) ∷ []) ≡ refused VALUE 304
+  pub mmu-over : seen (section MMU 1 (zeros 69) ∷ []) ≡ refused SHAPE 32
   pub mmus-cut : seen (section MMUS 1 (bytesOf 4 1 ++ (bytesOf 4 9 ++ zeros 67)) ∷ []) ≡ refused SHAPE 36
   pub twice : seen (section CPU 1 (zeros 412) ∷ section CPUS 1 (bytesOf 4 0) ∷ []) ≡ refused TWICE 444
   pub version : seen (section DEVICES 2 [] ∷ []) ≡ refused SECVER 20
@@ -70,6 +75,10 @@ pub record Cases : Type 0 where
       ≡ taken (of (section META 1 (meta ++ (0 ∷ [])) ∷ section RAM 1 (2 ∷ []) ∷ section 9 5 (1 ∷ []) ∷ section 0 1 [] ∷ []))
   pub keys : canonical 500 (of (section DEVICES 1 (bytesOf 4 3 ++ (framed 256 1 0 [] ++ (framed 1 2 0 [] ++ framed 1 1 7 []))) ∷ []))
       ≡ taken (of (section DEVICES 1 (bytesOf 4 3 ++ (framed 1 1 7 [] ++ (framed 1 2 0 [] ++ framed 256 1 0 []))) ∷ []))
+  -- a tail stays behind the entries; a list with no entries but a tail is written, its version too
+  pub tails : canonical 500 (of (section DEVICES 1 (bytesOf 4 2 ++ (framed 2 1 0 [] ++ (framed 1 1 0 [] ++ (7 ∷ 8 ∷ [])))) ∷ section CPUS 2 (bytesOf 4 0 ++ (9 ∷ [])) ∷ section MMUS 1 (bytesOf 4 0) ∷ []))
+      ≡ taken (of (section DEVICES 1 (bytesOf 4 2 ++ (framed 1 1 0 [] ++ (framed 2 1 0 [] ++ (7 ∷ 8 ∷ [])))) ∷ section CPUS 2 (bytesOf 4 0 ++ (9 ∷ [])) ∷ []))
+  pub add-tail : addItem 500 (of (section DEVICES 1 (bytesOf 4 0 ++ (7 ∷ 8 ∷ [])) ∷ [])) (device 1 1 0 (5 ∷ [])) ≡ taken (of (section DEVICES 1 (bytesOf 4 1 ++ (framed 1 1 0 (5 ∷ []) ++ (7 ∷ 8 ∷ []))) ∷ []))
   pub room : canonical 15 header ≡ refused ROOM 16
   pub add-disk : addItem 100 header (disk 7 (97 ∷ []) []) ≡ taken (of (section DISKS 1 (bytesOf 4 1 ++ (bytesOf 4 7 ++ (bytesOf 4 1 ++ (97 ∷ bytesOf 4 0)))) ∷ []))
   pub add-text : addItem 100 header (disk 7 (97 ∷ []) (192 ∷ 128 ∷ [])) ≡ refused TEXT 0
@@ -89,14 +98,18 @@ cases = record {
   meta-cut = refl;
   meta-text = refl;
   meta-long = refl;
-  meta-over = refl;
+  meta-tail = refl;
   cpu-short = refl;
   cpu-mode = refl;
   cpu-fine = refl;
   cpu-extension = refl;
+  cpu-longer = refl;
+  cpu-shorter = refl;
+  cpus-longer = refl;
   cpus-fine = refl;
   cpus-length = refl;
   cpus-value = refl;
+  mmu-over = refl;
   mmus-cut = refl;
   twice = refl;
   version = refl;
@@ -109,6 +122,8 @@ cases = record {
   many-cut = refl;
   order = refl;
   keys = refl;
+  tails = refl;
+  add-tail = refl;
   room = refl;
   add-disk = refl;
   add-text = refl;

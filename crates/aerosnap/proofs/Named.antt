@@ -15,7 +15,7 @@ use Rattle.answer.specs.declared.Answer.{Answer}
 use Rattle.answer.proofs.Table.{fault-some}
 use Rattle.wire.specs.Numbers.{leAt}
 use Rattle.utf8.specs.Scan.{isText, breakAt}
-use Rattle.format.specs.Format.{Format, block, sized, option, pair, read, sizedChecks, optionChecks, values, text}
+use Rattle.format.specs.Format.{Format, block, sized, option, pair, also, read, sizedChecks, optionChecks, values, text}
 use Rattle.order.specs.Keyed.{Every, insert, has}
 use Rattle.order.proofs.Folds.{every-append}
 use Rattle.entries.specs.States.{cpuSized, extends, cpuValues, cpuState, heldChecks, mmuLength}
@@ -58,6 +58,7 @@ FormFaults (block n ask) = (e : List ℕ) → Faulty (ask e)
 FormFaults (sized w checks ask) = ((n : ℕ) → Numbered (checks n)) × ((e : List ℕ) → Faulty (ask e))
 FormFaults (option f) = FormFaults f
 FormFaults (pair f g) = FormFaults f × FormFaults g
+FormFaults (also f ask) = FormFaults f × ((e : List ℕ) → Faulty (ask e))
 
 read-faulty : (f : Format) (b : List ℕ) → FormFaults f → Faulty (read f b)
 unfolding read
@@ -73,6 +74,8 @@ read-faulty (option f) b h =
     go true k = tt
     go false k = shift-faulty 1 (read f (drop 1 b)) k
 read-faulty (pair f g) b h = after-faulty (read f b) (λ k. shift k (read g (drop k b))) (read-faulty f b (h .0)) (λ k. shift-faulty k (read g (drop k b)) (read-faulty g (drop k b) (h .1)))
+read-faulty (also f ask) b h =
+    after-faulty (read f b) (λ k. after (ask (take k b)) (λ _. taken k)) (read-faulty f b (h .0)) (λ k. after-faulty (ask (take k b)) (λ _. taken k) (h .1 (take k b)) (λ _. tt))
 
 values-faulty : (l : List (ℕ × ℕ × ℕ × ℕ)) (e : List ℕ) → Faulty (values l e)
 unfolding values

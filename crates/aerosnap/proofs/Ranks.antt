@@ -16,7 +16,7 @@ use Rattle.order.proofs.Keeps.{only, keep-append, keep-none, every-keep, ofKey,
 use Rattle.order.proofs.Sorts.{sort-perm, sort-up, sort-stable, up-ext, flat-sort}
 use Rattle.order.proofs.Entries.{length-join}
 use Rattle.entries.specs.Kinds.{Description, devices, disks}
-use Rattle.lists.specs.Lists.{entries}
+use Rattle.lists.specs.Lists.{entries, tailOf}
 use Rattle.aerosnap.specs.Known.{DEVICES, DISKS, known, takes, slot}
 use Rattle.aerosnap.specs.Payloads.{Body, list, bodyOf}
 use Rattle.aerosnap.specs.File.{fileMost, idOf, versionOf, slotOf}
@@ -185,13 +185,13 @@ module _ (i : ℕ) (d : Description) (q : (v : ℕ) → bodyOf i v ≡ list d) w
   version-one e s w k o = o (versionOf e) (rw w at (s .rules (rw w k) .version))
 
   pub only-tidy : known i ≡ true → ((v : ℕ) → takes i v ≡ true → v ≡ 1) → {m : List (List ℕ)} → Only i m
-      → listed i 1 (sort (d .key) (flat (λ e. entries d (drop 16 e)) m)) ≡ flat tidy m
+      → listed i 1 (sort (d .key) (flat (λ e. entries d (drop 16 e)) m)) (flat (λ e. tailOf d (drop 16 e)) m) ≡ flat tidy m
   only-tidy k o absent = refl
   only-tidy k o (found {e} s w) =
       let b : bodyOf (idOf e) (versionOf e) ≡ list d = rw w (q (versionOf e)) in
       let v : versionOf e ≡ 1 = version-one e s w k o in
-      let t : tidy e ≡ listed i 1 (sort (d .key) (entries d (drop 16 e))) = ap (λ (k : Body). tidied k e) b ∙ rw (w, v) in
-      rw (append-nil, append-nil) (sym t)
+      let t : tidy e ≡ listed i 1 (sort (d .key) (entries d (drop 16 e))) (tailOf d (drop 16 e)) = ap (λ (k : Body). tidied k e) b ∙ rw (w, v) in
+      rw (append-nil, append-nil, append-nil) (sym t)
 
 -- DEVICES and DISKS have version 1
 pub one-version : (i : ℕ) → (eqb i 2 || eqb i 3 || eqb i 7 || eqb i 8) ≡ false → (v : ℕ) → takes i v ≡ true → v ≡ 1
@@ -234,10 +234,10 @@ secs-tidy l v =
     c : List (List ℕ)
     c = flat tidy (keep isOther l)
 
-    x : listed DEVICES 1 (contentOf l .devices) ≡ a
+    x : listed DEVICES 1 (contentOf l .devices) (contentOf l .deviceTail) ≡ a
     x = only-tidy DEVICES devices (λ v. refl) refl (one-version DEVICES refl) (only-one DEVICES refl l (v .are) (v .once))
 
-    y : listed DISKS 1 (contentOf l .disks) ≡ b
+    y : listed DISKS 1 (contentOf l .disks) (contentOf l .diskTail) ≡ b
     y = only-tidy DISKS disks (λ v. refl) refl (one-version DISKS refl) (only-one DISKS refl l (v .are) (v .once))
 
     w : writtenSections (contentOf l) ≡ (a ++ b) ++ sort rank c

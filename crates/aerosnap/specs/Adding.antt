@@ -48,10 +48,15 @@ abbrev pub listIn : Item → Content → List (List ℕ)
 listIn (device id v f p) c = c .devices
 listIn (disk id x y) c = c .disks
 
--- the content with one entry more
+-- and what follows them
+abbrev pub tailFor : Item → Content → List ℕ
+tailFor (device id v f p) c = c .deviceTail
+tailFor (disk id x y) c = c .diskTail
+
+-- the content with one entry more; what follows the list stays
 abbrev pub withItem : Item → Content → Content
-withItem (device id v f p) c = record { devices = insert (devices .key) (framed id v f p) (c .devices); disks = c .disks; rest = c .rest }
-withItem (disk id x y) c = record { devices = c .devices; disks = insert (disks .key) (entryOf (disk id x y)) (c .disks); rest = c .rest }
+withItem (device id v f p) c = record { devices = insert (devices .key) (framed id v f p) (c .devices); disks = c .disks; deviceTail = c .deviceTail; diskTail = c .diskTail; rest = c .rest }
+withItem (disk id x y) c = record { devices = c .devices; disks = insert (disks .key) (entryOf (disk id x y)) (c .disks); deviceTail = c .deviceTail; diskTail = c .diskTail; rest = c .rest }
 
 -- what is asked of the item alone: its lengths, then its texts
 abbrev pub ownChecks : Item → Checks
@@ -67,7 +72,7 @@ abbrev pub addChecks : Item → Content → Content → Checks
 addChecks x c u =
     (not (there x c), HAVE, 0)
     ∷ (leb (length (listIn x u)) (kindOf x .most), LIMIT, 0)
-    ∷ (leb (length (listBytes (u .devices))) devicesMost, LIMIT, 0)
+    ∷ (leb (length (listBytes (u .devices) ++ u .deviceTail)) devicesMost, LIMIT, 0)
     ∷ (leb (length (secs u)) sectionsMost, MANY, 0)
     ∷ (leb (length (render u)) fileMost, SIZE, 0)
     ∷ []
@@ -101,5 +106,7 @@ abbrev pub grown : Content → List Item → Content
 grown c l = record {
   devices = sort (devices .key) (deviceEntries l ++ c .devices);
   disks = sort (disks .key) (diskEntries l ++ c .disks);
+  deviceTail = c .deviceTail;
+  diskTail = c .diskTail;
   rest = c .rest;
 }

@@ -2,7 +2,7 @@
 -- Assumes nothing.
 use mathlib.Core.Path.{_≡_, refl, ap}
 use mathlib.Core.List.{List, [], _∷_, _++_, append-assoc}
-use Prim.Native.Nat.{ℕ, _+_, _-_, _≤_, zero-le}
+use Prim.Native.Nat.{ℕ, _+_, _-_, _≤_, _<_, zero-le}
 use native.Mathlib.Omega.{arith}
 use lib.ListN.{length, take, drop, length-drop}
 use lib.Seq.{length-take-le}
@@ -27,6 +27,8 @@ use Rattle.entries.specs.Code.{describe}
 use Rattle.entries.proofs.States.{held-within}
 
 pub record Lawful (d : Description) : Type 0 where
+  -- an entry has bytes
+  pub some : 0 < d .fixed
   -- the fixed part lies in the entry
   pub wide : (e : List ℕ) → Is (d .form) e → d .fixed ≤ length e
   -- the key lies in the fixed part
@@ -53,6 +55,7 @@ id-named e rest h = leAt-append 4 e rest 0 h
 
 devices-lawful : Lawful devices
 devices-lawful = record {
+  some = omega arith;
   wide = λ e h. least-le (devices .form) e h;
   named = λ e rest h. rw (leAt-append 4 e rest 0 (omega arith), leAt-append 2 e rest 4 (omega arith), leAt-append 2 e rest 6 (omega arith));
   passes = λ e rest h. tt;
@@ -63,6 +66,7 @@ devices-lawful = record {
 
 disks-lawful : Lawful disks
 disks-lawful = record {
+  some = omega arith;
   wide = λ e h. omega (arith, least-le (disks .form) e h);
   named = id-named;
   passes = λ e rest h. tt;
@@ -73,6 +77,7 @@ disks-lawful = record {
 
 cpus-lawful : (v : ℕ) → Lawful (cpus v)
 cpus-lawful v = record {
+  some = omega arith;
   wide = λ e h. omega (arith, least-le (cpus v .form) e h);
   named = λ e rest h. id-named e rest (omega arith);
   passes = λ e rest h. tt;
@@ -83,6 +88,7 @@ cpus-lawful v = record {
 
 mmus-lawful : (v : ℕ) → Lawful (mmus v)
 mmus-lawful v = record {
+  some = omega arith;
   wide = λ e h. omega (arith, h .0);
   named = λ e rest h. id-named e rest (omega arith);
   passes = λ e rest h. tt;
@@ -104,6 +110,7 @@ head-place s at {e} h k =
 
 controllers-lawful : Lawful controllers
 controllers-lawful = record {
+  some = omega arith;
   wide = λ e h. least-le (controllers .form) e h;
   named = λ e rest h. leAt-append 2 e rest 0 (omega arith);
   passes = passes;

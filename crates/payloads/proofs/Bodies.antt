@@ -7,16 +7,16 @@ use mathlib.Core.List.{List, [], _∷_}
 use Prim.Native.Nat.{ℕ, _≤_, _<_}
 use native.Mathlib.Omega.{arith}
 use lib.ListN.{length}
-use borrow.Author.Tests.{le-leb, lt-leb, eq-eqb, ne-eqb}
+use borrow.Author.Tests.{le-leb, eq-eqb, ne-eqb}
 use Rattle.answer.specs.declared.Piece.{Piece}
 use Rattle.answer.specs.Numbers.{SHAPE, SIZE}
 use Rattle.answer.specs.Outcome.{Outcome, taken, refused, checked, after, done}
-use Rattle.answer.specs.Calls.{asked, pieceOf}
+use Rattle.answer.specs.Calls.{pieceOf}
 use Rattle.format.specs.Places.{readAt}
 use Rattle.format.proofs.Placed.{at-zero}
 use Rattle.entries.specs.States.{mmuLength}
 use Rattle.entries.specs.Kinds.{Description}
-use Rattle.lists.specs.Lists.{leftOver, listAt, partChecks, whole, indexOf}
+use Rattle.lists.specs.Lists.{listAt, partChecks, whole, indexOf}
 use Rattle.lists.specs.Promises.{Indexed}
 use Rattle.lists.proofs.Exits.{part-long, part-fine}
 use Rattle.aerosnap.specs.Payloads.{metaForm, Body, meta, mmu, list, opaque, bodyOf, payload}
@@ -25,21 +25,15 @@ use Rattle.payloads.specs.Starts.{starts, keptOf}
 -- ---- META
 
 module _ (p : List ℕ) where
-  abbrev then : Outcome ℕ → Outcome (Unit {0})
-  then r = after r (λ e. asked (leftOver p e))
-
-  by-fields : {r : Outcome ℕ} → r ≡ readAt metaForm p 0 → then r ≡ payload meta p
+  by-fields : {r : Outcome ℕ} → r ≡ readAt metaForm p 0 → done r ≡ payload meta p
   unfolding payload
-  by-fields h = ap then (h ∙ at-zero metaForm p)
+  by-fields h = ap done (h ∙ at-zero metaForm p)
 
   pub meta-stop : {a b : ℕ} → refused a b ≡ readAt metaForm p 0 → refused a b ≡ payload meta p
   meta-stop h = by-fields h
 
-  pub meta-left : (e : ℕ) → taken e ≡ readAt metaForm p 0 → e < length p → refused SHAPE e ≡ payload meta p
-  meta-left e h k = sym (ap (λ (b : Bool). checked ((b, SHAPE, e) ∷ []) (taken tt)) (lt-leb (length p) e k)) ∙ by-fields h
-
-  pub meta-done : (e : ℕ) → taken e ≡ readAt metaForm p 0 → length p ≤ e → taken tt ≡ payload meta p
-  meta-done e h k = sym (ap (λ (b : Bool). checked ((b, SHAPE, e) ∷ []) (taken tt)) (le-leb (length p) e k)) ∙ by-fields h
+  pub meta-done : {e : ℕ} → taken e ≡ readAt metaForm p 0 → taken tt ≡ payload meta p
+  meta-done h = by-fields h
 
 -- ---- MMU
 
