@@ -7,7 +7,7 @@ use mathlib.Core.Logic.{_≢_}
 use Prim.Native.Nat.{ℕ, _+_, _-_, _≤_}
 use native.Mathlib.Omega.{arith}
 use lib.ListN.{length, take, drop, length-drop, take-append-drop}
-use lib.Seq.{take-add, length-take-le, getD-drop}
+use lib.Seq.{take-add, length-take-le, getD-drop, drop-drop}
 use lib.Dec.{eqb}
 use borrow.Author.Tests.{eq-eqb, ne-eqb, eqb-true}
 use Rattle.answer.specs.Outcome.{taken}
@@ -15,14 +15,14 @@ use Rattle.wire.specs.Numbers.{Bytes, leAt, bytesOf}
 use Rattle.wire.specs.Parts.{put, Wrote}
 use Rattle.wire.proofs.Numbers.{bytesOf-leAt}
 use Rattle.wire.proofs.Parts.{none, wrote-put, tail-whole}
-use Rattle.wire.proofs.Filling.{Filling, filling-room, filling-done}
+use Rattle.wire.proofs.Filling.{Filling, filling-sum, filling-long, filling-next-room, filling-next}
 use Rattle.order.specs.Keyed.{sort}
 use Rattle.order.specs.Entries.{join}
 use Rattle.entries.specs.Kinds.{Description}
 use Rattle.entries.specs.declared.Kind.{Kind}
 use Rattle.entries.specs.Code.{describe}
 use Rattle.entries.proofs.Lawful.{Lawful, lawful}
-use Rattle.lists.specs.Lists.{entries}
+use Rattle.lists.specs.Lists.{entries, tailOf}
 use Rattle.lists.proofs.Ordered.{list-order}
 use Rattle.writer.specs.Writer.{sortedBytes}
 use Rattle.writer.specs.Runs.{entryBy, fits, inOrder}
@@ -30,7 +30,7 @@ use Rattle.writer.specs.Steps.{run, Listed}
 use Rattle.writer.proofs.Fits.{wrote-first}
 use Rattle.writer.proofs.Runs.{by-all, run-wrote}
 use Rattle.writer.proofs.Straight.{straight-bytes}
-use Rattle.writer.proofs.Whole.{sorted-is}
+use Rattle.writer.proofs.Whole.{sorted-is, sorted-sum, tail-at}
 use Rattle.aerosnap.specs.Payloads.{Body, list, bodyOf}
 use Rattle.aerosnap.specs.File.{idOf, versionOf}
 use Rattle.aerosnap.proofs.Written.{isEmptyBy, isEmpty, tidy-size}
@@ -40,15 +40,20 @@ use Rattle.sections.proofs.Kept.{listed-id}
 use Rattle.sections.proofs.Reading.{body-list, starts-list, starts-long}
 use Rattle.canon.specs.Steps.{bytesFor, WholeSection}
 
+-- ---- the last part of what is filled, put in its place
+
+pub filling-put : {all old rest : List ℕ} {t : ℕ} {new last : List ℕ} → Filling all old rest t new → last ≡ put t rest new → Wrote all old last (t + length rest)
+filling-put {rest = rest} v e = rw (v .whole) (wrote-put (v .wrote) rest (omega (arith, filling-sum v, filling-long v, v .room)) e)
+
 -- ---- which sections are lists
 
-empty-list : (id v : ℕ) (e : List ℕ) → isListId id ≡ true → isEmptyBy (bodyOf id v) e ≡ eqb (leAt 4 e 16) 0
+empty-list : (id v : ℕ) (e : List ℕ) → isListId id ≡ true → isEmptyBy (bodyOf id v) e ≡ eqb (length e) 20
 empty-list id v e h = go (eqb id 4) refl (eqb id 5) refl (eqb id 7) refl (eqb id 8) refl h
   where
-    is : (n : ℕ) → eqb id n ≡ true → isEmptyBy (bodyOf n v) e ≡ eqb (leAt 4 e 16) 0 → isEmptyBy (bodyOf id v) e ≡ eqb (leAt 4 e 16) 0
+    is : (n : ℕ) → eqb id n ≡ true → isEmptyBy (bodyOf n v) e ≡ eqb (length e) 20 → isEmptyBy (bodyOf id v) e ≡ eqb (length e) 20
     is n q r = ap (λ (i : ℕ). isEmptyBy (bodyOf i v) e) (eqb-true id n q) ∙ r
 
-    go : (a : Bool) → eqb id 4 ≡ a → (b : Bool) → eqb id 5 ≡ b → (c : Bool) → eqb id 7 ≡ c → (d : Bool) → eqb id 8 ≡ d → (a || b || c || d) ≡ true → isEmptyBy (bodyOf id v) e ≡ eqb (leAt 4 e 16) 0
+    go : (a : Bool) → eqb id 4 ≡ a → (b : Bool) → eqb id 5 ≡ b → (c : Bool) → eqb id 7 ≡ c → (d : Bool) → eqb id 8 ≡ d → (a || b || c || d) ≡ true → isEmptyBy (bodyOf id v) e ≡ eqb (length e) 20
     go true p b q c r d s h = is 4 p refl
     go false p true q c r d s h = is 5 q refl
     go false p false q true r d s h = is 7 r refl
@@ -60,7 +65,7 @@ empty-list id v e h = go (eqb id 4) refl (eqb id 5) refl (eqb id 7) refl (eqb id
 pub size-plain : (e : List ℕ) {id : ℕ} → id ≡ idOf e → isListId id ≡ false → length e ≡ length (bytesFor e)
 size-plain e {id} i h = sym (ap length (plain-written e (listed-id (idOf e) (versionOf e) ∙ rw i at h)))
 
-pub size-list : (e : List ℕ) → WholeSection e → {id : ℕ} → id ≡ idOf e → isListId id ≡ true → length (bytesFor e) ≡ cond (eqb (leAt 4 e 16) 0) 0 (length e)
+pub size-list : (e : List ℕ) → WholeSection e → {id : ℕ} → id ≡ idOf e → isListId id ≡ true → length (bytesFor e) ≡ cond (eqb (length e) 20) 0 (length e)
 size-list e w i h = tidy-size e (w .is) ∙ ap (λ (b : Bool). cond b 0 (length e)) (empty-list (idOf e) (versionOf e) e (rw i at h))
 
 -- ---- other sections
@@ -95,56 +100,72 @@ module _ {k : Kind} {e old l : List ℕ} (v : ListPiece k e old l) where
   count : length l ≡ leAt 4 e 16
   count = ap length (v .starts) ∙ starts-long e (v .whole .is) (v .form)
 
-  pub list-none : length l ≡ 0 → Wrote (bytesFor e) old old 0
-  list-none z = rw (list-written e (v .form) K (v .whole .is) (v .bytes), eq-eqb (leAt 4 e 16) 0 (sym count ∙ z)) (none old)
+  pub list-none : length e ≡ 20 → Wrote (bytesFor e) old old 0
+  list-none z = rw (list-written e (v .form) K (v .whole .is) (v .bytes), eq-eqb (length e) 20 z) (none old)
 
   pub list-long : 20 ≤ length e
   list-long = omega (arith, body-list e (v .whole .is) (v .form) .count, length-drop 16 e)
 
-  listed : Listed d (drop 16 e) l
+  abbrev p : List ℕ
+  p = drop 16 e
+
+  listed : Listed d p l
   listed = record { short = omega (arith, v .whole .small, length-drop 16 e); list = starts-list e (v .whole .is) (v .form) ∙ ap taken (sym (v .starts)) }
 
-  module _ (z : length l ≢ 0) where
-    bytes-are : bytesFor e ≡ take 20 e ++ run d (drop 16 e) l
+  module _ (z : length e ≢ 20) where
+    bytes-are : bytesFor e ≡ take 20 e ++ (run d p l ++ tailOf d p)
     bytes-are =
         list-written e (v .form) K (v .whole .is) (v .bytes)
-        ∙ ap (λ (t : Bool). cond t [] (take 20 e ++ join (sort (d .key) (entries d (drop 16 e))))) (ne-eqb (leAt 4 e 16) 0 (λ y. z (count ∙ y)))
-        ∙ ap (λ (m : List (List ℕ)). take 20 e ++ join m) (sym (list-order K (drop 16 e) (listed .list)))
+        ∙ ap (λ (t : Bool). cond t [] (take 20 e ++ (join (sort (d .key) (entries d p)) ++ tailOf d p))) (ne-eqb (length e) 20 z)
+        ∙ ap (λ (m : List (List ℕ)). take 20 e ++ (join m ++ tailOf d p)) (sym (list-order K p (listed .list)))
 
     all-long : length (bytesFor e) ≡ length e
-    all-long = tidy-size e (v .whole .is) ∙ ap (λ (t : Bool). cond t 0 (length e)) (is-empty ∙ ne-eqb (leAt 4 e 16) 0 (λ y. z (count ∙ y)))
+    all-long = tidy-size e (v .whole .is) ∙ ap (λ (t : Bool). cond t 0 (length e)) (is-empty ∙ ne-eqb (length e) 20 z)
       where
-        is-empty : isEmpty e ≡ eqb (leAt 4 e 16) 0
+        is-empty : isEmpty e ≡ eqb (length e) 20
         is-empty = ap (λ (f : Body). isEmptyBy f e) (v .form)
 
     -- in the order of its keys, as it stands
     pub list-straight : true ≡ inOrder l → {new : List ℕ} → new ≡ put 0 e old → Wrote (bytesFor e) old new (length e)
-    list-straight o p =
-        let c : sortedBytes d (drop 16 e) ≡ drop 16 e = straight-bytes K listed (sym o) (λ j. rw (getD-drop 16 e j 0) (v .bytes (16 + j))) in
+    list-straight o q =
+        let c : sortedBytes d p ≡ p = straight-bytes K listed (sym o) (λ j. rw (getD-drop 16 e j 0) (v .bytes (16 + j))) in
         let s : bytesFor e ≡ e = bytes-are ∙ head-and-run ∙ ap (λ (t : List ℕ). take 16 e ++ t) c ∙ take-append-drop 16 e in
         let n : length (bytesFor e) ≡ length e = all-long in
-        rw s (wrote-first (omega (arith, v .room)) p)
+        rw s (wrote-first (omega (arith, v .room)) q)
       where
-        -- the count and the run are the list in the order of its keys
-        head-and-run : take 20 e ++ run d (drop 16 e) l ≡ take 16 e ++ sortedBytes d (drop 16 e)
+        -- the count, the run and the tail are the list in the order of its keys
+        head-and-run : take 20 e ++ (run d p l ++ tailOf d p) ≡ take 16 e ++ sortedBytes d p
         head-and-run =
-            let c : bytesOf 4 (length l) ≡ take 4 (drop 16 e) = ap (bytesOf 4) count ∙ bytesOf-leAt 4 e 16 (v .bytes) (omega (arith, list-long)) in
-            ap (λ (t : List ℕ). t ++ run d (drop 16 e) l) (take-add 16 4 e)
-            ∙ append-assoc (take 16 e) (take 4 (drop 16 e)) (run d (drop 16 e) l)
-            ∙ ap (λ (t : List ℕ). take 16 e ++ (t ++ run d (drop 16 e) l)) (sym c)
-            ∙ ap (λ (t : List ℕ). take 16 e ++ t) (sym (sorted-is K listed))
+            let c : bytesOf 4 (length l) ≡ take 4 p = ap (bytesOf 4) count ∙ bytesOf-leAt 4 e 16 (v .bytes) (omega (arith, list-long)) in
+            ap (λ (t : List ℕ). t ++ (run d p l ++ tailOf d p)) (take-add 16 4 e)
+            ∙ append-assoc (take 16 e) (take 4 p) (run d p l ++ tailOf d p)
+            ∙ ap (λ (t : List ℕ). take 16 e ++ (t ++ (run d p l ++ tailOf d p))) (sym c)
+            ∙ ap (λ (t : List ℕ). take 16 e ++ t) (sym (append-assoc (bytesOf 4 (length l)) (run d p l) (tailOf d p)) ∙ sym (sorted-is K listed))
 
     -- in another order, entry by entry behind its header and its count
-    module _ {o : List ℕ} (p : o ≡ put 0 (take 20 e) old) where
-      pub list-head : Filling (bytesFor e) old (run d (drop 16 e) l) 20 o
+    module _ {o : List ℕ} (q : o ≡ put 0 (take 20 e) old) where
+      pub list-head : Filling (bytesFor e) old (run d p l ++ tailOf d p) 20 o
       list-head =
           let n : length (take 20 e) ≡ 20 = length-take-le 20 e list-long in
-          let f = wrote-first {bs = take 20 e} (omega (arith, all-long, list-long, v .room)) p in
+          let f = wrote-first {bs = take 20 e} (omega (arith, all-long, list-long, v .room)) q in
           record { part = take 20 e; whole = bytes-are; room = v .room; wrote = record { count = sym n; bytes = f .bytes } }
 
-      module _ {last : List ℕ} {n : ℕ} (x : Wrote (join (fits (length (take (length o - 20) (drop 20 o))) (map (entryBy d (take (length e - 16) (drop 16 e))) l))) (take (length o - 20) (drop 20 o)) last n) where
-        pub list-wrote : Wrote (bytesFor e) old (take 20 o ++ (last ++ drop (length o - 20) (drop 20 o))) (20 + n)
-        list-wrote = filling-done list-head (run-wrote d (drop 16 e) l (by-all K listed) (filling-room list-head) (rw (tail-whole 16 e) at x))
+      module _ {last : List ℕ} {n : ℕ} (x : Wrote (join (fits (length (take (length o - 20) (drop 20 o))) (map (entryBy d (take (length e - 16) p)) l))) (take (length o - 20) (drop 20 o)) last n) where
+        run-is : Wrote (run d p l) (take (length o - 20) (drop 20 o)) last n
+        run-is = run-wrote d p l (by-all K listed) (filling-next-room (run d p l) (tailOf d p) list-head) (rw (tail-whole 16 e) at x)
 
-        pub list-end : 20 + n ≡ length e
-        list-end = omega (arith, list-wrote .count, all-long)
+        -- the tail begins where the entries end
+        pub list-end : 20 + n + length (tailOf d p) ≡ length e
+        list-end = omega (arith, run-is .count, sorted-sum K listed, length-drop 16 e, list-long)
+
+        tail-is : take (length e - (20 + n)) (drop (20 + n) e) ≡ tailOf d p
+        tail-is =
+            let m : length e - (20 + n) ≡ length p - (4 + n) = omega (arith, length-drop 16 e) in
+            let i : 20 + n ≡ 16 + (4 + n) = omega arith in
+            ap (λ (k : ℕ). take k (drop (20 + n) e)) m ∙ ap (λ (k : ℕ). take (length p - (4 + n)) (drop k e)) i ∙ ap (take (length p - (4 + n))) (sym (drop-drop (4 + n) 16 e)) ∙ tail-at K listed (run-is .count)
+
+        pub list-wrote : {new : List ℕ} → new ≡ put (20 + n) (take (length e - (20 + n)) (drop (20 + n) e)) (take 20 o ++ (last ++ drop (length o - 20) (drop 20 o))) → Wrote (bytesFor e) old new (length e)
+        list-wrote {new} y =
+            let f = filling-next (run d p l) (tailOf d p) list-head run-is in
+            let a = filling-put f (y ∙ ap (λ (b : List ℕ). put (20 + n) b (take 20 o ++ (last ++ drop (length o - 20) (drop 20 o)))) tail-is) in
+            record { count = sym all-long; bytes = a .bytes }
