@@ -8,9 +8,9 @@ use Prim.Native.Nat.{ℕ, suc, _+_, _-_, _*_, _≤_}
 use native.Mathlib.Omega.{arith}
 use lib.ListN.{length, length-append}
 use borrow.Author.Tests.{leb-true, le-leb, not-true}
-use Rattle.answer.specs.Outcome.{taken, Pass, after, fitting}
-use Rattle.answer.proofs.Checks.{checked-pass, pass-checked, append-pass, pass-append}
-use Rattle.answer.proofs.Outcomes.{taken-is, after-taken}
+use Rattle.answer.specs.Outcome.{taken, Pass}
+use Rattle.answer.proofs.Checks.{append-pass, pass-append}
+use Rattle.answer.proofs.Outcomes.{taken-is}
 use Rattle.format.specs.Format.{Is}
 use Rattle.order.specs.Keyed.{Fresh, weigh, insert}
 use Rattle.order.specs.Adding.{AddLaws}
@@ -20,11 +20,12 @@ use Rattle.order.proofs.Files.{Files}
 use Rattle.entries.specs.Kinds.{Description, devices, disks}
 use Rattle.lists.specs.Lists.{listBytes}
 use Rattle.lists.proofs.Written.{length-list}
-use Rattle.aerosnap.specs.Content.{isAbsent, Content, secs, render, contentAt}
-use Rattle.aerosnap.specs.Adding.{Item, device, disk, Wide, entryOf, kindOf, listIn, tailFor, withItem, ownChecks, there, addChecks, addTo, addItem, Call}
-use Rattle.aerosnap.proofs.Canon.{shown, countOf, sizeOf, FitsIn, Sorted, Canon, length-secs, length-render}
+use Rattle.aerosnap.specs.Content.{isAbsent, Content, tailAt, secs, render, contentAt}
+use Rattle.aerosnap.specs.Adding.{Item, device, disk, nameOf, sideOf, Wide, entryOf, kindOf, listIn, withItem, ownChecks, there, addChecks}
+use Rattle.aerosnap.specs.Edits.{add, addItem, Call}
+use Rattle.aerosnap.proofs.Canon.{presence, countOf, sizeOf, FitsIn, Sorted, Canon, length-secs, length-render}
 use Rattle.aerosnap.proofs.Back.{read-back}
-use Rattle.aerosnap.proofs.Canonical.{fits-taken, taken-fits}
+use Rattle.aerosnap.proofs.Passing.{EditPassed, edit-exactly}
 use Rattle.aerosnap.proofs.Items.{entry-is, deviceFrom, diskFrom, item-back}
 
 -- ---- when an add is taken
@@ -35,25 +36,17 @@ pub record Passed (have : ℕ) (x : Item) (c : Content) : Type 0 where
   pub others : Pass (addChecks x c (withItem x c))
   pub room-is : length (render (withItem x c)) ≤ have
 
-pub add-exactly-to : (have : ℕ) (c : Content) (x : Item) (b : List ℕ) → (addTo have c x ≡ taken b) ↔ (Passed have x c × (render (withItem x c) ≡ b))
-unfolding addTo
-add-exactly-to have c x b = (
-  λ h.
-      let p = checked-pass (ownChecks x ++ addChecks x c (withItem x c)) (fitting have (render (withItem x c))) b h in
-      let q = append-pass (ownChecks x) (addChecks x c (withItem x c)) (p .0) in
-      let r = fits-taken have (render (withItem x c)) (p .1) in
-      (record { own = q .0; others = q .1; room-is = r .0 }, r .1),
-  λ (p, e).
-      pass-checked (ownChecks x ++ addChecks x c (withItem x c)) (fitting have (render (withItem x c))) (pass-append (ownChecks x) (addChecks x c (withItem x c)) (p .own) (p .others))
-      ∙ taken-fits have (render (withItem x c)) (p .room-is) ∙ ap taken e,
-)
+passed-edit : {have : ℕ} {x : Item} {c : Content} → EditPassed have (add x) c → Passed have x c
+passed-edit {x = x} {c} p = let q = append-pass (ownChecks x) (addChecks x c (withItem x c)) (p .rows) in record { own = q .0; others = q .1; room-is = p .room-is }
+
+edit-passed : {have : ℕ} {x : Item} {c : Content} → Passed have x c → EditPassed have (add x) c
+edit-passed {x = x} {c} p = record { rows = pass-append (ownChecks x) (addChecks x c (withItem x c)) (p .own) (p .others); room-is = p .room-is }
 
 -- An add to a file is taken exactly if the file is and none of the add's checks fails; its bytes are then the canonical bytes of the old content and the entry.
 pub add-exactly : (have : ℕ) (s : List ℕ) (x : Item) (b : List ℕ) → (addItem have s x ≡ taken b) ↔ ((c : Content) × (contentAt s ≡ taken c) × Passed have x c × (render (withItem x c) ≡ b))
-unfolding addItem
 add-exactly have s x b = (
-  λ h. let p = after-taken (contentAt s) (λ c. addTo have c x) h in let q = add-exactly-to have (p .0) x b .0 (p .2) in (p .0, p .1, q .0, q .1),
-  λ (c, e, p, q). ap (λ r. after r (λ c. addTo have c x)) e ∙ add-exactly-to have c x b .1 (p, q),
+  λ h. let (c, e, p, q) = edit-exactly have s (add x) b .0 h in (c, e, passed-edit p, q),
+  λ (c, e, p, q). edit-exactly have s (add x) b .1 (c, e, edit-passed p, q),
 )
 
 -- ---- a content with one entry more
@@ -109,10 +102,10 @@ held-put (disk a x y) c (w, o, _) =
 
 -- one entry more in a list
 module _ (d : Description) (e : List ℕ) (l : List (List ℕ)) where
-  list-up : (t : List ℕ) → (length (insert (d .key) e l) ≡ suc (length l)) × (weigh length (insert (d .key) e l) ≡ length e + weigh length l) × (shown (insert (d .key) e l) t ≡ 1) × (shown l t ≤ 1)
+  list-up : (t : List ℕ) → (length (insert (d .key) e l) ≡ suc (length l)) × (weigh length (insert (d .key) e l) ≡ length e + weigh length l) × (presence (insert (d .key) e l) t ≡ 1) × (presence l t ≤ 1)
   list-up t = (length-insert (d .key) e l, weigh-insert (d .key) length e l, one (insert (d .key) e l) (length-insert (d .key) e l), most (isAbsent l t))
     where
-      one : (m : List (List ℕ)) → length m ≡ suc (length l) → shown m t ≡ 1
+      one : (m : List (List ℕ)) → length m ≡ suc (length l) → presence m t ≡ 1
       one [] h = absurd (omega arith)
       one (y ∷ m) h = refl
 
@@ -123,16 +116,16 @@ module _ (d : Description) (e : List ℕ) (l : List (List ℕ)) where
 -- what an item adds: an entry, its bytes, and a section where there was none for its list
 pub record Grows (x : Item) (c : Content) : Type 0 where
   pub count : length (listIn x (withItem x c)) ≡ suc (length (listIn x c))
-  pub sections-are : length (secs (withItem x c)) ≡ length (secs c) + (1 - shown (listIn x c) (tailFor x c))
-  pub size : length (render (withItem x c)) ≡ length (render c) + length (entryOf x) + 20 * (1 - shown (listIn x c) (tailFor x c))
+  pub sections-are : length (secs (withItem x c)) ≡ length (secs c) + (1 - presence (listIn x c) (tailAt (sideOf (nameOf x)) c))
+  pub size : length (render (withItem x c)) ≡ length (render c) + length (entryOf x) + 20 * (1 - presence (listIn x c) (tailAt (sideOf (nameOf x)) c))
   pub more-devices : length (c .devices) ≤ length (withItem x c .devices)
   pub more-disks : length (c .disks) ≤ length (withItem x c .disks)
   pub longer-devices : length (listBytes (c .devices) ++ c .deviceTail) ≤ length (listBytes (withItem x c .devices) ++ withItem x c .deviceTail)
 
 numbers : (x : Item) (c : Content)
     → (length (listIn x (withItem x c)) ≡ suc (length (listIn x c)))
-    × (countOf (withItem x c) ≡ countOf c + (1 - shown (listIn x c) (tailFor x c)))
-    × (sizeOf (withItem x c) ≡ sizeOf c + length (entryOf x) + 20 * (1 - shown (listIn x c) (tailFor x c)))
+    × (countOf (withItem x c) ≡ countOf c + (1 - presence (listIn x c) (tailAt (sideOf (nameOf x)) c)))
+    × (sizeOf (withItem x c) ≡ sizeOf c + length (entryOf x) + 20 * (1 - presence (listIn x c) (tailAt (sideOf (nameOf x)) c)))
     × (length (c .devices) ≤ length (withItem x c .devices))
     × (length (c .disks) ≤ length (withItem x c .disks))
     × (weigh length (c .devices) + length (c .deviceTail) ≤ weigh length (withItem x c .devices) + length (withItem x c .deviceTail))

@@ -16,12 +16,12 @@ use Rattle.order.proofs.Sorts.{inserts-sort, asc-inserts}
 use Rattle.order.proofs.Files.{any-order-bytes, no-two-sets-bytes, content}
 use Rattle.entries.specs.Kinds.{devices, disks}
 use Rattle.aerosnap.specs.Content.{Content, render, contentAt, IsCanonical}
-use Rattle.aerosnap.specs.Adding.{Item, device, disk, Wide, withItem, addItem, Call, deviceEntries, diskEntries, grown}
+use Rattle.aerosnap.specs.Adding.{Item, device, disk, Wide, withItem, deviceEntries, diskEntries, grown}
+use Rattle.aerosnap.specs.Edits.{addItem, Call}
 use Rattle.aerosnap.proofs.Canon.{Canon}
 use Rattle.aerosnap.proofs.Back.{read-back}
 use Rattle.aerosnap.proofs.Canonical.{content-is, canonical-exactly}
 use Rattle.aerosnap.proofs.Added.{add-exactly, passed-step, canon-put, adds, files, held}
-use Rattle.aerosnap.proofs.Named.{add-named, writes-zero}
 
 -- a canonical file is that of a content in order
 pub canonical-content : (s : List ℕ) → IsCanonical s → (c : Content) × Canon c × (render c ≡ s)
@@ -107,16 +107,3 @@ final s l b o h =
       canonical-is = subst IsCanonical w (render-canonical (puts withItem c (items l)) i);
       holds = rw g at p;
     }
-
--- ---- calls that are made
-
--- A call with lent memory `old` that answered r and left `new`: where its number is 0, the file that it gives is the first `place` bytes.
-pub call-made : (s : List ℕ) (x : Item) (old new : List ℕ) (r : Answer) → Wide x → Writes (addItem (length old) s x) old r new → r .number ≡ 0 → Call (length old) s x (take (r .place) new)
-call-made s x old new r w m z = record { wide = w; accepts = writes-zero (add-named (length old) s x) m z }
-
--- and a call that the definition takes answers so
-pub made-call : (s : List ℕ) (x : Item) (old new : List ℕ) (r : Answer) (b : List ℕ) → Call (length old) s x b → Writes (addItem (length old) s x) old r new → (r .number ≡ 0) × (take (r .place) new ≡ b)
-made-call s x old new r b k m =
-    let i : r ≡ answer (taken b) = m .answers ∙ ap answer (k .accepts) in
-    let j : new ≡ memory (taken b) old = m .leaves ∙ ap (λ (o : Outcome (List ℕ)). memory o old) (k .accepts) in
-    (ap (λ (a : Answer). a .number) i, rw (i, j) (take-append-seam b (drop (length b) old)))

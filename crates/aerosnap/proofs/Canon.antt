@@ -33,20 +33,20 @@ use Rattle.aerosnap.proofs.Ranks.{of-only, of-tidied, ids-flat, once-fl
 -- ---- how many sections and bytes a content has: a list that counts as absent has neither
 
 -- 1 if the section of a list is written
-abbrev pub shown : List (List ℕ) → List ℕ → ℕ
-shown l t = cond (isAbsent l t) 0 1
+abbrev pub presence : List (List ℕ) → List ℕ → ℕ
+presence l t = cond (isAbsent l t) 0 1
 
 -- the bytes of that section
 abbrev pub weight : List (List ℕ) → List ℕ → ℕ
-weight l t = 20 * shown l t + (weigh length l + length t)
+weight l t = 20 * presence l t + (weigh length l + length t)
 
 abbrev pub countOf : Content → ℕ
-countOf c = shown (c .devices) (c .deviceTail) + shown (c .disks) (c .diskTail) + length (c .rest)
+countOf c = presence (c .devices) (c .deviceTail) + presence (c .disks) (c .diskTail) + length (c .rest)
 
 abbrev pub sizeOf : Content → ℕ
 sizeOf c = 16 + weight (c .devices) (c .deviceTail) + weight (c .disks) (c .diskTail) + weigh length (c .rest)
 
-length-listed : (id v : ℕ) (l : List (List ℕ)) (t : List ℕ) → length (listed id v l t) ≡ shown l t
+length-listed : (id v : ℕ) (l : List (List ℕ)) (t : List ℕ) → length (listed id v l t) ≡ presence l t
 length-listed id v l t = go (isAbsent l t)
   where
     go : (b : Bool) → length (cond b [] (framed id v 0 (listBytes l ++ t) ∷ [])) ≡ cond b 0 1

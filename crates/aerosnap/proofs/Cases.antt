@@ -17,7 +17,8 @@ use Rattle.aerosnap.specs.Payloads.{payload}
 use Rattle.aerosnap.specs.File.{header, ruled, sectionOf, sections, fileOf}
 use Rattle.aerosnap.specs.Content.{framed, canonical}
 use Rattle.aerosnap.specs.Tables.{placed, sectionRows, sectionTable, diskTable}
-use Rattle.aerosnap.specs.Adding.{device, disk, addTo, addItem}
+use Rattle.aerosnap.specs.Adding.{device, disk}
+use Rattle.aerosnap.specs.Edits.{addTo, addItem, editFile, editTo}
 
 -- a section with flags 0
 abbrev section : ℕ → ℕ → List ℕ → List ℕ
@@ -91,7 +92,7 @@ pub record Cases : Type 0 where
       ≡ taken (bytesOf 4 9 ++ (bytesOf 2 5 ++ (bytesOf 2 0 ++ (bytesOf 8 32 ++ (bytesOf 8 1 ++ (bytesOf 4 0 ++ (bytesOf 4 0 ++ (bytesOf 4 4 ++ (bytesOf 2 1 ++ (bytesOf 2 0 ++ (bytesOf 8 49 ++ (bytesOf 8 4 ++ (bytesOf 4 1 ++ bytesOf 4 0)))))))))))))
 
 pub cases : Cases
-unfolding leAt le bytesOf insert has leadOf afterOf scanFrom scan isText breakAt read values split entryAt walk listAt payload ruled sectionOf sections fileOf canonical placed sectionRows addTo addItem
+unfolding leAt le bytesOf insert has leadOf afterOf scanFrom scan isText breakAt read values split entryAt walk listAt payload ruled sectionOf sections fileOf canonical placed sectionRows editTo editFile
 cases = record {
   meta-fine = refl;
   meta-flag = refl;

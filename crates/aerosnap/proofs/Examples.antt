@@ -15,7 +15,8 @@ use Rattle.aerosnap.specs.Payloads.{payload}
 use Rattle.aerosnap.specs.File.{header, ruled, sectionOf, sections, fileOf}
 use Rattle.aerosnap.specs.Content.{canonical}
 use Rattle.aerosnap.specs.Tables.{placed, sectionRows, sectionTable, deviceTable, diskTable}
-use Rattle.aerosnap.specs.Adding.{device, addTo, addItem}
+use Rattle.aerosnap.specs.Adding.{device}
+use Rattle.aerosnap.specs.Edits.{addTo, addItem, editFile, editTo}
 
 abbrev u32 : ℕ → List ℕ
 u32 n = n ∷ 0 ∷ 0 ∷ 0 ∷ []
@@ -70,7 +71,7 @@ pub record Examples : Type 0 where
   pub P9-canonical : canonical 16 p9 ≡ taken p1
 
 pub examples : Examples
-unfolding leAt le bytesOf insert has read values split entryAt walk listAt payload ruled sectionOf sections fileOf canonical placed sectionRows addTo addItem
+unfolding leAt le bytesOf insert has read values split entryAt walk listAt payload ruled sectionOf sections fileOf canonical placed sectionRows editTo editFile
 examples = record {
   P1 = refl;
   P1-sections = refl;

@@ -19,7 +19,10 @@ pub mod Copies
 pub mod Rows
 pub mod Records
 pub mod Items
+pub mod Passing
 pub mod Added
 pub mod AnyOrder
+pub mod Edited
+pub mod Made
 pub mod Examples
 pub mod Cases

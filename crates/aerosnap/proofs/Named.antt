@@ -24,8 +24,9 @@ use Rattle.lists.specs.Lists.{keyAt, entryChecks, entryAt, endChecks, walk, cou
 use Rattle.aerosnap.specs.Known.{META, CPU, MMU, DEVICES, DISKS, CPUS, MMUS, known}
 use Rattle.aerosnap.specs.Payloads.{metaForm, Body, meta, cpu, mmu, list, opaque, bodyBy, bodyOf, payload}
 use Rattle.aerosnap.specs.File.{sectionsMost, headerChecks, idOf, versionOf, flagsOf, lengthOf, payloadOf, frameChecks, knownChecks, ruled, sectionOf, sections, fileOf}
-use Rattle.aerosnap.specs.Content.{contentOf, render, contentAt, canonical}
-use Rattle.aerosnap.specs.Adding.{Item, device, disk, withItem, ownChecks, addChecks, addTo, addItem}
+use Rattle.aerosnap.specs.Content.{Content, contentOf, render, contentAt, canonical}
+use Rattle.aerosnap.specs.Adding.{Item, device, disk, ownChecks, addChecks}
+use Rattle.aerosnap.specs.Edits.{Edit, add, remove, replace, apply, editChecks, editTo, editFile}
 use Rattle.aerosnap.proofs.Refusals.{Refuses, checked-refuses, after-refuses, refuses-more}
 
 -- ---- outcomes and checks
@@ -204,12 +205,15 @@ own-numbered : (x : Item) → Every (λ c. Nonzero (c .1)) (ownChecks x)
 own-numbered (device id v f p) = (omega arith, tt)
 own-numbered (disk id x y) = (omega arith, (omega arith, tt))
 
-pub add-named : (have : ℕ) (s : List ℕ) (x : Item) → Named (addItem have s x)
-unfolding addItem addTo
-add-named have s x = after-refuses Nonzero (contentAt s) (λ c. addTo have c x) (content-named s) (λ c.
-    checked-refuses Nonzero (ownChecks x ++ addChecks x c (withItem x c)) (fitting have (render (withItem x c)))
-    (every-append _ (ownChecks x) (addChecks x c (withItem x c)) (own-numbered x) (omega arith, (omega arith, (omega arith, (omega arith, (omega arith, tt))))))
-    (fitting-named have (render (withItem x c))))
+edit-numbered : (e : Edit) (c u : Content) → Every (λ c. Nonzero (c .1)) (editChecks e c u)
+edit-numbered (add x) c u = every-append _ (ownChecks x) (addChecks x c u) (own-numbered x) (omega arith, (omega arith, (omega arith, (omega arith, (omega arith, tt)))))
+edit-numbered (remove n) c u = (omega arith, tt)
+edit-numbered (replace id v f p) c u = (omega arith, (omega arith, (omega arith, (omega arith, tt))))
+
+pub edit-named : (have : ℕ) (s : List ℕ) (e : Edit) → Named (editFile have s e)
+unfolding editFile editTo
+edit-named have s e = after-refuses Nonzero (contentAt s) (λ c. editTo have c e) (content-named s) (λ c.
+    checked-refuses Nonzero (editChecks e c (apply e c)) (fitting have (render (apply e c))) (edit-numbered e c (apply e c)) (fitting-named have (render (apply e c))))
 
 -- ---- what a number says
 

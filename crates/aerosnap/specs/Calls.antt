@@ -6,7 +6,8 @@ use Rattle.answer.specs.Outcome.{Outcome}
 use Rattle.aerosnap.specs.File.{fileOf}
 use Rattle.aerosnap.specs.Content.{canonical}
 use Rattle.aerosnap.specs.Tables.{sectionTable, deviceTable, diskTable}
-use Rattle.aerosnap.specs.Adding.{device, disk, addItem}
+use Rattle.aerosnap.specs.Adding.{device, disk, deviceNamed, diskNamed}
+use Rattle.aerosnap.specs.Edits.{remove, replace, editFile, addItem}
 
 abbrev pub checkCall : List ℕ → Outcome (List (List ℕ))
 checkCall file = fileOf file
@@ -28,3 +29,12 @@ addDeviceCall have file id version flags payload = addItem have file (device id 
 
 abbrev pub addDiskCall : ℕ → List ℕ → ℕ → List ℕ → List ℕ → Outcome (List ℕ)
 addDiskCall have file id base overlay = addItem have file (disk id base overlay)
+
+abbrev pub removeDeviceCall : ℕ → List ℕ → ℕ → ℕ → ℕ → Outcome (List ℕ)
+removeDeviceCall have file id version flags = editFile have file (remove (deviceNamed id version flags))
+
+abbrev pub removeDiskCall : ℕ → List ℕ → ℕ → Outcome (List ℕ)
+removeDiskCall have file id = editFile have file (remove (diskNamed id))
+
+abbrev pub replaceDeviceCall : ℕ → List ℕ → ℕ → ℕ → ℕ → List ℕ → Outcome (List ℕ)
+replaceDeviceCall have file id version flags payload = editFile have file (replace id version flags payload)

@@ -12,6 +12,8 @@ use Rattle.order.specs.Keyed.{flat, keep, sort}
 use Rattle.order.specs.Entries.{join}
 use Rattle.entries.specs.Kinds.{Description, devices, disks}
 use Rattle.lists.specs.Lists.{entries, tailOf, listBytes}
+use Rattle.aerosnap.specs.declared.Side.{Side}
+use Rattle.aerosnap.specs.declared.Side.the-variants.{OfDevices, OfDisks}
 use Rattle.aerosnap.specs.Known.{DEVICES, DISKS, known}
 use Rattle.aerosnap.specs.Payloads.{Body, meta, cpu, mmu, list, opaque, bodyOf}
 use Rattle.aerosnap.specs.File.{header, idOf, versionOf, fileOf}
@@ -67,6 +69,31 @@ pub record Content : Type 0 where
   pub deviceTail : List ℕ
   pub diskTail : List ℕ
   pub rest : List (List ℕ)
+
+-- of the two lists that edits change: what its entries are
+abbrev pub kindAt : Side → Description
+kindAt OfDevices = devices
+kindAt OfDisks = disks
+
+-- the id of its section
+abbrev pub idAt : Side → ℕ
+idAt OfDevices = DEVICES
+idAt OfDisks = DISKS
+
+-- its entries in a content
+abbrev pub entriesAt : Side → Content → List (List ℕ)
+entriesAt OfDevices c = c .devices
+entriesAt OfDisks c = c .disks
+
+-- and what follows them
+abbrev pub tailAt : Side → Content → List ℕ
+tailAt OfDevices c = c .deviceTail
+tailAt OfDisks c = c .diskTail
+
+-- the content with other entries there, what follows them stays: the one place where a content is made of another
+abbrev pub withEntries : Side → List (List ℕ) → Content → Content
+withEntries OfDevices l c = record { devices = l; disks = c .disks; deviceTail = c .deviceTail; diskTail = c .diskTail; rest = c .rest }
+withEntries OfDisks l c = record { devices = c .devices; disks = l; deviceTail = c .deviceTail; diskTail = c .diskTail; rest = c .rest }
 
 -- the content of a file's sections
 abbrev pub contentOf : List (List ℕ) → Content

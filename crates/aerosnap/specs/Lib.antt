@@ -5,4 +5,5 @@ pub mod Rules
 pub mod Content
 pub mod Tables
 pub mod Adding
+pub mod Edits
 pub mod Calls

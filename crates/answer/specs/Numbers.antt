@@ -101,6 +101,14 @@ EMPTY = 23
 abbrev pub RECORD : ℕ
 RECORD = 24
 
+-- What only a removal or a replacement gives, of its request 3.
+
+-- entry to be changed isn't there
+abbrev pub ABSENT : ℕ
+ABSENT = 25
+
+-- And the rings' last.
+
 -- cursors given out of turn
 abbrev pub TURN : ℕ
 TURN = 29
@@ -113,7 +121,7 @@ faults = SHORT ∷ MAGIC ∷ VERSION ∷ ENDIAN ∷ RESERVED ∷ SIZE ∷ CUT �
 
 -- what only a call that writes gives
 abbrev pub ofWriting : List ℕ
-ofWriting = ROOM ∷ HAVE ∷ []
+ofWriting = ROOM ∷ HAVE ∷ ABSENT ∷ []
 
 -- what only a ring gives
 abbrev pub ofRings : List ℕ

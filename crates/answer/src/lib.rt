@@ -54,6 +54,9 @@ pub const EMPTY: u32 = 23;
 
 pub const RECORD: u32 = 24;
 
+// Of a removal or a replacement (request 3).
+pub const ABSENT: u32 = 25;
+
 pub const TURN: u32 = 29;
 
 #[repr(C)]

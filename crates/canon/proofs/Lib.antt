@@ -1,8 +1,11 @@
 pub mod Walks
 pub mod Pieces
 pub mod Order
-pub mod Fronts
-pub mod More
-pub mod Lists
-pub mod Added
+pub mod Changed
+pub mod Sites
+pub mod Entry
+pub mod Landing
+pub mod Judging
+pub mod Writing
+pub mod Uniform
 pub mod Once

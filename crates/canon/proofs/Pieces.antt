@@ -15,7 +15,7 @@ use Rattle.wire.specs.Numbers.{Bytes, leAt, bytesOf}
 use Rattle.wire.specs.Parts.{put, Wrote}
 use Rattle.wire.proofs.Numbers.{bytesOf-leAt}
 use Rattle.wire.proofs.Parts.{none, wrote-put, tail-whole}
-use Rattle.wire.proofs.Filling.{Filling, filling-sum, filling-long, filling-next-room, filling-next}
+use Rattle.wire.proofs.Filling.{Filling, filling-sum, filling-long, filling-next-room, filling-next-fits, filling-next}
 use Rattle.order.specs.Keyed.{sort}
 use Rattle.order.specs.Entries.{join}
 use Rattle.entries.specs.Kinds.{Description}
@@ -40,7 +40,10 @@ use Rattle.sections.proofs.Kept.{listed-id}
 use Rattle.sections.proofs.Reading.{body-list, starts-list, starts-long}
 use Rattle.canon.specs.Steps.{bytesFor, WholeSection}
 
--- ---- the last part of what is filled, put in its place
+-- ---- a part of what is filled, put in its place
+
+pub filling-next-put : {all old : List ℕ} (x rest : List ℕ) {t : ℕ} {new last : List ℕ} → Filling all old (x ++ rest) t new → last ≡ put t x new → Filling all old rest (t + length x) last
+filling-next-put x rest v e = record { part = v .part ++ x; whole = v .whole ∙ sym (append-assoc (v .part) x rest); room = v .room; wrote = wrote-put (v .wrote) x (filling-next-fits x rest v) e }
 
 pub filling-put : {all old rest : List ℕ} {t : ℕ} {new last : List ℕ} → Filling all old rest t new → last ≡ put t rest new → Wrote all old last (t + length rest)
 filling-put {rest = rest} v e = rw (v .whole) (wrote-put (v .wrote) rest (omega (arith, filling-sum v, filling-long v, v .room)) e)

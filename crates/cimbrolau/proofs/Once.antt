@@ -9,7 +9,7 @@ use Rattle.answer.specs.declared.Answer.{Answer}
 use Rattle.answer.specs.Outcome.{Outcome}
 use Rattle.answer.specs.Calls.{asked, verdict, Writes}
 use Rattle.answer.proofs.Once.{equal-once, writes-once}
-use Rattle.aerosnap.specs.Calls.{checkCall, sectionsCall, devicesCall, disksCall, canonicalCall, addDeviceCall, addDiskCall}
+use Rattle.aerosnap.specs.Calls.{checkCall, sectionsCall, devicesCall, disksCall, canonicalCall, addDeviceCall, addDiskCall, removeDeviceCall, removeDiskCall, replaceDeviceCall}
 use Rattle.dskc.specs.Wrapper as wrapped
 use Rattle.messages.specs.Reading.{readMessage, reading}
 use Rattle.numbers.specs.declared.Numbers.{Numbers}
@@ -55,6 +55,15 @@ add-device-once id version flags payload file old r s new now a b = writes-once 
 
 pub add-disk-once : (id : ℕ) (base overlay : List ℕ) → Fills (λ have file. addDiskCall have file id base overlay)
 add-disk-once id base overlay file old r s new now a b = writes-once a b
+
+pub remove-device-once : (id version flags : ℕ) → Fills (λ have file. removeDeviceCall have file id version flags)
+remove-device-once id version flags file old r s new now a b = writes-once a b
+
+pub remove-disk-once : (id : ℕ) → Fills (λ have file. removeDiskCall have file id)
+remove-disk-once id file old r s new now a b = writes-once a b
+
+pub replace-device-once : (id version flags : ℕ) (payload : List ℕ) → Fills (λ have file. replaceDeviceCall have file id version flags payload)
+replace-device-once id version flags payload file old r s new now a b = writes-once a b
 
 pub wrapper-check-once : Judges wrapped.wrapperOf
 wrapper-check-once wrapper r s e f = equal-once e f

@@ -10,7 +10,7 @@ use rings::Record;
 ghost use mathlib.Core.Path.{_≡_};
 ghost use lib.ListN.{length};
 ghost use Rattle.answer.specs.Calls.{asked, verdict, Writes};
-ghost use Rattle.aerosnap.specs.Calls.{checkCall, sectionsCall, devicesCall, disksCall, canonicalCall, addDeviceCall, addDiskCall};
+ghost use Rattle.aerosnap.specs.Calls.{checkCall, sectionsCall, devicesCall, disksCall, canonicalCall, addDeviceCall, addDiskCall, removeDeviceCall, removeDiskCall, replaceDeviceCall};
 ghost use Rattle.dskc.specs.Wrapper as wrapped;
 ghost use Rattle.messages.specs.Reading.{readMessage, reading};
 ghost use Rattle.numbers.specs.Numbers.{told, writeNumbers};
@@ -83,6 +83,40 @@ pub extern "C" fn cimbrolau_add_disk(
     ensures { λ r. ⌜ Writes (addDiskCall (length (now (out .entry))) (now (file .entry)) id (now (base .entry)) (now (overlay .entry))) (now (out .entry)) r (now (out .exit)) ⌝ }
 {
     snapshot::add_disk(file, id, base, overlay, out)
+}
+
+#[no_mangle]
+pub extern "C" fn cimbrolau_remove_device(
+    file: &[u8],
+    id: u32,
+    version: u16,
+    flags: u16,
+    out: &mut [u8],
+) -> Answer
+    ensures { λ r. ⌜ Writes (removeDeviceCall (length (now (out .entry))) (now (file .entry)) id version flags) (now (out .entry)) r (now (out .exit)) ⌝ }
+{
+    snapshot::remove_device(file, id, version, flags, out)
+}
+
+#[no_mangle]
+pub extern "C" fn cimbrolau_remove_disk(file: &[u8], id: u32, out: &mut [u8]) -> Answer
+    ensures { λ r. ⌜ Writes (removeDiskCall (length (now (out .entry))) (now (file .entry)) id) (now (out .entry)) r (now (out .exit)) ⌝ }
+{
+    snapshot::remove_disk(file, id, out)
+}
+
+#[no_mangle]
+pub extern "C" fn cimbrolau_replace_device(
+    file: &[u8],
+    id: u32,
+    version: u16,
+    flags: u16,
+    payload: &[u8],
+    out: &mut [u8],
+) -> Answer
+    ensures { λ r. ⌜ Writes (replaceDeviceCall (length (now (out .entry))) (now (file .entry)) id version flags (now (payload .entry))) (now (out .entry)) r (now (out .exit)) ⌝ }
+{
+    snapshot::replace_device(file, id, version, flags, payload, out)
 }
 
 // ---- disk-controller wrappers

@@ -26,7 +26,8 @@ use Rattle.tables.specs.Tables.{rowsAt}
 use Rattle.aerosnap.specs.File.{fileOf}
 use Rattle.aerosnap.specs.Content.{Content, contentAt, render, canonical}
 use Rattle.aerosnap.specs.Tables.{placed, listRows, sectionRows, table}
-use Rattle.aerosnap.specs.Adding.{Item, device, disk, ownChecks, addChecks, withItem, addTo, addItem}
+use Rattle.aerosnap.specs.Adding.{Item, device, disk, ownChecks, addChecks, withItem}
+use Rattle.aerosnap.specs.Edits.{addTo, addItem, editFile, editTo}
 use Rattle.aerosnap.proofs.Refusals.{Refuses, checked-refuses, after-refuses, refuses-more}
 use Rattle.aerosnap.proofs.Named.{checked-faulty, after-faulty, file-faulty, content-faulty}
 use Rattle.dskc.specs.Wrapper as wrapped
@@ -204,7 +205,7 @@ add-rows : (x : Item) (c : Content) → Rows (ownChecks x ++ addChecks x c (with
 add-rows x c = every-append _ (ownChecks x) (addChecks x c (withItem x c)) (own-rows x) ((refl, λ e. omega arith), (plain 12 refl, (plain 12 refl, (plain 8 refl, (plain 6 refl, tt)))))
 
 add-core : (s : List ℕ) (x : Item) → Core (λ have. addItem have s x)
-unfolding addItem addTo
+unfolding editFile editTo
 add-core s x =
     let rows : Content → Checks = λ c. ownChecks x ++ addChecks x c (withItem x c) in
     let all : Content → Outcome (List ℕ) = λ c. checked (rows c) (taken (render (withItem x c))) in

@@ -27,7 +27,8 @@ use Rattle.aerosnap.specs.File.{fileMost, fileOf}
 use Rattle.aerosnap.specs.Rules.{IsSection}
 use Rattle.aerosnap.specs.Content.{Content, contentOf, contentAt, render, entriesIn, canonical}
 use Rattle.aerosnap.specs.Tables.{placed, listRows, sectionRows, table}
-use Rattle.aerosnap.specs.Adding.{Item, withItem, addItem}
+use Rattle.aerosnap.specs.Adding.{Item, withItem}
+use Rattle.aerosnap.specs.Edits.{addItem}
 use Rattle.aerosnap.proofs.Slots.{Once}
 use Rattle.aerosnap.proofs.Taken.{file-sound, taken-exactly, file-unique}
 use Rattle.aerosnap.proofs.Records.{SectionRows, section-rows, list-rows}

@@ -28,7 +28,8 @@ use Rattle.aerosnap.specs.Payloads.{bodyOf, payload}
 use Rattle.aerosnap.specs.File.{fileMost, sectionsMost, header, headerChecks, idOf, versionOf, flagsOf, lengthOf, payloadOf, frameChecks, knownChecks, ruled, sectionOf, sections, fileOf}
 use Rattle.aerosnap.specs.Rules.{IsFile}
 use Rattle.aerosnap.specs.Content.{Content, contentAt, render}
-use Rattle.aerosnap.specs.Adding.{Item, ownChecks, addChecks, withItem, addTo, addItem}
+use Rattle.aerosnap.specs.Adding.{Item, ownChecks, addChecks, withItem}
+use Rattle.aerosnap.specs.Edits.{addTo, addItem, editFile, editTo}
 use Rattle.aerosnap.proofs.Taken.{header-sound}
 use Rattle.aerosnap.proofs.Faults.{Stops, sections-stop, stop-sections}
 use Rattle.dskc.specs.Wrapper as wrapped
@@ -214,7 +215,7 @@ module _ (v : Numbers) (d : List ℕ) (have n p : ℕ) where
 add-first : (have : ℕ) (s : List ℕ) (x : Item) (n p : ℕ)
     → (addItem have s x ≡ refused n p)
     ↔ ((contentAt s ≡ refused n p) ⊎ ((c : Content) × (contentAt s ≡ taken c) × First ((ownChecks x ++ addChecks x c (withItem x c)) ++ room have (length (render (withItem x c)))) n p))
-unfolding addItem addTo
+unfolding editFile editTo
 add-first have s x n p = ((λ e. there (after-refused (contentAt s) (λ c. addTo have c x) n p e)), back)
   where
     rows : Content → Checks

@@ -19,7 +19,8 @@ use Rattle.lists.specs.Lists.{entryAt, walk, listAt}
 use Rattle.aerosnap.specs.Payloads.{payload}
 use Rattle.aerosnap.specs.File.{ruled, sectionOf, sections, fileOf}
 use Rattle.aerosnap.specs.Content.{Content, contentAt, render, IsCanonical}
-use Rattle.aerosnap.specs.Adding.{Item, device, disk, Wide, listIn, entryOf, withItem, addTo, addItem, Call}
+use Rattle.aerosnap.specs.Adding.{Item, device, disk, Wide, listIn, entryOf, withItem}
+use Rattle.aerosnap.specs.Edits.{addTo, addItem, Call, editFile, editTo}
 use Rattle.aerosnap.specs.Calls.{canonicalCall}
 use Rattle.aerosnap.proofs.Canonical.{canonical-exactly}
 use Rattle.aerosnap.proofs.Added.{add-exactly, grows}
@@ -174,7 +175,7 @@ module _ (P : Program addCall) where
 
 -- the device (3,1,0) with two bytes, and (14,1,0) with one, added to the empty file
 add-useful : Useful addCall (λ i. i .0)
-unfolding leAt le bytesOf insert has read split entryAt walk listAt payload ruled sectionOf sections fileOf addTo addItem
+unfolding leAt le bytesOf insert has read split entryAt walk listAt payload ruled sectionOf sections fileOf editTo editFile
 add-useful =
     useful addCall (λ i. i .0) 54 (empty, device 3 1 0 (0xAB ∷ 0xCD ∷ [])) (withDevices 22 (u32 1 ++ twoBytes 3)) refl 53 (empty, device 14 1 0 (0x11 ∷ [])) (withDevices 21 (u32 1 ++ oneByte 14)) refl
     (longs (λ (z : _≡_ {A = ℕ} 54 53). omega arith)) (longs (λ (z : _≡_ {A = ℕ} 54 16). omega arith))

@@ -33,7 +33,8 @@ use Rattle.messages.specs.Fields.{fieldWidth, messageAt}
 use Rattle.messages.specs.Reading.{Content as MessageContent, most, messageContent, dataFits, dataLength, dataIn, fieldChecks, bodyChecks, numbersEnd, readChecks, readMessage}
 use Rattle.messages.specs.Writing.{valueChecks, dataChecks, formBytes, writeChecks, written, writeMessage}
 use Rattle.aerosnap.specs.Content.{Content, render, contentAt}
-use Rattle.aerosnap.specs.Adding.{Item, device, disk, ownChecks, addChecks, withItem, addTo, addItem}
+use Rattle.aerosnap.specs.Adding.{Item, device, disk, ownChecks, addChecks, withItem}
+use Rattle.aerosnap.specs.Edits.{addTo, addItem, editFile, editTo}
 use Rattle.demands.specs.Text.{Texts, Points, BrokenTexts}
 use Rattle.demands.proofs.Pointed.{file-pointed}
 
@@ -152,7 +153,7 @@ message-points m p h =
 
 -- ---- what keeps place 0
 add-zero : (have : ℕ) (s : List ℕ) (x : Item) (p : ℕ) → addItem have s x ≡ refused TEXT p → (contentAt s ≡ refused TEXT p) ⊎ (p ≡ 0)
-unfolding addItem addTo
+unfolding editFile editTo
 add-zero have s x p h = go (contentAt s) refl h
   where
     own : (x : Item) (c u : Content) → Zeroed TEXT (ownChecks x ++ addChecks x c u)

@@ -26,7 +26,8 @@ use Rattle.aerosnap.specs.File.{header, headerChecks, idOf, versionOf, flagsOf,
 use Rattle.aerosnap.specs.Rules.{IsFile}
 use Rattle.aerosnap.specs.Content.{Content, contentOf, contentAt, render, tidy, isOther, entriesIn, IsCanonical}
 use Rattle.aerosnap.specs.Tables.{table}
-use Rattle.aerosnap.specs.Adding.{Item, ownChecks, addChecks, withItem, addItem, Call}
+use Rattle.aerosnap.specs.Adding.{Item, ownChecks, addChecks, withItem}
+use Rattle.aerosnap.specs.Edits.{addItem, Call}
 use Rattle.aerosnap.specs.Calls.{checkCall, sectionsCall, devicesCall, disksCall, canonicalCall}
 use Rattle.dskc.specs.Wrapper as wrapped
 use Rattle.kinds.specs.declared.Message.{Message}

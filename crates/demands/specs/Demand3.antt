@@ -10,7 +10,8 @@ use Rattle.answer.specs.Outcome.{taken}
 use Rattle.answer.specs.Calls.{Writes}
 use Rattle.order.specs.Adding.{Chain, items, Roomy}
 use Rattle.aerosnap.specs.Content.{Content, contentAt, render, IsCanonical}
-use Rattle.aerosnap.specs.Adding.{Item, Wide, addItem, Call, grown}
+use Rattle.aerosnap.specs.Adding.{Item, Wide, grown}
+use Rattle.aerosnap.specs.Edits.{addItem, Call}
 
 -- `Call have s x b` (crate aerosnap): adding x to the file s is taken with so much lent memory, and b is the file written.
 -- A chain is one such call after another, each on the file that the last one wrote.

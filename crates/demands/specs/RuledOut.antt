@@ -9,7 +9,8 @@ use Rattle.answer.specs.declared.Answer.{Answer}
 use Rattle.answer.specs.Outcome.{Outcome, taken}
 use Rattle.answer.specs.Calls.{verdict, Writes}
 use Rattle.aerosnap.specs.Content.{contentAt, IsCanonical}
-use Rattle.aerosnap.specs.Adding.{Item, Wide, addItem}
+use Rattle.aerosnap.specs.Adding.{Item, Wide}
+use Rattle.aerosnap.specs.Edits.{addItem}
 use Rattle.aerosnap.specs.Calls.{checkCall, canonicalCall}
 use Rattle.dskc.specs.Wrapper as wrapped
 use Rattle.kinds.specs.declared.Message.{Message}

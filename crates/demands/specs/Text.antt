@@ -21,7 +21,8 @@ use Rattle.messages.specs.Fields.{messageAt}
 use Rattle.messages.specs.Reading.{numbersEnd, readMessage}
 use Rattle.messages.specs.Writing.{writeMessage}
 use Rattle.aerosnap.specs.Content.{contentAt}
-use Rattle.aerosnap.specs.Adding.{Item, addItem}
+use Rattle.aerosnap.specs.Adding.{Item}
+use Rattle.aerosnap.specs.Edits.{addItem}
 use Rattle.aerosnap.specs.Calls.{checkCall}
 
 -- a text is taken exactly if it is one of the RFC's grammar

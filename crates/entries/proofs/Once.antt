@@ -3,7 +3,7 @@
 use mathlib.Core.Path.{_≡_}
 use mathlib.Core.Bool.{Bool}
 use mathlib.Core.List.{List}
-use Prim.Native.Nat.{ℕ}
+use Prim.Native.Nat.{ℕ, _+_, _*_}
 use lib.ListN.{length, take, drop}
 use Rattle.answer.specs.declared.Piece.{Piece}
 use Rattle.answer.specs.declared.Test.{Test}
@@ -50,3 +50,6 @@ entry-once k s at r p e f = read-once (describe k .form) s at r p e f
 pub length-once : (k : Kind) (s : List ℕ) (at : ℕ) {r p : ℕ}
     → r ≡ length (take (span (describe k .form) (drop at s)) (drop at s)) → p ≡ length (take (span (describe k .form) (drop at s)) (drop at s)) → r ≡ p
 length-once k s at e f = equal-once e f
+
+pub device-key-once : (id version flags : ℕ) {r q : ℕ} → r ≡ (id * 65536 + version) * 65536 + flags → q ≡ (id * 65536 + version) * 65536 + flags → r ≡ q
+device-key-once id version flags e f = equal-once e f

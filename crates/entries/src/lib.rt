@@ -246,7 +246,7 @@ pub fn lead_at(kind: Kind, s: &[u8], at: usize) -> Test
 // ---- keys
 
 // A device's key: the first field weighs most, although its bytes come first.
-fn device_key(id: u32, version: u16, flags: u16) -> u64
+pub fn device_key(id: u32, version: u16, flags: u16) -> u64
     ensures { λ r. ⌜ r ≡ (id * 65536 + version) * 65536 + flags ⌝ }
 {
     ((id as u64) * 65536 + (version as u64)) * 65536 + (flags as u64)

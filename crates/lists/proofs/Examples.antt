@@ -71,7 +71,7 @@ as-numbers = (refl, refl)
 -- the call, with room for two starts, and for one: then none is kept
 pub calls : (indexOf devices 2 payload ≡ taken (21 ∷ 4 ∷ []))
     × (indexOf devices 1 payload ≡ taken [])
-    × (findIn (keyAt devices payload) (devices .key three) (21 ∷ 4 ∷ []) ≡ There)
+    × (findIn (keyAt devices payload) (devices .key three) (21 ∷ 4 ∷ []) ≡ There 0)
     × (findIn (keyAt devices payload) 4294967296 (21 ∷ 4 ∷ []) ≡ Free 0)
     × (findIn (keyAt devices payload) 17179869184 (21 ∷ 4 ∷ []) ≡ Free 1)
     × (findIn (keyAt devices payload) 64424509440 (21 ∷ 4 ∷ []) ≡ Free 2)

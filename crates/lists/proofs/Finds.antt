@@ -16,33 +16,39 @@ use Rattle.order.proofs.Keys.{fresh-has, asc-up, up-every}
 use Rattle.order.proofs.Inserts.{insert-nil, insert-le, insert-gt}
 use Rattle.lists.specs.declared.Found.{Found}
 use Rattle.lists.specs.declared.Found.the-variants.{There, Free}
-use Rattle.lists.specs.Promises.{later, findIn, freeOf}
+use Rattle.lists.specs.Promises.{later, findIn, foundOf, Finds}
 
 pub free-is : {p q : ℕ} → Free p ≡ Free q → p ≡ q
 free-is h = cc
 
-pub there-free : {p : ℕ} → There ≡ Free p → ⊥
+pub there-is : {p q : ℕ} → There p ≡ There q → p ≡ q
+there-is h = cc
+
+pub there-free : {q p : ℕ} → There q ≡ Free p → ⊥
 there-free h = let z : _≡_ {A = ℕ} 0 1 = cc in omega arith
 
--- the outcome tells the answer
-pub free-once : (r q : Found) → freeOf r ≡ freeOf q → r ≡ q
-free-once There There h = refl
-free-once There (Free j) h = let z : _≡_ {A = ℕ} 0 1 = cc in absurd (omega arith)
-free-once (Free i) There h = let z : _≡_ {A = ℕ} 0 1 = cc in absurd (omega arith)
-free-once (Free i) (Free j) h = let e : i ≡ j = cc in ap Free e
+-- the outcomes tell the answer
+pub found-once : (r q : Found) → Finds r q → r ≡ q
+found-once (There i) (There j) h = let e : foundOf true (There i) ≡ foundOf true (There j) = h true in let z : i ≡ j = cc in ap There z
+found-once (There i) (Free j) h = let e : foundOf true (There i) ≡ foundOf true (Free j) = h true in let z : _≡_ {A = ℕ} 0 1 = cc in absurd (omega arith)
+found-once (Free i) (There j) h = let e : foundOf true (Free i) ≡ foundOf true (There j) = h true in let z : _≡_ {A = ℕ} 0 1 = cc in absurd (omega arith)
+found-once (Free i) (Free j) h = let e : foundOf false (Free i) ≡ foundOf false (Free j) = h false in let z : i ≡ j = cc in ap Free z
 
-later-free : (f : Found) {p : ℕ} → later 1 f ≡ Free p → (q : ℕ) × (f ≡ Free q) × (p ≡ suc q)
-later-free There h = absurd (there-free h)
+pub finds : {r q : Found} → r ≡ q → Finds r q
+finds e w = ap (foundOf w) e
+
+pub later-free : (f : Found) {p : ℕ} → later 1 f ≡ Free p → (q : ℕ) × (f ≡ Free q) × (p ≡ suc q)
+later-free (There q) h = absurd (there-free h)
 later-free (Free q) h = (q, refl, let e : 1 + q ≡ _ = free-is h in omega arith)
 
 later-later : (i j : ℕ) (f : Found) → later i (later j f) ≡ later (i + j) f
-later-later i j There = refl
+later-later i j (There p) = ap There (omega arith)
 later-later i j (Free p) = ap Free (omega arith)
 
 -- ---- one element
 
 module _ {E : Type 0} (key : E → ℕ) (k : ℕ) (y : E) (l : List E) where
-  pub find-same : k ≡ key y → findIn key k (y ∷ l) ≡ There
+  pub find-same : k ≡ key y → findIn key k (y ∷ l) ≡ There 0
   unfolding findIn
   find-same e = rw (eq-eqb k (key y) e, findIn)
 
@@ -68,8 +74,8 @@ against k n = go (eqb k n) refl (leb k n) refl
     go false e true f = below (omega (arith, eqb-false k n e, leb-true k n f))
     go false e false f = above (leb-false k n f)
 
-later-there : (f : Found) → later 1 f ≡ There → f ≡ There
-later-there There h = refl
+pub later-there : (f : Found) {p : ℕ} → later 1 f ≡ There p → (q : ℕ) × (f ≡ There q) × (p ≡ suc q)
+later-there (There q) h = (q, refl, let e : 1 + q ≡ _ = there-is h in omega arith)
 later-there (Free q) h = absurd (there-free (sym h))
 
 -- ---- by the places of the elements
@@ -84,23 +90,23 @@ module _ {E : Type 0} (z : E) (key : E → ℕ) (k : ℕ) where
       let e : Free r ≡ findIn key k l = find-free-at l r (omega arith) (λ j g. b (suc j) (omega arith)) (λ g. a (omega arith)) in
       ap Free (omega arith) ∙ ap (later 1) e ∙ sym (find-above key k y l (b 0 (omega arith)))
 
-  pub find-there-at : (l : List E) (r : ℕ) → r < length l → ((j : ℕ) → j < r → key (getD l j z) < k) → k ≡ key (getD l r z) → There ≡ findIn key k l
+  pub find-there-at : (l : List E) (r : ℕ) → r < length l → ((j : ℕ) → j < r → key (getD l j z) < k) → k ≡ key (getD l r z) → There r ≡ findIn key k l
   find-there-at [] r h b e = absurd (omega arith)
   find-there-at (y ∷ l) zero h b e = sym (find-same key k y l e)
   find-there-at (y ∷ l) (suc r) h b e =
-      let q : There ≡ findIn key k l = find-there-at l r (omega arith) (λ j g. b (suc j) (omega arith)) e in
-      ap (later 1) q ∙ sym (find-above key k y l (b 0 (omega arith)))
+      let q : There r ≡ findIn key k l = find-there-at l r (omega arith) (λ j g. b (suc j) (omega arith)) e in
+      ap There (omega arith) ∙ ap (later 1) q ∙ sym (find-above key k y l (b 0 (omega arith)))
 
 -- ---- what an answer says
 
 module _ {E : Type 0} (key : E → ℕ) (k : ℕ) where
-  pub there-has : (l : List E) → findIn key k l ≡ There → has key k l ≡ true
+  pub there-has : (l : List E) {p : ℕ} → findIn key k l ≡ There p → has key k l ≡ true
   unfolding has findIn
   there-has [] h = absurd (there-free (sym h))
   there-has (y ∷ l) h = elim (against k (key y)) [
     | same e ↦ rw (eq-eqb k (key y) e, has)
     | below g ↦ absurd (there-free (sym h ∙ find-below key k y l g))
-    | above g ↦ let n : eqb k (key y) ≡ false = ne-eqb k (key y) (λ e. omega arith) in rw (n, has) (there-has l (later-there (findIn key k l) (sym (find-above key k y l g) ∙ h)))
+    | above g ↦ let n : eqb k (key y) ≡ false = ne-eqb k (key y) (λ e. omega arith) in rw (n, has) (there-has l (later-there (findIn key k l) (sym (find-above key k y l g) ∙ h) .1))
   ]
 
   -- the element is inserted at the place
@@ -153,7 +159,7 @@ module _ (key : ℕ → ℕ) (k : ℕ) (l : List ℕ) where
   finding-start = record { inside = zero-le; same = go (findIn key k l) }
     where
       go : (f : Found) → f ≡ later 0 f
-      go There = refl
+      go (There p) = ap There (omega arith)
       go (Free p) = ap Free (omega arith)
 
   module _ (i : ℕ) (v : Finding key k l i) where
@@ -165,8 +171,8 @@ module _ (key : ℕ → ℕ) (k : ℕ) (l : List ℕ) where
       here : findIn key k l ≡ later i (findIn key k (getD l i 0 ∷ drop (suc i) l))
       here = v .same ∙ ap (λ (m : List ℕ). later i (findIn key k m)) (drop-cons l i 0 h)
 
-      pub finding-there : k ≡ key (getD l i 0) → There ≡ findIn key k l
-      finding-there e = sym (here ∙ ap (later i) (find-same key k (getD l i 0) (drop (suc i) l) e))
+      pub finding-there : k ≡ key (getD l i 0) → There i ≡ findIn key k l
+      finding-there e = sym (here ∙ ap (later i) (find-same key k (getD l i 0) (drop (suc i) l) e) ∙ ap There (omega arith))
 
       pub finding-free : k < key (getD l i 0) → Free i ≡ findIn key k l
       finding-free e = sym (here ∙ ap (later i) (find-below key k (getD l i 0) (drop (suc i) l) e) ∙ ap Free (omega arith))

@@ -3,6 +3,7 @@ pub mod Taken
 pub mod Ordered
 pub mod Faults
 pub mod Finds
+pub mod Placed
 pub mod Written
 pub mod Within
 pub mod Exits

@@ -120,11 +120,11 @@ module _ {d : Description} (K : Lawful d) (s : List ℕ) {r : List ℕ} (h : lis
   -- ---- a search in the index
 
   -- each start has its entry's key
-  start-keys : Every (λ y. d .key (pieceAt d s y) ≡ keyAt d s y) r
+  pub start-keys : Every (λ y. d .key (pieceAt d s y) ≡ keyAt d s y) r
   start-keys = index-every K s h (λ b. d .key (first (widthOf d) b) ≡ d .key b) (λ e rest i. ap (d .key) (first-append (self d) e rest i) ∙ sym (key-local K e rest i))
 
   -- a key that is there is an entry's
-  pub find-there : (k : ℕ) → findIn (keyAt d s) k r ≡ There → has (d .key) k (entries d s) ≡ true
+  pub find-there : (k : ℕ) {p : ℕ} → findIn (keyAt d s) k r ≡ There p → has (d .key) k (entries d s) ≡ true
   find-there k q = sym (index-has K s h k) ∙ there-has (keyAt d s) k r q
 
   -- one that is free is no entry's

@@ -2,13 +2,13 @@
 -- Assumes nothing.
 use mathlib.Core.Path.{_≡_}
 use mathlib.Core.Logic.{_⊎_}
-use mathlib.Core.Bool.{true, false}
+use mathlib.Core.Bool.{Bool, true, false}
 use mathlib.Core.List.{List, [], _∷_, _++_}
 use Prim.Native.Nat.{ℕ, _+_}
 use lib.Dec.{leb, eqb}
 use lib.ListN.{length, drop, replicate}
 use Rattle.answer.specs.declared.Piece.{Piece}
-use Rattle.answer.specs.Numbers.{HAVE}
+use Rattle.answer.specs.Numbers.{HAVE, ABSENT}
 use Rattle.answer.specs.declared.Test.{Test}
 use Rattle.answer.specs.declared.Test.the-variants.{Fault, Fine}
 use Rattle.answer.specs.Outcome.{Outcome, taken, refused, after}
@@ -37,15 +37,21 @@ pub record Indexed (o : Outcome (List ℕ)) (old : List ℕ) (r : Piece) (new : 
 
 -- the same place, counted from i elements earlier
 abbrev pub later : ℕ → Found → Found
-later i There = There
+later i (There p) = There (i + p)
 later i (Free p) = Free (i + p)
 
 -- where an entry with the key k goes: before the first whose key is not below k, unless that one has the key itself
 unfoldable pub findIn : {E : Type 0} → (E → ℕ) → ℕ → List E → Found
 findIn key k [] = Free 0
-findIn key k (y ∷ l) = elim (eqb k (key y)) [ true ↦ There | false ↦ elim (leb k (key y)) [ true ↦ Free 0 | false ↦ later 1 (findIn key k l) ] ]
+findIn key k (y ∷ l) = elim (eqb k (key y)) [ true ↦ There 0 | false ↦ elim (leb k (key y)) [ true ↦ Free 0 | false ↦ later 1 (findIn key k l) ] ]
 
--- document 01's number and place for each answer: where the entry goes is taken, a key that is there is HAVE
-abbrev pub freeOf : Found → Outcome ℕ
-freeOf There = refused HAVE 0
-freeOf (Free i) = taken i
+-- the documents' number and place for each answer, by whether an entry with the key is wanted: one that is there then, or else its place, is taken; a key that is wanted and isn't there is ABSENT, one that is there unwanted HAVE
+abbrev pub foundOf : Bool → Found → Outcome ℕ
+foundOf true (There i) = taken i
+foundOf true (Free i) = refused ABSENT 0
+foundOf false (There i) = refused HAVE 0
+foundOf false (Free i) = taken i
+
+-- the answer r is the place f, whichever is wanted
+abbrev pub Finds : Found → Found → Type 0
+Finds r f = (wanted : Bool) → foundOf wanted r ≡ foundOf wanted f

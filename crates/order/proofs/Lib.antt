@@ -3,6 +3,8 @@ pub mod Perms
 pub mod Keys
 pub mod Inserts
 pub mod Keeps
+pub mod Without
+pub mod Between
 pub mod Sorts
 pub mod Buckets
 pub mod Places

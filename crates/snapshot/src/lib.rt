@@ -1,10 +1,11 @@
-// Snapshot files, all calls: checked whole, their tables handed out, written in canonical form, and with a device or a disk more.
+// Snapshot files, all calls: checked whole, their tables handed out, written in canonical form, and edited: a device or a disk more, one fewer, a payload exchanged.
 // Slices that are handed on as `&s[..]` go in registers (decision 38).
 use answer::Answer;
 use answer::Piece;
 use answer::ROOM;
 use answer::TAKEN;
 use answer::Test;
+use canon::Edit;
 use sections::Spot;
 use tables::ROW;
 use tables::Table;
@@ -22,7 +23,7 @@ ghost use Rattle.aerosnap.specs.Known.{known};
 ghost use Rattle.aerosnap.specs.Payloads.{list, bodyOf};
 ghost use Rattle.aerosnap.specs.File.{fileMost, fileOf};
 ghost use Rattle.aerosnap.specs.Tables as file_tables;
-ghost use Rattle.aerosnap.specs.Calls.{checkCall, sectionsCall, devicesCall, disksCall, canonicalCall, addDeviceCall, addDiskCall};
+ghost use Rattle.aerosnap.specs.Calls.{checkCall, sectionsCall, devicesCall, disksCall, canonicalCall, addDeviceCall, addDiskCall, removeDeviceCall, removeDiskCall, replaceDeviceCall};
 ghost use Rattle.sections.specs.Index.{HoldsStarts};
 ghost use Rattle.snapshot.specs.Walks.{Lists};
 
@@ -214,12 +215,62 @@ pub fn add_device(
 ) -> Answer
     ensures { λ r. ⌜ Writes (addDeviceCall (length (now (out .entry))) (now (file .entry)) id version flags (now (payload .entry))) (now (out .entry)) r (now (out .exit)) ⌝ }
 {
-    canon::add_device(file, id, version, flags, payload, out)
+    let none = &file[..0];
+    canon::edited(
+        Edit::AddDevice(id, version, flags),
+        payload,
+        none,
+        file,
+        out,
+    )
 }
 
 // The canonical form of a file's content and one disk more.
 pub fn add_disk(file: &[u8], id: u32, base: &[u8], overlay: &[u8], out: &mut [u8]) -> Answer
     ensures { λ r. ⌜ Writes (addDiskCall (length (now (out .entry))) (now (file .entry)) id (now (base .entry)) (now (overlay .entry))) (now (out .entry)) r (now (out .exit)) ⌝ }
 {
-    canon::add_disk(file, id, base, overlay, out)
+    canon::edited(Edit::AddDisk(id), base, overlay, file, out)
+}
+
+// The canonical form of a file's content without one of its devices.
+pub fn remove_device(file: &[u8], id: u32, version: u16, flags: u16, out: &mut [u8]) -> Answer
+    ensures { λ r. ⌜ Writes (removeDeviceCall (length (now (out .entry))) (now (file .entry)) id version flags) (now (out .entry)) r (now (out .exit)) ⌝ }
+{
+    let none = &file[..0];
+    canon::edited(
+        Edit::RemoveDevice(id, version, flags),
+        none,
+        none,
+        file,
+        out,
+    )
+}
+
+// The canonical form of a file's content without one of its disks.
+pub fn remove_disk(file: &[u8], id: u32, out: &mut [u8]) -> Answer
+    ensures { λ r. ⌜ Writes (removeDiskCall (length (now (out .entry))) (now (file .entry)) id) (now (out .entry)) r (now (out .exit)) ⌝ }
+{
+    let none = &file[..0];
+    canon::edited(Edit::RemoveDisk(id), none, none, file, out)
+}
+
+// The canonical form of a file's content with another payload in one of its devices.
+pub fn replace_device(
+    file: &[u8],
+    id: u32,
+    version: u16,
+    flags: u16,
+    payload: &[u8],
+    out: &mut [u8],
+) -> Answer
+    ensures { λ r. ⌜ Writes (replaceDeviceCall (length (now (out .entry))) (now (file .entry)) id version flags (now (payload .entry))) (now (out .entry)) r (now (out .exit)) ⌝ }
+{
+    let none = &file[..0];
+    canon::edited(
+        Edit::ReplaceDevice(id, version, flags),
+        payload,
+        none,
+        file,
+        out,
+    )
 }
