@@ -21,7 +21,7 @@ use Rattle.entries.specs.declared.Kind.{Kind}
 use Rattle.entries.specs.Code.{describe}
 use Rattle.entries.specs.Kinds.{Description, controllers}
 use Rattle.entries.proofs.Lawful.{lawful}
-use Rattle.lists.specs.Lists.{keyAt, entryChecks, entryAt, leftOver, walk, countChecks, listAt}
+use Rattle.lists.specs.Lists.{keyAt, entryChecks, entryAt, endChecks, walk, countChecks, listAt}
 use Rattle.lists.proofs.Faults.{StopsAt, walk-stop, stop-walk, starts-distinct, distinct-starts, seen-has}
 use Rattle.aerosnap.specs.Known.{known}
 use Rattle.aerosnap.specs.Payloads.{bodyOf, payload}
@@ -145,11 +145,11 @@ module _ (k : Kind) (s : List ℕ) (n p : ℕ) where
 
     to-fault : StopsAt (lawful k) s (leAt 4 s 0) (length l) at seen n p → ListFault d s l b n p
     to-fault (inl (i, h)) = inl (i, entry-first .0 h)
-    to-fault (inr (i, h)) = inr (i, checked-first (leftOver s at) seen n p .0 h)
+    to-fault (inr (i, h)) = inr (i, checked-first (endChecks d s at) seen n p .0 h)
 
     from-fault : ListFault d s l b n p → StopsAt (lawful k) s (leAt 4 s 0) (length l) at seen n p
     from-fault (inl (i, h)) = inl (i, entry-first .1 h)
-    from-fault (inr (i, h)) = inr (i, checked-first (leftOver s at) seen n p .1 h)
+    from-fault (inr (i, h)) = inr (i, checked-first (endChecks d s at) seen n p .1 h)
 
   list-first : (listAt d s ≡ refused n p) ↔ FirstOr (countChecks d s) n p Found
   unfolding listAt

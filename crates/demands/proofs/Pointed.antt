@@ -22,9 +22,10 @@ use Rattle.utf8.proofs.Reading.{breaks-at}
 use Rattle.format.specs.Format.{Format, block, sized, option, pair, sizedChecks, optionChecks, utf8, text, values, read}
 use Rattle.order.specs.Keyed.{insert, has, Every}
 use Rattle.order.proofs.Folds.{every-append}
-use Rattle.entries.specs.States.{cpuValues, cpuState, cpuLengthChecks, mmuLength}
+use Rattle.entries.specs.States.{cpuValues, cpuState, cpuSized, extends, heldChecks, mmuLength}
+use Rattle.format.specs.Format as form
 use Rattle.entries.specs.Kinds.{Description, leadChecks}
-use Rattle.lists.specs.Lists.{keyAt, entryChecks, entryAt, leftOver, walk, countChecks, listAt}
+use Rattle.lists.specs.Lists.{keyAt, entryChecks, entryAt, endChecks, walk, countChecks, listAt}
 use Rattle.aerosnap.specs.Known.{known, META, CPU, MMU, DEVICES, DISKS, CPUS, MMUS}
 use Rattle.aerosnap.specs.Payloads.{metaForm, Body, meta, cpu, mmu, list, opaque, bodyBy, bodyOf, payload}
 use Rattle.aerosnap.specs.File.{sectionsMost, headerChecks, idOf, versionOf, flagsOf, lengthOf, payloadOf, frameChecks, knownChecks, ruled, sectionOf, sections, fileOf}
@@ -121,6 +122,7 @@ Texty (block n ask) = (e : List ℕ) → Silent (ask e)
 Texty (sized w checks ask) = ((n : ℕ) → Quiet (checks n)) × (((w ≡ 4) × ((e : List ℕ) → ask e ≡ utf8 e)) ⊎ ((e : List ℕ) → Silent (ask e)))
 Texty (option f) = Texty f
 Texty (pair f g) = Texty f × Texty g
+Texty (form.also f ask) = Texty f × ((e : List ℕ) → Silent (ask e))
 
 sized-quiet : (w : ℕ) (checks : ℕ → Checks) (b : List ℕ) → ((n : ℕ) → Quiet (checks n)) → Quiet (sizedChecks w checks b)
 sized-quiet w checks b q = (λ e. omega arith) also every-append _ (checks (leAt w b 0)) ((leb (leAt w b 0) (length b - w), SHAPE, w) ∷ []) (q (leAt w b 0)) ((λ e. omega arith) also tt)
@@ -157,6 +159,8 @@ read-pointed (option f) b h =
     go false k = shift-pointed b 1 (read f (drop 1 b)) k
 read-pointed (pair f g) b h =
     after-pointed b (read f b) (λ k. shift k (read g (drop k b))) (read-pointed f b (h .0)) (λ k. shift-pointed b k (read g (drop k b)) (read-pointed g (drop k b) (h .1)))
+read-pointed (form.also f ask) b h =
+    after-pointed b (read f b) (λ k. after (ask (take k b)) (λ _. taken k)) (read-pointed f b (h .0)) (λ k. after-pointed b (ask (take k b)) (λ _. taken k) (silent-pointed b (ask (take k b)) (h .1 (take k b))) (λ _. tt))
 
 values-silent : (l : List (ℕ × ℕ × ℕ × ℕ)) (e : List ℕ) → Silent (values l e)
 unfolding values
@@ -186,7 +190,7 @@ module _ {d : Description} (K : Entries d) (s : List ℕ) where
 
   walk-pointed : (n at : ℕ) (seen : List ℕ) → Pointed s (walk d s n at seen)
   unfolding walk
-  walk-pointed zero at seen = checked-pointed s (leftOver s at) (taken seen) ((λ e. omega arith) also tt) (λ _. tt)
+  walk-pointed zero at seen = checked-pointed s (endChecks d s at) (taken seen) ((λ e. omega arith) also tt) (λ _. tt)
   walk-pointed (suc n) at seen = after-pointed s (entryAt d s at seen) (λ e. walk d s n e (insert (keyAt d s) at seen)) (entry-pointed at seen) (λ e. walk-pointed n e (insert (keyAt d s) at seen))
 
   list-pointed : Pointed s (listAt d s)
@@ -204,6 +208,13 @@ Bodies opaque = Unit {0}
 bodies : (id v : ℕ) → Bodies (bodyOf id v)
 bodies id v = by (eqb id META) (eqb id CPU) (eqb id MMU) (eqb id DEVICES) (eqb id DISKS) (eqb id CPUS) (eqb id MMUS)
   where
+    held-silent : (e : List ℕ) → Silent (heldChecks v e)
+    held-silent e = go (extends (drop 4 e)) (silent-moved 4 (cpuState v (drop 4 e)) (values-silent (cpuValues v (length (drop 4 e))) (drop 4 e)))
+      where
+        go : (t : Bool) → Silent (moved 4 (cpuState v (drop 4 e))) → Silent (checked ((t, SHAPE, 0) ∷ []) (moved 4 (cpuState v (drop 4 e))))
+        go true k = k
+        go false k = λ q. omega arith
+
     by : (a b c d e f g : Bool) → Bodies (bodyBy a b c d e f g v)
     by true b c d e f g = tt
     by false true c d e f g = tt
@@ -212,7 +223,7 @@ bodies id v = by (eqb id META) (eqb id CPU) (eqb id MMU) (eqb id DEVICES) (eqb i
     by false false false false true f g = record { early = λ b. tt; form = ((λ e. tt), (text-texty 65536, text-texty 65536)) }
     by false false false false false true g = record {
       early = λ b. tt;
-      form = ((λ e. tt), (((λ n. (λ e. omega arith) also tt), inr (λ e. values-silent (cpuValues v (length e)) e)), ((λ n. (λ e. omega arith) also tt), inr (λ e. tt))));
+      form = ((λ e. tt), ((((λ n. (λ e. omega arith) also tt), inr (λ e. tt)), held-silent), ((λ n. (λ e. omega arith) also tt), inr (λ e. tt))));
     }
     by false false false false false false true = record { early = λ b. tt; form = λ e. tt }
     by false false false false false false false = tt
@@ -220,10 +231,9 @@ bodies id v = by (eqb id META) (eqb id CPU) (eqb id MMU) (eqb id DEVICES) (eqb i
 payload-pointed : (k : Body) → Bodies k → (p : List ℕ) → Pointed p (payload k p)
 unfolding payload
 payload-pointed meta K p =
-    after-pointed p (read metaForm p) (λ e. asked (leftOver p e)) (read-pointed metaForm p ((λ e. tt), ((λ e. tt), ((λ e. tt), text-texty 4096))))
-    (λ e. checked-pointed p (leftOver p e) (taken tt) ((λ q. omega arith) also tt) (λ _. tt))
+    after-pointed p (read metaForm p) (λ _. taken tt) (read-pointed metaForm p ((λ e. tt), ((λ e. tt), ((λ e. tt), text-texty 4096)))) (λ _. tt)
 payload-pointed (cpu v) K p =
-    checked-pointed p (cpuLengthChecks v (length p)) (cpuState v p) ((λ e. omega arith) also tt) (λ _. silent-pointed p (cpuState v p) (values-silent (cpuValues v (length p)) p))
+    checked-pointed p ((cpuSized v p, SHAPE, 0) ∷ []) (cpuState v p) ((λ e. omega arith) also tt) (λ _. silent-pointed p (cpuState v p) (values-silent (cpuValues v (length p)) p))
 payload-pointed (mmu v) K p = checked-pointed p ((eqb (length p) (mmuLength v), SHAPE, 0) ∷ []) (taken tt) ((λ e. omega arith) also tt) (λ _. tt)
 payload-pointed (list d) K p = after-pointed p (listAt d p) (λ _. taken tt) (list-pointed K p) (λ _. tt)
 payload-pointed opaque K p = tt

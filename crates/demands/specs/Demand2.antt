@@ -16,7 +16,7 @@ use Rattle.order.specs.Entries.{join}
 use Rattle.entries.specs.declared.Kind.{Kind}
 use Rattle.entries.specs.Code.{describe}
 use Rattle.entries.specs.Kinds.{Description, devices, disks, controllers, deviceKey, address, busOf, deviceOf, functionOf}
-use Rattle.lists.specs.Lists.{entryChecks, leftOver, countChecks, listAt}
+use Rattle.lists.specs.Lists.{entryChecks, endChecks, countChecks, listAt}
 use Rattle.tables.specs.declared.Table.the-variants.{Devices, Disks, Controllers}
 use Rattle.tables.specs.Tables.{rowsAt}
 use Rattle.tables.specs.Named.{NamesFramed, Each, IsTable}
@@ -24,7 +24,7 @@ use Rattle.aerosnap.specs.Known.{DEVICES, DISKS, known}
 use Rattle.aerosnap.specs.Payloads.{bodyOf, payload}
 use Rattle.aerosnap.specs.File.{header, headerChecks, idOf, versionOf, flagsOf, payloadOf, frameChecks, knownChecks}
 use Rattle.aerosnap.specs.Rules.{IsFile}
-use Rattle.aerosnap.specs.Content.{Content, contentOf, contentAt, render, tidy, isOther, entriesIn, IsCanonical}
+use Rattle.aerosnap.specs.Content.{Content, contentOf, contentAt, render, tidy, isOther, entriesIn, tailIn, IsCanonical}
 use Rattle.aerosnap.specs.Tables.{table}
 use Rattle.aerosnap.specs.Adding.{Item, ownChecks, addChecks, withItem}
 use Rattle.aerosnap.specs.Edits.{addItem, Call}
@@ -66,9 +66,9 @@ pub record Files : Type 0 where
   -- two files with the same content have the same canonical bytes, and no others have
   pub same : (have : ℕ) (s t : List ℕ) → contentAt s ≡ contentAt t → canonicalCall have s ≡ canonicalCall have t
   pub only : (have : ℕ) (s t b : List ℕ) → canonicalCall have s ≡ taken b → canonicalCall have t ≡ taken b → contentAt s ≡ contentAt t
-  -- savers that hand over the same devices and the same disks in other orders, and the same sections besides, save the same content
+  -- savers that hand over the same devices and the same disks in other orders, the same tails behind them, and the same sections besides, save the same content
   pub any-saver : (l m : List (List ℕ)) → IsFile l → List·Permᴰ (entriesIn DEVICES devices l) (entriesIn DEVICES devices m) → List·Permᴰ (entriesIn DISKS disks l) (entriesIn DISKS disks m)
-      → flat tidy (keep isOther l) ≡ flat tidy (keep isOther m) → contentOf l ≡ contentOf m
+      → tailIn DEVICES devices l ≡ tailIn DEVICES devices m → tailIn DISKS disks l ≡ tailIn DISKS disks m → flat tidy (keep isOther l) ≡ flat tidy (keep isOther m) → contentOf l ≡ contentOf m
   -- a file has a content exactly if it is taken, and else the same fault
   pub content : (s : List ℕ) (l : List (List ℕ)) → checkCall s ≡ taken l → contentAt s ≡ taken (contentOf l)
   pub no-content : (s : List ℕ) (n p : ℕ) → checkCall s ≡ refused n p → contentAt s ≡ refused n p
@@ -187,11 +187,11 @@ SectionFault before at b n p =
 abbrev pub EntryFault : Description → List (List ℕ) → List ℕ → ℕ → ℕ → Type 0
 EntryFault d before b n q = FirstOr (entryChecks d (has (d .key) (d .key b) before) b) n q (read (d .form) b ≡ refused n q)
 
--- of the list s, behind the entries before b: the next entry's fault, or bytes left over behind the last
+-- of the list s, behind the entries before b: the next entry's fault, or bytes left over behind the last of a kind that has no tail
 abbrev pub ListFault : Description → List ℕ → List (List ℕ) → List ℕ → ℕ → ℕ → Type 0
 ListFault d s before b n p =
     ((length before < leAt 4 s 0) × ((q : ℕ) × EntryFault d before b n q × (p ≡ 4 + length (join before) + q)))
-    ⊎ ((length before ≡ leAt 4 s 0) × First (leftOver s (4 + length (join before))) n p)
+    ⊎ ((length before ≡ leAt 4 s 0) × First (endChecks d s (4 + length (join before))) n p)
 
 pub record Faults : Type 0 where
   -- a file: its header, then the first section at fault; those before it, l, follow the rules

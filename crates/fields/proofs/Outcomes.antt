@@ -1,13 +1,14 @@
 -- Reading and setting a field: the code's answers against the definitions.
 -- Assumes nothing.
 use mathlib.Core.Path.{_≡_, refl, sym, ap, _∙_, subst}
-use mathlib.Core.Bool.{Bool, true, false, _&&_}
+use mathlib.Core.Logic.{_⊎_, inl, inr}
+use mathlib.Core.Bool.{Bool, true, false, _&&_, _||_}
 use mathlib.Core.List.{List, [], _∷_, _++_}
 use Prim.Native.Nat.{ℕ, _+_, _-_, _*_, _≤_, _<_}
 use native.Mathlib.Omega.{arith}
 use lib.Dec.{leb, ltb, eqb}
 use lib.ListN.{length, take, drop}
-use borrow.Author.Tests.{leb-true, eqb-true}
+use borrow.Author.Tests.{leb-true, leb-false, ltb-true, eqb-true}
 use Rattle.answer.specs.Numbers.{SHAPE, VALUE}
 use Rattle.answer.specs.Outcome.{Outcome, taken, refused, Checks, checked, after, room, fitting}
 use Rattle.answer.specs.Calls.{asked, memory, Writes}
@@ -17,8 +18,9 @@ use Rattle.answer.proofs.Outcomes.{taken-is, taken-refused}
 use Rattle.wire.specs.Numbers.{leAt}
 use Rattle.wire.specs.Parts.{splice, put}
 use Rattle.wire.proofs.Parts.{length-splice, put-fits}
+use Rattle.wire.proofs.Splices.{leAt-above, leAt-below}
 use Rattle.format.specs.Format.{values}
-use Rattle.entries.specs.States.{cpuValues, cpuWhole}
+use Rattle.entries.specs.States.{cpuLength, extends, cpuValues, cpuWhole, mmuLength}
 use Rattle.fields.specs.declared.Row.{Row}
 use Rattle.fields.specs.declared.Spot.{Spot}
 use Rattle.fields.specs.declared.Spot.the-variants.{At, Lacks}
@@ -26,7 +28,7 @@ use Rattle.fields.specs.declared.State.{State}
 use Rattle.fields.specs.declared.State.the-variants.{Cpu, Mmu}
 use Rattle.fields.specs.Layout.{rowAt}
 use Rattle.fields.specs.Fields.{rightLength, listed, valueChecks, stateChecks, placeOf, hasIn, findIn, spotOf, bytesAt, fieldChecks, fieldCall, setTo, setChecks, setCall, Changes}
-use Rattle.fields.proofs.Table.{Small, small-row}
+use Rattle.fields.proofs.Table.{Small, small-row, apart}
 
 -- ---- what is asked of a state
 
@@ -71,6 +73,35 @@ found k n i len {x} {at} {w} e f =
 
 pub found-not : (k : State) (n i len : ℕ) {x : Spot} → spotOf x ≡ findIn (rowAt k n) i len → x ≡ Lacks → hasIn (rowAt k n) i len ≡ false
 found-not k n i len e f = split-not (rowAt k n) i (hasIn (rowAt k n) i len) (sym (ap spotOf f) ∙ e)
+
+-- a field that is set leaves the length, and what the state says of it
+pub set-right : (k : State) (n i : ℕ) (v s : List ℕ) → hasIn (rowAt k n) i (length s) ≡ true → length v ≡ rowAt k n .width → rightLength k (setTo (rowAt k n) i v s) ≡ rightLength k s
+set-right Mmu n i v s h w =
+    let r = rowAt Mmu n in
+    let b = and-true (ltb i (r .count)) (leb (placeOf r i + r .width) (length s)) h in
+    ap (λ (m : ℕ). eqb m (mmuLength 2)) (length-splice (placeOf r i) v s (omega (arith, w, leb-true _ _ (b .1))))
+set-right Cpu n i v s h w =
+    ap (λ (m : ℕ). cpuLength 2 m && extends (setTo r i v s)) long ∙ ap (λ (t : Bool). cpuLength 2 (length s) && t) (extends-same (leb (length s) 1191) refl)
+  where
+    r : Row
+    r = rowAt Cpu n
+
+    fits : placeOf r i + length v ≤ length s
+    fits = let b = and-true (ltb i (r .count)) (leb (placeOf r i + r .width) (length s)) h in omega (arith, w, leb-true _ _ (b .1))
+
+    long : length (setTo r i v s) ≡ length s
+    long = length-splice (placeOf r i) v s fits
+
+    word : 1191 < length s → leAt 4 (setTo r i v s) 1183 ≡ leAt 4 s 1183
+    word g = go (apart n i (ltb-true i (r .count) (and-true (ltb i (r .count)) (leb (placeOf r i + r .width) (length s)) h .0)))
+      where
+        go : (placeOf r i + r .width ≤ 1183) ⊎ (1187 ≤ placeOf r i) → leAt 4 (setTo r i v s) 1183 ≡ leAt 4 s 1183
+        go (inl e) = leAt-above (placeOf r i) v s fits 4 1183 (omega (arith, w)) (omega arith)
+        go (inr e) = leAt-below (placeOf r i) v s fits 4 1183 (omega arith)
+
+    extends-same : (b : Bool) → leb (length s) 1191 ≡ b → extends (setTo r i v s) ≡ extends s
+    extends-same true e = ap (λ (m : ℕ). leb m 1191 || eqb m (1187 + leAt 4 (setTo r i v s) 1183)) long ∙ rw e
+    extends-same false e = ap (λ (m : ℕ). leb m 1191 || eqb m (1187 + leAt 4 (setTo r i v s) 1183)) long ∙ ap (λ (x : ℕ). leb (length s) 1191 || eqb (length s) (1187 + x)) (word (leb-false (length s) 1191 e))
 
 -- ---- reading
 

@@ -1,9 +1,10 @@
 -- The table of fields: the code's has the same rows, and each field lies within a few thousand bytes.
 -- Assumes nothing.
 use mathlib.Core.Path.{_≡_, refl, sym, ap, _∙_, subst⁻¹}
-use mathlib.Core.Bool.{Bool, true, false, _&&_}
+use mathlib.Core.Logic.{_⊎_, inl, inr}
+use mathlib.Core.Bool.{Bool, true, false, _&&_, _||_}
 use mathlib.Core.List.{List, [], _∷_, map}
-use Prim.Native.Nat.{ℕ, zero, suc, _+_, _*_, _≤_, _<_, zero-le}
+use Prim.Native.Nat.{ℕ, zero, suc, _+_, _-_, _*_, _≤_, _<_, zero-le}
 use native.Mathlib.Nat.{le-trans, mul-le-mul-left, mul-le-mul-right}
 use native.Mathlib.Omega.{arith}
 use lib.Dec.{leb, ltb}
@@ -74,6 +75,33 @@ pub small-row : (k : State) (n : ℕ) → Small (rowAt k n)
 unfolding rowAt
 small-row Cpu n = decode (getD (table Cpu) n noRow) (each (table Cpu) n refl)
 small-row Mmu n = decode (getD (table Mmu) n noRow) (each (table Mmu) n refl)
+
+-- ---- no field meets the extension's length
+
+abbrev clear : Row → Bool
+clear r = leb (r .at + (r .count - 1) * r .step + r .width) 1183 || leb 1187 (r .at)
+
+abbrev all-clear : List Row → Bool
+all-clear [] = true
+all-clear (r ∷ l) = clear r && all-clear l
+
+each-clear : (l : List Row) (n : ℕ) → all-clear l ≡ true → clear (getD l n noRow) ≡ true
+each-clear [] n e = refl
+each-clear (r ∷ l) zero e = and-true (clear r) (all-clear l) e .0
+each-clear (r ∷ l) (suc n) e = each-clear l n (and-true (clear r) (all-clear l) e .1)
+
+cpu-clear : (n : ℕ) → clear (rowAt Cpu n) ≡ true
+unfolding rowAt
+cpu-clear n = each-clear (table Cpu) n refl
+
+pub apart : (n i : ℕ) → i < rowAt Cpu n .count → (rowAt Cpu n .at + i * rowAt Cpu n .step + rowAt Cpu n .width ≤ 1183) ⊎ (1187 ≤ rowAt Cpu n .at + i * rowAt Cpu n .step)
+apart n i h = go (rowAt Cpu n) h (leb (rowAt Cpu n .at + (rowAt Cpu n .count - 1) * rowAt Cpu n .step + rowAt Cpu n .width) 1183) refl (cpu-clear n)
+  where
+    go : (r : Row) → i < r .count → (b : Bool) → leb (r .at + (r .count - 1) * r .step + r .width) 1183 ≡ b → (b || leb 1187 (r .at)) ≡ true → (r .at + i * r .step + r .width ≤ 1183) ⊎ (1187 ≤ r .at + i * r .step)
+    go r g true e k =
+        let m : i ≤ r .count - 1 = omega arith in
+        inl (omega (arith, leb-true _ _ e, mul-le-mul-right (r .step) m))
+    go r g false e k = inr (omega (arith, leb-true 1187 (r .at) k))
 
 -- ---- a field's place, against the code's tests
 

@@ -1,7 +1,8 @@
 //! The lists: devices, disks, CPUs, MMUs, and the controllers of a wrapper.
 //!
 //! A list is a u32 count and so many entries. An entry opens with a fixed part that holds its key; a key
-//! comes once. What the kinds of entry differ in is asked of [`Kind`].
+//! comes once. What the kinds of entry differ in is asked of [`Kind`]. What may stand behind the last entry
+//! is for those to say who read a list.
 
 use crate::answer::{ask, Taken, KEY, LIMIT, RESERVED, SHAPE, VALUE};
 use crate::cursor::{u16_at, u32_at, u64_at, Cursor, Output};
@@ -35,17 +36,16 @@ pub struct Entry<'a> {
 /// The entries of a list in key order. Keys are compared as numbers, the first field weighing most.
 pub type List<'a> = Vec<Entry<'a>>;
 
-/// Reads the list that the cursor's part is, up to its last byte.
-pub fn read_list(kind: Kind, mut cursor: Cursor) -> Taken<List> {
+/// Reads the list that the cursor's part begins with, up to the end of its last entry.
+pub fn read_list<'a>(kind: Kind, cursor: &mut Cursor<'a>) -> Taken<List<'a>> {
     let count = cursor.u32_to(kind.most())? as usize;
     let mut list = List::with_capacity(count.min(cursor.left() / kind.fixed_length()));
-    let walked = read_entries(kind, count, &mut cursor, &mut list);
+    let walked = read_entries(kind, count, cursor, &mut list);
     // An entry is in the list as soon as its key is read. So a key that comes again in it was there
     // before whatever ended the walk, and one sort finds it.
     list.sort_by_key(|entry| entry.key);
     check_keys(&list)?;
     walked?;
-    cursor.finish()?;
     Ok(list)
 }
 
@@ -129,7 +129,7 @@ impl Kind {
             Kind::Cpus(version) => {
                 let length = u32_at(fixed, 4) as usize;
                 ask(is_cpu_length(version, length), SHAPE, start + 4)?;
-                read_cpu_state(version, length, cursor)?;
+                read_cpu_state(version, length, start + 4, cursor)?;
                 let blob = cursor.u64_to(MOST_PAYLOAD)?;
                 cursor.take(blob)?;
             }
@@ -159,7 +159,7 @@ pub fn is_cpu_length(version: u16, length: usize) -> bool {
     if version == 1 {
         length == 412
     } else {
-        length == CPU_PLAIN || length == CPU_EXTENDED
+        length == CPU_PLAIN || length >= CPU_EXTENDED
     }
 }
 
@@ -167,12 +167,16 @@ pub fn is_cpu_length(version: u16, length: usize) -> bool {
 const CPU_PLAIN: usize = 1183;
 const CPU_EXTENDED: usize = 1191;
 
-/// Reads a CPU state of a length that its version takes, and then asks for its values.
-pub fn read_cpu_state(version: u16, length: usize, cursor: &mut Cursor) -> Taken<()> {
+/// Reads a CPU state of a length that its version takes, and then asks for its values. A state above 1191 bytes
+/// has 1187 and as many as the u32 at 1183 says; else its length is wrong, which is said at `place`.
+pub fn read_cpu_state(version: u16, length: usize, place: usize, cursor: &mut Cursor) -> Taken<()> {
     let start = cursor.place();
     let state = cursor.take(length as u64)?;
     if version == 1 {
         return Ok(());
+    }
+    if length > CPU_EXTENDED {
+        ask(length as u64 == 1187 + u64::from(u32_at(state, 1183)), SHAPE, place)?;
     }
     let byte_to = |at: usize, most: u8| ask(state[at] <= most, VALUE, start + at);
     byte_to(144, 3)?;
@@ -180,6 +184,8 @@ pub fn read_cpu_state(version: u16, length: usize, cursor: &mut Cursor) -> Taken
     byte_to(260, 7)?;
     if length == CPU_EXTENDED {
         ask(u32_at(state, 1183) == 4, VALUE, start + 1183)?;
+    }
+    if length >= CPU_EXTENDED {
         byte_to(1187, 1)?;
         byte_to(1188, 1)?;
         byte_to(1189, 1)?;

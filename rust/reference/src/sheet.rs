@@ -3,6 +3,7 @@
 use std::ops::Range;
 
 use crate::answer::{answered, ask, Answer, Taken, ROOM, SHAPE, VALUE};
+use crate::cursor::u32_at;
 
 /// So many times these widths, one behind the other.
 type Group = (usize, &'static [usize]);
@@ -66,15 +67,20 @@ fn lay(fields: &mut Fields, groups: &[Group], mut at: usize) -> usize {
     at
 }
 
-/// The fields of a CPU state of a length, or SHAPE.
-fn cpu_fields(length: usize) -> Taken<Fields> {
+/// The fields of a CPU state, or SHAPE where its length is wrong. A state longer than with the extension has as many
+/// bytes behind the extension's length as that says.
+fn cpu_fields(state: &[u8]) -> Taken<Fields> {
     let mut fields = vec![];
     let plain = lay(&mut fields, CPU, 0);
-    if length == plain {
+    if state.len() == plain {
         return Ok(fields);
     }
     let extended = lay(&mut fields, EXTENSION, plain + EXTENSION_LENGTH);
-    ask(length == extended, SHAPE, 0)?;
+    ask(state.len() >= extended, SHAPE, 0)?;
+    if state.len() > extended {
+        let says = u32_at(state, plain) as u64;
+        ask((state.len() - plain - EXTENSION_LENGTH) as u64 == says, SHAPE, 0)?;
+    }
     Ok(fields)
 }
 
@@ -96,7 +102,8 @@ fn cpu_values(state: &[u8], fields: &Fields) -> Taken<()> {
     at_most(12, 7)?;
     if fields.len() > 22 {
         let place = fields[22][0].start - EXTENSION_LENGTH;
-        ask(state[place..place + 4] == [4, 0, 0, 0], VALUE, place)?;
+        let longer = state.len() > fields[25][0].end;
+        ask(longer || state[place..place + 4] == [4, 0, 0, 0], VALUE, place)?;
         at_most(22, 1)?;
         at_most(23, 1)?;
         at_most(24, 1)?;
@@ -118,7 +125,7 @@ fn hand(part: &[u8], out: &mut [u8]) -> Taken<usize> {
 /// The bytes of a field of a CPU state.
 pub fn cpu_field(state: &[u8], field: u32, index: u32, out: &mut [u8]) -> Answer {
     let mut read = || {
-        let fields = cpu_fields(state.len())?;
+        let fields = cpu_fields(state)?;
         let place = place(&fields, field, index)?;
         cpu_values(state, &fields)?;
         hand(&state[place], out)
@@ -138,7 +145,7 @@ pub fn mmu_field(state: &[u8], field: u32, index: u32, out: &mut [u8]) -> Answer
 /// A field of a CPU state set, if the state is accepted then.
 pub fn cpu_set(state: &mut [u8], field: u32, index: u32, value: &[u8]) -> Answer {
     let mut set = || {
-        let fields = cpu_fields(state.len())?;
+        let fields = cpu_fields(state)?;
         let new = replaced(state, place(&fields, field, index)?, value)?;
         cpu_values(&new, &fields)?;
         state.copy_from_slice(&new);

@@ -139,21 +139,23 @@ fn excludes(one: u32, other: u32) -> bool {
     one == other || matches!((one, other), (CPU, CPUS) | (CPUS, CPU) | (MMU, MMUS) | (MMUS, MMU))
 }
 
-/// Reads a known section's payload, and its entries if it is a list.
-fn read_payload(id: u32, version: u16, mut payload: Cursor) -> Taken<Option<List>> {
+/// Reads a known section's payload, and its entries if it is a list. What follows the last entry, or META's last
+/// field, is its tail.
+fn read_payload<'a>(id: u32, version: u16, mut payload: Cursor<'a>) -> Taken<Option<List<'a>>> {
     match id {
         META => read_meta(payload)?,
         CPU => {
             let length = payload.left();
-            ask(is_cpu_length(version, length), SHAPE, payload.place())?;
-            read_cpu_state(version, length, &mut payload)?;
+            let start = payload.place();
+            ask(is_cpu_length(version, length), SHAPE, start)?;
+            read_cpu_state(version, length, start, &mut payload)?;
         }
         MMU => ask(payload.left() == mmu_length(version), SHAPE, payload.place())?,
-        DEVICES => return read_list(Kind::Devices, payload).map(Some),
-        DISKS => return read_list(Kind::Disks, payload).map(Some),
+        DEVICES => return read_list(Kind::Devices, &mut payload).map(Some),
+        DISKS => return read_list(Kind::Disks, &mut payload).map(Some),
         RAM => {}
-        CPUS => return read_list(Kind::Cpus(version), payload).map(Some),
-        MMUS => return read_list(Kind::Mmus(version), payload).map(Some),
+        CPUS => return read_list(Kind::Cpus(version), &mut payload).map(Some),
+        MMUS => return read_list(Kind::Mmus(version), &mut payload).map(Some),
         _ => unreachable!("a known id"),
     }
     Ok(None)
@@ -169,7 +171,7 @@ fn read_meta(mut payload: Cursor) -> Taken<()> {
     if payload.byte_to(1)? == 1 {
         payload.text(MOST_LABEL)?;
     }
-    payload.finish()
+    Ok(())
 }
 
 // Tables.
@@ -221,7 +223,7 @@ fn write_canonical(sections: &[Section], out: &mut [u8]) -> Taken<usize> {
     Ok(needed)
 }
 
-/// Known sections in ascending id, then the others in the order found, without the empty lists.
+/// Known sections in ascending id, then the others in the order found, without the lists that count as absent.
 fn canonical_order<'s, 'a>(sections: &'s [Section<'a>]) -> Vec<&'s Section<'a>> {
     let mut ordered: Vec<_> = sections.iter().filter(|section| !section.is_absent()).collect();
     ordered.sort_by_key(|section| section.rank());
@@ -234,9 +236,15 @@ fn length_of(sections: &[&Section]) -> usize {
 }
 
 impl Section<'_> {
-    /// A list with no entries counts as absent.
+    /// A list with no entries and no tail counts as absent.
     fn is_absent(&self) -> bool {
-        self.list.as_ref().is_some_and(|list| list.is_empty())
+        self.list.as_ref().is_some_and(|list| list.is_empty() && self.tail(list).is_empty())
+    }
+
+    /// What follows the entries of a list.
+    fn tail(&self, list: &List) -> &[u8] {
+        let entries: usize = list.iter().map(|entry| entry.bytes.len()).sum();
+        &self.bytes[SECTION_HEADER + 4 + entries..]
     }
 
     fn rank(&self) -> u32 {
@@ -248,7 +256,7 @@ impl Section<'_> {
     }
 }
 
-/// Writes a section: a list with its header and its count as they are and its entries in key order.
+/// Writes a section: a list with its header and its count as they are, its entries in key order, and its tail.
 fn put_section(section: &Section, output: &mut Output) {
     match &section.list {
         None => output.put(section.bytes),
@@ -257,6 +265,7 @@ fn put_section(section: &Section, output: &mut Output) {
             for entry in list {
                 output.put(entry.bytes);
             }
+            output.put(section.tail(list));
         }
     }
 }
@@ -319,6 +328,7 @@ fn add(sections: &[Section], new: New, out: &mut [u8]) -> Taken<usize> {
     let none = List::new();
     let list = home.first().and_then(|home| home.list.as_ref());
     let list = list.unwrap_or(&none);
+    let tail = home.first().map_or(&[][..], |home| home.tail(list));
     let old_payload = home.first().map_or(4, |home| home.bytes.len() - SECTION_HEADER);
     let payload = old_payload as u64 + new.length();
     let needed = length_of(&others) + SECTION_HEADER + payload as usize;
@@ -335,15 +345,15 @@ fn add(sections: &[Section], new: New, out: &mut [u8]) -> Taken<usize> {
     for section in before {
         put_section(section, &mut output);
     }
-    put_grown_list(list, payload, &new, &mut output);
+    put_grown_list(list, tail, payload, &new, &mut output);
     for section in after {
         put_section(section, &mut output);
     }
     Ok(needed)
 }
 
-/// Writes the section of version 1 that holds the list's entries and the new one.
-fn put_grown_list(list: &List, payload: u64, new: &New, output: &mut Output) {
+/// Writes the section of version 1 that holds the list's entries and the new one, and its tail.
+fn put_grown_list(list: &List, tail: &[u8], payload: u64, new: &New, output: &mut Output) {
     let count = list.len() as u32 + 1;
     output.put(&new.id.to_le_bytes());
     output.put(&[1, 0, 0, 0]);
@@ -359,4 +369,5 @@ fn put_grown_list(list: &List, payload: u64, new: &New, output: &mut Output) {
     for entry in after {
         output.put(entry.bytes);
     }
+    output.put(tail);
 }

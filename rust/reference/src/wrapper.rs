@@ -28,7 +28,10 @@ fn read_wrapper(wrapper: &[u8]) -> Taken<List<'_>> {
     for (at, number) in [(0, MAGIC), (4, VERSION), (8, MAGIC), (12, VERSION)] {
         ask(wrapper[at..at + 4] == HEADER[at..at + 4], number, at)?;
     }
-    read_list(Kind::Controllers, Cursor::new(wrapper, HEADER.len(), wrapper.len()))
+    let mut cursor = Cursor::new(wrapper, HEADER.len(), wrapper.len());
+    let list = read_list(Kind::Controllers, &mut cursor)?;
+    cursor.finish()?;
+    Ok(list)
 }
 
 /// u16 address, u16 0 and the four tag bytes stand so in the entry; then the payload's place and length.
