@@ -9,7 +9,7 @@ use lib.ListN.{length, take, drop}
 use Rattle.answer.specs.Numbers.{SIZE, MANY, LIMIT, HAVE, ABSENT}
 use Rattle.answer.specs.Outcome.{Outcome, Checks, checked, fitting}
 use Rattle.wire.specs.Numbers.{bytesOf}
-use Rattle.order.specs.Entries.{join}
+use Rattle.order.specs.Entries.{join, startsFrom}
 use Rattle.entries.specs.Kinds.{payloadMost}
 use Rattle.lists.specs.Lists.{keyAt, listBytes}
 use Rattle.writer.specs.Runs.{entryBy}
@@ -120,6 +120,10 @@ pub record HoldsList (i : Side) (s index : List ℕ) (w : Site) : Type 0 where
   pub tail-in : length (oldTail i s) ≤ w .end
   pub tail : take (length (oldTail i s)) (drop (w .end - length (oldTail i s)) s) ≡ oldTail i s
   pub small : length s ≤ fileMost
+  -- where its entries stand in the order of their keys, so do their starts, and the tail behind them
+  pub wide : w .straight ≡ true → w .begin + 4 ≤ w .end
+  pub starts : w .straight ≡ true → siteStarts index w ≡ startsFrom 4 (oldEntries i s)
+  pub standing : w .straight ≡ true → drop 4 (siteBytes s w) ≡ join (oldEntries i s) ++ oldTail i s
 
 -- q is the number of an entry of the list, or how many it has; they are few, and its payload is no longer than a file
 pub record Fair (w : Site) (q : ℕ) : Type 0 where
@@ -176,7 +180,7 @@ lowBytes i s w c = join (take (c .low - w .first) (oldEntries i s))
 abbrev pub highBytes : Side → List ℕ → Site → Cut → List ℕ
 highBytes i s w c = join (drop (c .high - w .first) (oldEntries i s))
 
--- the file behind that place: those entries, the tail, and the ranks behind the list
+-- the file behind that place: those entries and the tail, and the ranks behind the list
 abbrev pub backBytes : Side → List ℕ → Site → Cut → List ℕ
 backBytes i s w c = highBytes i s w c ++ (oldTail i s ++ ranks (sectionsIn s) (idAt i) (9 - idAt i))
 

@@ -66,7 +66,7 @@ apart-finer key [] a = tt
 apart-finer key (x ∷ l) a = (every-imp (λ y n e. n (ap key e)) l (a .0), apart-finer key l (a .1))
 
 module _ {d : Description} (K : Lawful d) {s l : List ℕ} (h : Listed d s l) (o : inOrder l ≡ true) where
-  straight : l ≡ startsFrom 4 (entries d s)
+  pub straight : l ≡ startsFrom 4 (entries d s)
   straight =
       let m : List ℕ = startsFrom 4 (entries d s) in
       sym (up-sort (λ y. y) 0 l (order-up l o))
@@ -79,8 +79,10 @@ module _ {d : Description} (K : Lawful d) {s l : List ℕ} (h : Listed d s l) (o
       let is = list-sound K s (h .list) in
       rw (list-entries d s is) (first-starts (self d) s 4 (is .items) (is .tail) (is .cut) (is .are))
 
-  -- so the list is written as it stands, with its count
+  -- so its entries are in the order of their keys
+  pub straight-order : sort (d .key) (entries d s) ≡ entries d s
+  straight-order = sym (list-order K s (h .list)) ∙ ap (map (entryFrom d s)) straight ∙ standing
+
+  -- and the list is written as it stands, with its count
   pub straight-bytes : Bytes s → sortedBytes d s ≡ s
-  straight-bytes b =
-      let e : sort (d .key) (entries d s) ≡ entries d s = sym (list-order K s (h .list)) ∙ ap (map (entryFrom d s)) straight ∙ standing in
-      ap (λ (m : List (List ℕ)). listBytes m ++ tailOf d s) e ∙ sym (list-bytes K s (h .list) b)
+  straight-bytes b = ap (λ (m : List (List ℕ)). listBytes m ++ tailOf d s) straight-order ∙ sym (list-bytes K s (h .list) b)
