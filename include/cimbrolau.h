@@ -42,7 +42,7 @@ enum {
     CIMBROLAU_MANY = 8,      /* 65th section; at its start */
     CIMBROLAU_TWICE = 9,     /* known id again, CPU with CPUS, MMU with MMUS; at the later section's start */
     CIMBROLAU_SECVER = 10,   /* version of a section not taken; at its offset */
-    CIMBROLAU_SHAPE = 11,    /* field doesn't fit, at its start; state length wrong; bytes left over, at the first */
+    CIMBROLAU_SHAPE = 11,    /* field doesn't fit, at its start; state length wrong; bytes left over in wrappers and messages, at the first */
     CIMBROLAU_LIMIT = 12,    /* count or length over its bound, at its offset; message too long, at 0 */
     CIMBROLAU_KEY = 13,      /* key again; at the later entry's start */
     CIMBROLAU_TEXT = 14,     /* not UTF-8; at the first byte at which none continues, or the text's end; in adds and message writing at 0 */
@@ -209,7 +209,7 @@ struct cimbrolau_record cimbrolau_ring_take(uint8_t *region, size_t region_lengt
 /*
  * ---- register sheets: the fields of CPU and MMU states of version 2, by number and index
  *
- * A CPU state has 1183 bytes, or 1191 with the extension; an MMU state has 264. Any other length, a field or an index that the state lacks is CIMBROLAU_SHAPE
+ * A CPU state has 1183 bytes, 1191 with the extension, or more with an extension's length that matches; an MMU state has 264. Any other length, a field or an index that the state lacks is CIMBROLAU_SHAPE
  * at 0. The fields are those of document 002 in its order; a field that stands once has index 0. Numbers are little-endian.
  */
 enum cimbrolau_cpu_field_number {

@@ -3,13 +3,13 @@
 use mathlib.Core.Path.{_≡_, refl, sym, ap, _∙_, subst}
 use mathlib.Core.Logic.{_↔_, _⊎_, inl, inr}
 use mathlib.Core.Bool.{Bool, true, false, _&&_, _||_, cond}
-use mathlib.Core.List.{List, [], _∷_, _++_}
-use Prim.Native.Nat.{ℕ, _+_, _*_, _≤_, _<_}
+use mathlib.Core.List.{List, [], _∷_, _++_, append-nil}
+use Prim.Native.Nat.{ℕ, _+_, _-_, _*_, _≤_, _<_}
 use native.Mathlib.Omega.{arith}
 use lib.Dec.{leb, ltb, eqb}
-use lib.ListN.{length, take, drop, getD, length-drop}
-use lib.Seq.{length-take-le}
-use borrow.Author.Tests.{leb-true, leb-false, le-leb, lt-ltb, eq-eqb, eqb-true}
+use lib.ListN.{length, take, drop, getD, length-append, length-drop, take-append-drop, drop-of-length-le}
+use lib.Seq.{length-take-le, take-all, take-at, take-take, drop-append-seam}
+use borrow.Author.Tests.{leb-true, leb-false, le-leb, lt-leb, lt-ltb, eq-eqb, eqb-true, eqb-false}
 use Rattle.answer.specs.declared.Answer.{Answer}
 use Rattle.answer.specs.Numbers.{SHAPE, VALUE, isAmong}
 use Rattle.answer.specs.Outcome.{Outcome, taken, refused, Checks, checked, Pass, First, room, fitting}
@@ -18,7 +18,9 @@ use Rattle.answer.proofs.Checks.{pass-checked, checked-pass, checked-append, as
 use Rattle.answer.proofs.Outcomes.{taken-is, taken-refused}
 use Rattle.answer.proofs.Firsts.{checked-first}
 use Rattle.wire.specs.Numbers.{Bytes, leAt, bytesOf}
-use Rattle.wire.proofs.Numbers.{bytesOf-leAt}
+use Rattle.wire.proofs.Numbers.{bytesOf-leAt, leAt-append}
+use Rattle.entries.specs.States.{cpuLength, extends, cpuSized, registers, switches}
+use Rattle.canon.proofs.Writing.{drop-take}
 use Rattle.wire.specs.Parts.{splice}
 use Rattle.wire.proofs.Parts.{length-splice}
 use Rattle.access.specs.declared.Access.{Access}
@@ -28,15 +30,15 @@ use Rattle.fields.specs.declared.State.{State}
 use Rattle.fields.specs.declared.State.the-variants.{Cpu, Mmu}
 use Rattle.fields.specs.declared.Row.{Row}
 use Rattle.fields.specs.Layout.{rowAt}
-use Rattle.fields.specs.Fields.{lengths, listed, valueChecks, stateChecks, placeOf, hasIn, bytesAt, fieldChecks, fieldCall, setTo, setChecks, setCall, changed, Changes}
+use Rattle.fields.specs.Fields.{rightLength, listed, valueChecks, stateChecks, placeOf, hasIn, bytesAt, fieldChecks, fieldCall, setTo, setChecks, setCall, changed, Changes}
 use Rattle.fields.proofs.Bytes.{before, behind, read-back}
 use Rattle.fields.proofs.Splices.{splice-back}
-use Rattle.fields.proofs.Outcomes.{set-tried}
+use Rattle.fields.proofs.Outcomes.{set-tried, set-right}
 use Rattle.sheet.specs.declared.CpuSheet.{CpuSheet}
 use Rattle.sheet.specs.declared.MmuSheet.{MmuSheet}
 use Rattle.sheet.specs.declared.CpuShown.{CpuShown}
 use Rattle.sheet.specs.declared.MmuShown.{MmuShown}
-use Rattle.sheet.specs.Sheet.{cpuOf, cpuOver, mmuOf, mmuOver}
+use Rattle.sheet.specs.Sheet.{cpuOf, fieldsOver, cpuOver, mmuOf, mmuOver}
 use Rattle.sheet.specs.Members.{cpuMember, mmuMember}
 use Rattle.sheet.specs.Calls.{matches, cpuCount, cpuShown, mmuShown, cpuCall, mmuCall, cpuOverChecks, cpuOverCall, mmuOverCall}
 use Rattle.sheet.proofs.Back.{cpu-over-plain, cpu-over-extended, mmu-over}
@@ -52,7 +54,7 @@ accept-pass k s e = asked-pass (stateChecks k s) (sym e)
 pass-accept : (k : State) (s : List ℕ) → Pass (stateChecks k s) → Accepted k s
 pass-accept k s h = pass-checked (stateChecks k s) (taken tt) h
 
-right : (k : State) (s : List ℕ) → Accepted k s → lengths k (length s) ≡ true
+right : (k : State) (s : List ℕ) → Accepted k s → rightLength k s ≡ true
 unfolding stateChecks
 right k s e = accept-pass k s e .0
 
@@ -124,8 +126,7 @@ module _ (k : State) (n i : ℕ) (v s : List ℕ) where
       let p = q .0 in
       let same : setTo r i v s ≡ t = taken-is (q .1) in
       let w : length v ≡ r .width = eqb-true (length v) (r .width) (p .1 .1 .0) in
-      let g = within r i (length s) (p .1 .0) in
-      let a : Accepted k (setTo r i v s) = sym (set-tried k r i v s (taken tt) (p .0) (p .1 .0) (p .1 .1 .0) (omega (arith, g, w))) ∙ pass-checked (setChecks k r i v s) (taken tt) p in
+      let a : Accepted k (setTo r i v s) = sym (set-tried k r i v s (taken tt) (p .0) (p .1 .0) (p .1 .1 .0)) ∙ pass-checked (setChecks k r i v s) (taken tt) p in
       (p .1 .0, w, subst (λ (l : List ℕ). Accepted k l) same a, sym same)
 
   set-from : (t : List ℕ) → Has k n i s × (length v ≡ r .width) × Accepted k t × (t ≡ setTo r i v s) → setCall k s n i v ≡ taken t
@@ -133,9 +134,8 @@ module _ (k : State) (n i : ℕ) (v s : List ℕ) where
   set-from t h =
       let new = setTo r i v s in
       let a : Accepted k new = subst (λ (l : List ℕ). Accepted k l) (h .3) (h .2) in
-      let g = within r i (length s) (h .0) in
-      let long : lengths k (length s) ≡ true = subst (λ (m : ℕ). lengths k m ≡ true) (set-length (h .0) (h .1)) (right k new a) in
-      set-tried k r i v s (taken new) long (h .0) (eq-eqb (length v) (r .width) (h .1)) (omega (arith, g, h .1)) ∙ pass-checked (stateChecks k new) (taken new) (accept-pass k new a) ∙ ap taken (sym (h .3))
+      let long : rightLength k s ≡ true = sym (set-right k n i v s (h .0) (h .1)) ∙ right k new a in
+      set-tried k r i v s (taken new) long (h .0) (eq-eqb (length v) (r .width) (h .1)) ∙ pass-checked (stateChecks k new) (taken new) (accept-pass k new a) ∙ ap taken (sym (h .3))
 
   set-refuses : (m p : ℕ) → (setCall k s n i v ≡ refused m p) ↔ First (setChecks k r i v s) m p
   unfolding setCall
@@ -199,8 +199,8 @@ number-of {A} (c ∷ l) a m p h e = go (c .0) e (number-of l a m p (h .1))
     go false e next = let z : c .1 ≡ m = cc in subst OfSets z (h .0)
 
 set-numbers : (k : State) (n i : ℕ) (v s : List ℕ) (m p : ℕ) → setCall k s n i v ≡ refused m p → OfSets m
-unfolding setCall setChecks
-set-numbers k n i v s m p e = number-of (setChecks k (rowAt k n) i v s) (setTo (rowAt k n) i v s) m p (refl, (refl, (refl, all-values (listed k (length s)) (setTo (rowAt k n) i v s)))) e
+unfolding setCall setChecks stateChecks
+set-numbers k n i v s m p e = number-of (setChecks k (rowAt k n) i v s) (setTo (rowAt k n) i v s) m p (refl, (refl, (refl, (refl, all-values (listed k (length (setTo (rowAt k n) i v s))) (setTo (rowAt k n) i v s))))) e
 
 -- ---- sheets
 
@@ -225,37 +225,107 @@ matches-self : (len : ℕ) (t : Bool) → leb 1191 len ≡ t → cond t (leb 119
 matches-self len true e = e
 matches-self len false e = lt-ltb len 1191 (leb-false 1191 len e)
 
--- the extension's length is 4 in every accepted state that has one
-four : (s : List ℕ) → Bytes s → length s ≡ 1191 → Accepted Cpu s → take 4 (drop 1183 s) ≡ bytesOf 4 4
+-- what the extension's length says in every accepted state that has one
+says : (s : List ℕ) → Accepted Cpu s → 1191 ≤ length s → leAt 4 s 1183 ≡ length s - 1187
 unfolding stateChecks
-four s b e a =
-    let p = subst (λ (k : ℕ). Pass (valueChecks (listed Cpu k) s)) e (accept-pass Cpu s a .1) in
-    let q = and-true (leb 4 (leAt 4 s 1183)) (leb (leAt 4 s 1183) 4) (p .1 .1 .1 .0) in
-    let z : leAt 4 s 1183 ≡ 4 = omega (arith, leb-true 4 (leAt 4 s 1183) (q .0), leb-true (leAt 4 s 1183) 4 (q .1)) in
-    sym (bytesOf-leAt 4 s 1183 b (omega arith)) ∙ ap (bytesOf 4) z
-
-over-is : (s t : List ℕ) → Bytes s → Bytes t → Accepted Cpu s → Accepted Cpu t → length t ≡ length s → cpuOver (cpuOf s) t ≡ s
-over-is s t b d a c n = go (eqb (length s) 1183) refl (eqb (length s) 1191) refl (right Cpu s a)
+says s a h = go (eqb (length s) 1191) refl
   where
-    go : (x : Bool) → eqb (length s) 1183 ≡ x → (y : Bool) → eqb (length s) 1191 ≡ y → (x || y) ≡ true → cpuOver (cpuOf s) t ≡ s
-    go true p y q h = cpu-over-plain s t b n (eqb-true (length s) 1183 p)
-    go false p true q h = let e = eqb-true (length s) 1191 q in cpu-over-extended s t b n e (four s b e a ∙ sym (four t d (n ∙ e) c))
-    go false p false q h = let z : _≡_ {A = ℕ} 0 1 = cc in absurd (omega arith)
+    longer : 1191 < length s → (leb (length s) 1191 || eqb (length s) (1187 + leAt 4 s 1183)) ≡ true → leAt 4 s 1183 ≡ length s - 1187
+    longer g q = omega (arith, eqb-true (length s) (1187 + leAt 4 s 1183) (rw (lt-leb (length s) 1191 g) at q))
 
-cpu-over-is : (s t : List ℕ) → Bytes s → Bytes t → Accepted Cpu s → Accepted Cpu t → length t ≡ length s → cpuOverCall (cpuOf s) t ≡ taken s
-unfolding cpuOverCall cpuOverChecks stateChecks
+    go : (x : Bool) → eqb (length s) 1191 ≡ x → leAt 4 s 1183 ≡ length s - 1187
+    go true e =
+        let p = subst (λ (k : ℕ). Pass (valueChecks (listed Cpu k) s)) (eqb-true (length s) 1191 e) (accept-pass Cpu s a .1) in
+        let q = and-true (leb 4 (leAt 4 s 1183)) (leb (leAt 4 s 1183) 4) (p .1 .1 .1 .0) in
+        omega (arith, eqb-true (length s) 1191 e, leb-true 4 (leAt 4 s 1183) (q .0), leb-true (leAt 4 s 1183) 4 (q .1))
+    go false e = longer (omega (arith, eqb-false (length s) 1191 e)) (and-true (cpuLength 2 (length s)) (extends s) (right Cpu s a) .1)
+
+word : (s t : List ℕ) → Bytes s → Bytes t → Accepted Cpu s → Accepted Cpu t → length t ≡ length s → 1191 ≤ length s → take 4 (drop 1183 s) ≡ take 4 (drop 1183 (take 1191 t))
+word s t b d a c n h =
+    sym (bytesOf-leAt 4 s 1183 b (omega arith)) ∙ ap (bytesOf 4) (says s a h ∙ ap (λ (k : ℕ). k - 1187) (sym n) ∙ sym (says t c (omega arith))) ∙ bytesOf-leAt 4 t 1183 d (omega arith)
+    ∙ sym (ap (take 4) (drop-take 1183 1191 t) ∙ take-take 4 8 (drop 1183 t) (omega arith))
+
+over-is : (s t : List ℕ) → Bytes s → Bytes t → Accepted Cpu s → Accepted Cpu t → length t ≡ length s → cpuOver (cpuOf s) t ≡ take 1191 s ++ drop 1191 t
+over-is s t b d a c n = ap (λ (l : List ℕ). l ++ drop 1191 t) (go (leb 1191 (length s)) refl)
+  where
+    short : length s < 1191 → (eqb (length s) 1183 || leb 1191 (length s)) ≡ true → length s ≡ 1183
+    short g q = eqb-true (length s) 1183 (or-left (eqb (length s) 1183) (rw (lt-leb 1191 (length s) g) at q))
+      where
+        or-left : (x : Bool) → (x || false) ≡ true → x ≡ true
+        or-left true e = refl
+        or-left false e = e
+
+    go : (x : Bool) → leb 1191 (length s) ≡ x → fieldsOver (cpuOf s) (take 1191 t) ≡ take 1191 s
+    go true e =
+        let h : 1191 ≤ length s = leb-true 1191 (length s) e in
+        let l : length (take 1191 t) ≡ 1191 = length-take-le 1191 t (omega arith) in
+        cpu-over-extended s (take 1191 t) b (omega arith) l (word s t b d a c n h)
+    go false e =
+        let h : length s < 1191 = leb-false 1191 (length s) e in
+        let z : length s ≡ 1183 = short h (and-true (cpuLength 2 (length s)) (extends s) (right Cpu s a) .0) in
+        let same : take 1191 t ≡ t = take-all 1191 t (omega arith) in
+        ap (fieldsOver (cpuOf s)) same ∙ cpu-over-plain s t b (omega arith) z (n ∙ z) ∙ sym (take-all 1191 s (omega arith))
+
+-- ---- a state that has the first 1191 bytes of another, and its length
+
+abbrev Near : List (ℕ × ℕ × ℕ × ℕ) → Type 0
+Near [] = Unit {0}
+Near (x ∷ l) = (x .0 + x .1 ≤ 1191) × Near l
+
+near-listed : (n : ℕ) → Near (listed Cpu n)
+near-listed n = go (leb 1191 n) (eqb n 1191)
+  where
+    go : (x y : Bool) → Near (elim x as (λ _. List (ℕ × ℕ × ℕ × ℕ)) [ true ↦ registers ++ (elim y as (λ _. List (ℕ × ℕ × ℕ × ℕ)) [ true ↦ (1183, 4, 4, 4) ∷ switches | false ↦ switches ]) | false ↦ registers ])
+    go true true = (omega arith, (omega arith, (omega arith, (omega arith, (omega arith, (omega arith, (omega arith, tt)))))))
+    go true false = (omega arith, (omega arith, (omega arith, (omega arith, (omega arith, (omega arith, tt))))))
+    go false y = (omega arith, (omega arith, (omega arith, tt)))
+
+module _ (s u : List ℕ) (n : length u ≡ length s) (h : 1191 ≤ length s) (f : take 1191 u ≡ take 1191 s) where
+  front : (x : List ℕ) → 1191 ≤ length x → (w p : ℕ) → p + w ≤ 1191 → leAt w x p ≡ leAt w (take 1191 x) p
+  front x g w p k =
+      let l : length (take 1191 x) ≡ 1191 = length-take-le 1191 x g in
+      ap (λ (y : List ℕ). leAt w y p) (sym (take-append-drop 1191 x)) ∙ leAt-append w (take 1191 x) (drop 1191 x) p (omega arith)
+
+  agree : (w p : ℕ) → p + w ≤ 1191 → leAt w u p ≡ leAt w s p
+  agree w p k = front u (omega arith) w p k ∙ ap (λ (y : List ℕ). leAt w y p) f ∙ sym (front s h w p k)
+
+  rows-agree : (l : List (ℕ × ℕ × ℕ × ℕ)) → Near l → valueChecks l u ≡ valueChecks l s
+  rows-agree [] k = refl
+  rows-agree (x ∷ l) k = cc (agree (x .1) (x .0) (k .0), rows-agree l (k .1))
+
+  accepted-too : Accepted Cpu s → Accepted Cpu u
+  unfolding stateChecks
+  accepted-too a =
+      ap (λ (m : ℕ). asked ((cpuLength 2 m && (leb m 1191 || eqb m (1187 + leAt 4 u 1183)), SHAPE, 0) ∷ valueChecks (listed Cpu m) u)) n
+      ∙ ap (λ (x : ℕ). asked ((cpuLength 2 (length s) && (leb (length s) 1191 || eqb (length s) (1187 + x)), SHAPE, 0) ∷ valueChecks (listed Cpu (length s)) u)) (agree 4 1183 (omega arith))
+      ∙ ap (λ (r : Checks). asked ((cpuSized 2 s, SHAPE, 0) ∷ r)) (rows-agree (listed Cpu (length s)) (near-listed (length s)))
+      ∙ a
+
+mixed-accepted : (s t : List ℕ) → length t ≡ length s → Accepted Cpu s → Accepted Cpu (take 1191 s ++ drop 1191 t)
+mixed-accepted s t n a = go (leb 1191 (length s)) refl
+  where
+    go : (x : Bool) → leb 1191 (length s) ≡ x → Accepted Cpu (take 1191 s ++ drop 1191 t)
+    go true e =
+        let h : 1191 ≤ length s = leb-true 1191 (length s) e in
+        let l : length (take 1191 s) ≡ 1191 = length-take-le 1191 s h in
+        accepted-too s (take 1191 s ++ drop 1191 t) (omega (arith, length-append (take 1191 s) (drop 1191 t), length-drop 1191 t)) h (take-at (take 1191 s) (drop 1191 t) 1191 l) a
+    go false e =
+        let h : length s < 1191 = leb-false 1191 (length s) e in
+        let g : length t ≤ 1191 = omega arith in
+        subst (Accepted Cpu) (sym (ap (λ (l : List ℕ). l ++ drop 1191 t) (take-all 1191 s (omega arith)) ∙ ap (λ (l : List ℕ). s ++ l) (drop-of-length-le t g) ∙ append-nil s)) a
+
+cpu-over-is : (s t : List ℕ) → Bytes s → Bytes t → Accepted Cpu s → Accepted Cpu t → length t ≡ length s → cpuOverCall (cpuOf s) t ≡ taken (take 1191 s ++ drop 1191 t)
+unfolding cpuOverCall cpuOverChecks
 cpu-over-is s t b d a c n =
-    let p = accept-pass Cpu s a in
     let is = over-is s t b d a c n in
     let m : matches (cpuOf s .extension) (length t) ≡ true = subst (λ (k : ℕ). matches (cpuOf s .extension) k ≡ true) (sym n) (matches-self (length s) (leb 1191 (length s)) refl) in
-    let v : Pass (valueChecks (listed Cpu (length t)) s) = subst (λ (k : ℕ). Pass (valueChecks (listed Cpu k) s)) (sym n) (p .1) in
-    pass-checked (cpuOverChecks (cpuOf s) t) (taken (cpuOver (cpuOf s) t)) (right Cpu t c, (m, subst (λ (l : List ℕ). Pass (valueChecks (listed Cpu (length t)) l)) (sym is) v)) ∙ ap taken is
+    pass-checked (cpuOverChecks (cpuOf s) t) (taken (cpuOver (cpuOf s) t)) (right Cpu t c, (m, accept-pass Cpu (cpuOver (cpuOf s) t) (subst (Accepted Cpu) (sym is) (mixed-accepted s t n a)))) ∙ ap taken is
 
 cpu-over : (s t new : List ℕ) (x : CpuShown) (r : Answer) → Bytes s → Bytes t → Accepted Cpu s → Accepted Cpu t → length t ≡ length s → x ≡ cpuShown (cpuCall s)
-    → Changes (cpuCount (length t)) (cpuOverCall (x .sheet) t) t r new → (r .number ≡ 0) × (new ≡ s)
+    → Changes (cpuCount (length t)) (cpuOverCall (x .sheet) t) t r new → (r .number ≡ 0) × (new ≡ take 1191 s ++ drop 1191 t)
 cpu-over s t new x r b d a c n e k =
     let shown : x .sheet ≡ cpuOf s = ap (λ (y : CpuShown). y .sheet) (e ∙ ap cpuShown (cpu-from s (cpuOf s) (a, refl))) in
-    let o : cpuOverCall (x .sheet) t ≡ taken s = ap (λ (y : CpuSheet). cpuOverCall y t) shown ∙ cpu-over-is s t b d a c n in
+    let o : cpuOverCall (x .sheet) t ≡ taken (take 1191 s ++ drop 1191 t) = ap (λ (y : CpuSheet). cpuOverCall y t) shown ∙ cpu-over-is s t b d a c n in
     (ap (λ (y : Answer). y .number) (k .answers) ∙ rw o, k .leaves ∙ ap (λ (y : Outcome (List ℕ)). changed y t) o)
 
 over-to : (c : CpuSheet) (s t : List ℕ) → cpuOverCall c s ≡ taken t → Pass (cpuOverChecks c s) × (t ≡ cpuOver c s)
@@ -288,7 +358,7 @@ unfolding mmuOverCall
 mmu-over-is s t b a c =
     let e = eqb-true (length s) 264 (right Mmu s a) in
     let f = eqb-true (length t) 264 (right Mmu t c) in
-    pass-checked ((lengths Mmu (length t), SHAPE, 0) ∷ []) (taken (mmuOver (mmuOf s) t)) (right Mmu t c, tt) ∙ ap taken (mmu-over s t b (f ∙ sym e) e)
+    pass-checked ((rightLength Mmu t, SHAPE, 0) ∷ []) (taken (mmuOver (mmuOf s) t)) (right Mmu t c, tt) ∙ ap taken (mmu-over s t b (omega arith) e f)
 
 mmu-over-back : (s t new : List ℕ) (x : MmuShown) (r : Answer) → Bytes s → Accepted Mmu s → Accepted Mmu t → x ≡ mmuShown (mmuCall s) → Changes 264 (mmuOverCall (x .sheet) t) t r new
     → (r .number ≡ 0) × (new ≡ s)
@@ -316,7 +386,8 @@ sheet = record {
     members = cpu-members;
     extended = λ s c e. ap (λ (x : CpuSheet). x .extension .there) (cpu-to s c e .1);
     over = cpu-over;
-    back = λ s new x r b a e c. cpu-over s s new x r b b a a refl e c;
+    past = λ c s. sym (drop-append-seam (fieldsOver c (take 1191 s)) (drop 1191 s));
+    back = λ s new x r b a e c. let q = cpu-over s s new x r b b a a refl e c in (q .0, q .1 ∙ take-append-drop 1191 s);
     over-takes = λ c s t. (over-to c s t, over-from c s t);
     over-refuses = over-refuses;
   };

@@ -8,7 +8,7 @@ use mathlib.Core.Bool.{true}
 use mathlib.Core.List.{List, [], _∷_, _++_}
 use Prim.Native.Nat.{ℕ, _+_, _≤_, _<_}
 use lib.Dec.{leb}
-use lib.ListN.{length, getD}
+use lib.ListN.{length, take, drop, getD}
 use Rattle.answer.specs.declared.Answer.{Answer}
 use Rattle.answer.specs.Numbers.{SHAPE, VALUE, isAmong}
 use Rattle.answer.specs.Outcome.{Outcome, taken, refused, Checks, Pass, First, room, fitting}
@@ -24,7 +24,7 @@ use Rattle.sheet.specs.declared.CpuSheet.{CpuSheet}
 use Rattle.sheet.specs.declared.MmuSheet.{MmuSheet}
 use Rattle.sheet.specs.declared.CpuShown.{CpuShown}
 use Rattle.sheet.specs.declared.MmuShown.{MmuShown}
-use Rattle.sheet.specs.Sheet.{cpuOf, cpuOver, mmuOf, mmuOver}
+use Rattle.sheet.specs.Sheet.{cpuOf, fieldsOver, cpuOver, mmuOf, mmuOver}
 use Rattle.sheet.specs.Members.{cpuMember, mmuMember}
 use Rattle.sheet.specs.Calls.{cpuCount, cpuShown, mmuShown, cpuCall, mmuCall, cpuOverChecks, cpuOverCall, mmuOverCall}
 
@@ -67,9 +67,11 @@ pub record CpuSheets : Type 0 where
   -- each member is the field that `cpu_field` reads
   pub members : (s : List ℕ) (c : CpuSheet) → Bytes s → cpuCall s ≡ taken c → (have n i : ℕ) → Has Cpu n i s → fieldCall Cpu have s n i ≡ fitting have (cpuMember c n i)
   pub extended : (s : List ℕ) (c : CpuSheet) → cpuCall s ≡ taken c → c .extension .there ≡ leb 1191 (length s)
-  -- the sheet of one accepted state written over another of its length: every byte is the first's
+  -- the sheet of one accepted state written over another of its length: every byte up to 1191 is the first's, and those behind stay
   pub over : (s t new : List ℕ) (x : CpuShown) (r : Answer) → Bytes s → Bytes t → Accepted Cpu s → Accepted Cpu t → length t ≡ length s → x ≡ cpuShown (cpuCall s)
-      → Changes (cpuCount (length t)) (cpuOverCall (x .sheet) t) t r new → (r .number ≡ 0) × (new ≡ s)
+      → Changes (cpuCount (length t)) (cpuOverCall (x .sheet) t) t r new → (r .number ≡ 0) × (new ≡ take 1191 s ++ drop 1191 t)
+  -- whatever the sheet, bytes past 1191 stay
+  pub past : (c : CpuSheet) (s : List ℕ) → drop 1191 s ≡ drop (length (fieldsOver c (take 1191 s))) (cpuOver c s)
   -- read and written back over its state: nothing changes
   pub back : (s new : List ℕ) (x : CpuShown) (r : Answer) → Bytes s → Accepted Cpu s → x ≡ cpuShown (cpuCall s) → Changes (cpuCount (length s)) (cpuOverCall (x .sheet) s) s r new
       → (r .number ≡ 0) × (new ≡ s)

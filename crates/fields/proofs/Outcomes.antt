@@ -79,7 +79,7 @@ pub set-right : (k : State) (n i : ℕ) (v s : List ℕ) → hasIn (rowAt k n) i
 set-right Mmu n i v s h w =
     let r = rowAt Mmu n in
     let b = and-true (ltb i (r .count)) (leb (placeOf r i + r .width) (length s)) h in
-    ap (λ (m : ℕ). eqb m (mmuLength 2)) (length-splice (placeOf r i) v s (omega (arith, w, leb-true _ _ (b .1))))
+    ap (λ (m : ℕ). eqb m (mmuLength 2)) (length-splice (placeOf r i) v s (omega (arith, w, leb-true (placeOf r i + r .width) (length s) (b .1))))
 set-right Cpu n i v s h w =
     ap (λ (m : ℕ). cpuLength 2 m && extends (setTo r i v s)) long ∙ ap (λ (t : Bool). cpuLength 2 (length s) && t) (extends-same (leb (length s) 1191) refl)
   where
@@ -87,7 +87,7 @@ set-right Cpu n i v s h w =
     r = rowAt Cpu n
 
     fits : placeOf r i + length v ≤ length s
-    fits = let b = and-true (ltb i (r .count)) (leb (placeOf r i + r .width) (length s)) h in omega (arith, w, leb-true _ _ (b .1))
+    fits = let b = and-true (ltb i (r .count)) (leb (placeOf r i + r .width) (length s)) h in omega (arith, w, leb-true (placeOf r i + r .width) (length s) (b .1))
 
     long : length (setTo r i v s) ≡ length s
     long = length-splice (placeOf r i) v s fits

@@ -100,7 +100,7 @@ apart n i h = go (rowAt Cpu n) h (leb (rowAt Cpu n .at + (rowAt Cpu n .count - 1
     go : (r : Row) → i < r .count → (b : Bool) → leb (r .at + (r .count - 1) * r .step + r .width) 1183 ≡ b → (b || leb 1187 (r .at)) ≡ true → (r .at + i * r .step + r .width ≤ 1183) ⊎ (1187 ≤ r .at + i * r .step)
     go r g true e k =
         let m : i ≤ r .count - 1 = omega arith in
-        inl (omega (arith, leb-true _ _ e, mul-le-mul-right (r .step) m))
+        inl (omega (arith, leb-true (r .at + (r .count - 1) * r .step + r .width) 1183 e, mul-le-mul-right (r .step) m))
     go r g false e k = inr (omega (arith, leb-true 1187 (r .at) k))
 
 -- ---- a field's place, against the code's tests

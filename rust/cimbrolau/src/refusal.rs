@@ -29,7 +29,7 @@ pub enum Kind {
     Twice = 9,
     /// A section's version is not taken.
     SecVer = 10,
-    /// A field does not fit, a state has the wrong length, or bytes are left over.
+    /// A field does not fit, a state has the wrong length, or bytes are left over in a wrapper or a message.
     Shape = 11,
     /// A count or a length is over its bound, or a message is too long.
     Limit = 12,

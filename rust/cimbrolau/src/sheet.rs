@@ -335,7 +335,7 @@ impl Fields<'_> {
 }
 
 impl CpuSheet {
-    /// The sheet of a state of 1183 bytes, or of 1191 with the extension.
+    /// The sheet of a state of 1183 bytes, or of 1191 and more with the extension.
     ///
     /// ```
     /// use cimbrolau::sheet::CpuSheet;

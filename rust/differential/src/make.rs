@@ -143,7 +143,19 @@ pub fn distinct<K: Ord>(
     keys
 }
 
-/// A valid CPU state. In version 2 the listed bytes have values at their edges.
+/// A valid CPU state. In version 2 the listed bytes have values at their edges; some extended ones are longer.
+pub fn any_cpu_state(random: &mut Random, version: u16, extended: bool) -> Vec<u8> {
+    let mut state = cpu_state(random, version, extended);
+    if version == 2 && extended && random.once_in(4) {
+        let more = 1 + random.below(40);
+        state.extend(random.bytes(more));
+        let says = state.len() as u32 - 1187;
+        state[1183..1187].copy_from_slice(&says.to_le_bytes());
+    }
+    state
+}
+
+/// The same with no more than the extension.
 pub fn cpu_state(random: &mut Random, version: u16, extended: bool) -> Vec<u8> {
     if version == 1 {
         return random.bytes(412);
@@ -194,24 +206,46 @@ fn section_ids(random: &mut Random) -> Vec<u32> {
 fn known_or_other(random: &mut Random, made: &mut Made, id: u32) {
     let version = random.pick(&[1, 2]);
     match id {
-        1 => made.section(1, 1, 0, |made| meta(random, made)),
+        1 => made.section(1, 1, 0, |made| {
+            meta(random, made);
+            tail(random, made);
+        }),
         2 => made.section(2, version, 0, |made| {
             let extended = random.once_in(2);
-            made.cpu_state(&cpu_state(random, version, extended));
+            made.cpu_state(&any_cpu_state(random, version, extended));
         }),
         3 => made.section(3, version, 0, |made| {
             made.raw(&mmu_state(random, version));
         }),
-        4 => made.section(4, 1, 0, |made| devices(random, made)),
-        5 => made.section(5, 1, 0, |made| disks(random, made)),
+        4 => made.section(4, 1, 0, |made| {
+            devices(random, made);
+            tail(random, made);
+        }),
+        5 => made.section(5, 1, 0, |made| {
+            disks(random, made);
+            tail(random, made);
+        }),
         6 => made.section(6, 1, 0, |made| opaque(random, made)),
-        7 => made.section(7, version, 0, |made| cpus(random, made, version)),
-        8 => made.section(8, version, 0, |made| mmus(random, made, version)),
+        7 => made.section(7, version, 0, |made| {
+            cpus(random, made, version);
+            tail(random, made);
+        }),
+        8 => made.section(8, version, 0, |made| {
+            mmus(random, made, version);
+            tail(random, made);
+        }),
         _ => {
             let (version, flags) = (small_id(random), small_id(random));
             made.section(id, version, flags, |made| opaque(random, made))
         }
     };
+}
+
+/// What a newer saver appends, now and then.
+fn tail(random: &mut Random, made: &mut Made) {
+    if random.once_in(4) {
+        opaque(random, made);
+    }
 }
 
 fn opaque(random: &mut Random, made: &mut Made) {
@@ -258,7 +292,7 @@ fn cpus(random: &mut Random, made: &mut Made, version: u16) {
     for key in keys {
         let extended = random.once_in(2);
         let blob = random.below(12);
-        made.cpu(key, &cpu_state(random, version, extended), &random.bytes(blob));
+        made.cpu(key, &any_cpu_state(random, version, extended), &random.bytes(blob));
     }
 }
 

@@ -14,6 +14,7 @@ mod orders;
 mod rings;
 mod sheets;
 mod snapshots;
+mod tails;
 mod wrappers;
 
 use std::time::Instant;
@@ -38,6 +39,10 @@ const GROUPS: &[Group] = &[
     ("snapshots: texts", snapshots::texts),
     ("lists: every order of a few", orders::few),
     ("lists: many in several orders", orders::many),
+    ("tails: behind lists", tails::behind_lists),
+    ("tails: counts that are too low", tails::low_counts),
+    ("tails: behind META, and where there are none", tails::behind_meta),
+    ("tails: longer CPU states", tails::longer_states),
     ("wrappers: valid", wrappers::valid),
     ("wrappers: every address", wrappers::every_address),
     ("wrappers: every byte changed", wrappers::every_byte),

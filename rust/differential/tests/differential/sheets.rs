@@ -5,7 +5,8 @@ use differential::random::Random;
 use differential::sheets::State::{self, Cpu, Mmu};
 
 /// The lengths of states, and how many fields each kind has.
-const SHAPES: [(State, usize, u32); 3] = [(Cpu, 1183, 26), (Cpu, 1191, 26), (Mmu, 264, 11)];
+const SHAPES: [(State, usize, u32); 4] =
+    [(Cpu, 1183, 26), (Cpu, 1191, 26), (Cpu, 1250, 26), (Mmu, 264, 11)];
 
 /// Every field and index beyond the last, and some far from it.
 const FAR: [u32; 4] = [64, 255, 1 << 16, u32::MAX];
@@ -19,7 +20,7 @@ fn state(random: &mut Random, kind: State, length: usize) -> Vec<u8> {
         state[260] %= 8;
     }
     if kind == Cpu && length >= 1191 {
-        state[1183..1187].copy_from_slice(&[4, 0, 0, 0]);
+        state[1183..1187].copy_from_slice(&(length as u32 - 1187).to_le_bytes());
         for byte in &mut state[1187..1190] {
             *byte %= 2;
         }
@@ -57,7 +58,7 @@ pub fn every_field(run: &mut Comparison) {
 /// Each byte that is listed, at every value: as it stands in a state, and as it is set; beside a second one that is wrong.
 pub fn every_value(run: &mut Comparison) {
     let listed = [144, 145, 260, 1183, 1184, 1185, 1186, 1187, 1188, 1189, 1190];
-    for length in [1183, 1191] {
+    for length in [1183, 1191, 1203] {
         let good = state(&mut run.random, Cpu, length);
         for place in listed.into_iter().filter(|place| *place < length) {
             for value in 0..=255 {
@@ -80,11 +81,17 @@ pub fn every_value(run: &mut Comparison) {
     }
 }
 
-/// Every length up to beyond the longest state: the whole first, with its bytes right.
+/// Every length up to far beyond the extension, with what the state says of its own length right, and wrong.
 pub fn every_length(run: &mut Comparison) {
     for (kind, most, fields) in [(Cpu, 1300, 26), (Mmu, 300, 11)] {
         let bytes = state(&mut run.random, kind, most);
         for length in 0..most {
+            let right = state(&mut run.random, kind, length);
+            for field in [0, 3, 20, 22, 25] {
+                run.field(kind, &right, field, 0, 512);
+                run.set(kind, &right, field, 0, &[1]);
+                run.set(kind, &right, field, 0, &[0; 8]);
+            }
             for field in 0..=fields {
                 run.field(kind, &bytes[..length], field, 0, 512);
                 run.set(kind, &bytes[..length], field, 0, &[1]);

@@ -56,6 +56,20 @@ fn devices_payload(run: &mut Comparison) {
     expect(run.add_device(&full, (1, 1, 1), b"").0, LIMIT, 0);
     drop(full);
     expect(run.file(&of_devices_payload(256 * MIB + 1)), LIMIT, 24);
+    // A tail counts.
+    let of_tail = |length: usize| {
+        let mut tail = vec![0xAB; length];
+        tail[..4].fill(0);
+        file_of(4, 1, |made| {
+            made.raw(&tail);
+        })
+    };
+    let full = of_tail(256 * MIB);
+    expect(run.file(&full), 0, 0);
+    expect(run.add_device(&full, (1, 1, 1), b"").0, LIMIT, 0);
+    drop(full);
+    expect(run.add_device(&of_tail(256 * MIB - 16), (1, 1, 1), b"x").0, LIMIT, 0);
+    expect(run.file(&of_tail(256 * MIB + 1)), LIMIT, 24);
     // One byte more is seen before the count, and after a second DEVICES.
     let over = vec![0xFF; 256 * MIB + 1];
     let mut made = Made::file();
