@@ -55,6 +55,7 @@ enum {
     CIMBROLAU_FULL = 22,     /* bytes in use and those needed exceed the capacity; at 0 */
     CIMBROLAU_EMPTY = 23,    /* nothing is committed; at 0 */
     CIMBROLAU_RECORD = 24,   /* committed record runs past commit or the ring's end, or a skip reaches commit; at 0 */
+    CIMBROLAU_ABSENT = 25,   /* entry to be removed or replaced isn't there; at 0 */
     CIMBROLAU_TURN = 29      /* cursors given out of turn; at 0 */
 };
 
@@ -96,6 +97,17 @@ struct cimbrolau_answer cimbrolau_canonical(const uint8_t *file, size_t file_len
 struct cimbrolau_answer cimbrolau_add_device(const uint8_t *file, size_t file_length, uint32_t id, uint16_t version, uint16_t flags, const uint8_t *payload, size_t payload_length, uint8_t *out, size_t out_length);
 
 struct cimbrolau_answer cimbrolau_add_disk(const uint8_t *file, size_t file_length, uint32_t id, const uint8_t *base, size_t base_length, const uint8_t *overlay, size_t overlay_length, uint8_t *out, size_t out_length);
+
+/*
+ * The canonical form of a file's content without one of its devices or disks; the last entry's removal removes its section. What is wrong with the
+ * file comes first; an entry that isn't there is CIMBROLAU_ABSENT at 0.
+ */
+struct cimbrolau_answer cimbrolau_remove_device(const uint8_t *file, size_t file_length, uint32_t id, uint16_t version, uint16_t flags, uint8_t *out, size_t out_length);
+
+struct cimbrolau_answer cimbrolau_remove_disk(const uint8_t *file, size_t file_length, uint32_t id, uint8_t *out, size_t out_length);
+
+/* The same with another payload in one of its devices, under the same key: CIMBROLAU_LIMIT, CIMBROLAU_ABSENT, CIMBROLAU_LIMIT, CIMBROLAU_SIZE, all at 0. */
+struct cimbrolau_answer cimbrolau_replace_device(const uint8_t *file, size_t file_length, uint32_t id, uint16_t version, uint16_t flags, const uint8_t *payload, size_t payload_length, uint8_t *out, size_t out_length);
 
 /* ---- disk-controller wrappers */
 

@@ -12,7 +12,7 @@ use Rattle.answer.specs.Numbers.{isNumber}
 use Rattle.answer.specs.Outcome.{Outcome, Checks, checked, Pass}
 use Rattle.answer.specs.Calls.{asked, verdict, Writes}
 use Rattle.entries.specs.Kinds.{deviceOf, functionOf}
-use Rattle.aerosnap.specs.Calls.{checkCall, sectionsCall, devicesCall, disksCall, canonicalCall, addDeviceCall, addDiskCall}
+use Rattle.aerosnap.specs.Calls.{checkCall, sectionsCall, devicesCall, disksCall, canonicalCall, addDeviceCall, addDiskCall, removeDeviceCall, removeDiskCall, replaceDeviceCall}
 use Rattle.dskc.specs.Wrapper as wrapped
 use Rattle.kinds.specs.declared.Message.{Message}
 use Rattle.messages.specs.declared.Reading.{Reading}
@@ -57,6 +57,9 @@ pub record Card : Type 0 where
   pub canonical : (file : List ℕ) → WritesNever (λ have. canonicalCall have file)
   pub add-device : (file : List ℕ) (id version flags : ℕ) (payload : List ℕ) → WritesNever (λ have. addDeviceCall have file id version flags payload)
   pub add-disk : (file : List ℕ) (id : ℕ) (base overlay : List ℕ) → WritesNever (λ have. addDiskCall have file id base overlay)
+  pub remove-device : (file : List ℕ) (id version flags : ℕ) → WritesNever (λ have. removeDeviceCall have file id version flags)
+  pub remove-disk : (file : List ℕ) (id : ℕ) → WritesNever (λ have. removeDiskCall have file id)
+  pub replace-device : (file : List ℕ) (id version flags : ℕ) (payload : List ℕ) → WritesNever (λ have. replaceDeviceCall have file id version flags payload)
   pub wrapper-check : (wrapper : List ℕ) (r : Answer) → r ≡ verdict (wrapped.wrapperOf wrapper) → r .number ≢ withdrawn
   pub controllers : (wrapper : List ℕ) → WritesNever (λ have. wrapped.controllersCall have wrapper)
   pub wrapper-canonical : (wrapper : List ℕ) → WritesNever (λ have. wrapped.canonicalCall have wrapper)

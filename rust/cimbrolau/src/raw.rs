@@ -203,6 +203,33 @@ mod c {
             out: *mut u8,
             out_length: usize,
         ) -> Answer;
+        pub fn cimbrolau_remove_device(
+            file: *const u8,
+            file_length: usize,
+            id: u32,
+            version: u16,
+            flags: u16,
+            out: *mut u8,
+            out_length: usize,
+        ) -> Answer;
+        pub fn cimbrolau_remove_disk(
+            file: *const u8,
+            file_length: usize,
+            id: u32,
+            out: *mut u8,
+            out_length: usize,
+        ) -> Answer;
+        pub fn cimbrolau_replace_device(
+            file: *const u8,
+            file_length: usize,
+            id: u32,
+            version: u16,
+            flags: u16,
+            payload: *const u8,
+            payload_length: usize,
+            out: *mut u8,
+            out_length: usize,
+        ) -> Answer;
         pub fn cimbrolau_wrapper_check(wrapper: *const u8, wrapper_length: usize) -> Answer;
         pub fn cimbrolau_controllers(
             wrapper: *const u8,
@@ -376,6 +403,87 @@ pub fn add_disk(file: &[u8], id: u32, base: &[u8], overlay: &[u8], out: &mut [u8
             base.len(),
             overlay.as_ptr(),
             overlay.len(),
+            out.as_mut_ptr(),
+            out.len(),
+        )
+    }
+}
+
+/// Writes the canonical form of a snapshot file without one of its devices.
+///
+/// ```
+/// use cimbrolau::raw;
+/// let file = cimbrolau::snapshot::add_device(&cimbrolau::snapshot::EMPTY, (3, 1, 0), &[0xAB, 0xCD])?;
+/// let mut out = [0; 64];
+/// let answer = raw::remove_device(&file, 3, 1, 0, &mut out);
+/// assert_eq!((answer.number, answer.place), (0, 16)); // the last device's removal removes its section
+/// assert_eq!(raw::remove_device(&file, 3, 1, 1, &mut out).number, 25); // ABSENT
+/// # Ok::<(), cimbrolau::Refusal>(())
+/// ```
+pub fn remove_device(file: &[u8], id: u32, version: u16, flags: u16, out: &mut [u8]) -> Answer {
+    // SAFETY: each pointer and length are of one live slice; the library reads `file` and writes within `out`,
+    // which no other reference names, during the call alone.
+    unsafe {
+        c::cimbrolau_remove_device(
+            file.as_ptr(),
+            file.len(),
+            id,
+            version,
+            flags,
+            out.as_mut_ptr(),
+            out.len(),
+        )
+    }
+}
+
+/// Writes the canonical form of a snapshot file without one of its disks.
+///
+/// ```
+/// use cimbrolau::raw;
+/// let file = cimbrolau::snapshot::add_disk(&cimbrolau::snapshot::EMPTY, 1, b"base.img", b"")?;
+/// let mut out = [0; 64];
+/// let answer = raw::remove_disk(&file, 1, &mut out);
+/// assert_eq!((answer.number, answer.place), (0, 16));
+/// # Ok::<(), cimbrolau::Refusal>(())
+/// ```
+pub fn remove_disk(file: &[u8], id: u32, out: &mut [u8]) -> Answer {
+    // SAFETY: each pointer and length are of one live slice; the library reads `file` and writes within `out`,
+    // which no other reference names, during the call alone.
+    unsafe {
+        c::cimbrolau_remove_disk(file.as_ptr(), file.len(), id, out.as_mut_ptr(), out.len())
+    }
+}
+
+/// Writes the canonical form of a snapshot file with another payload in one of its devices.
+///
+/// ```
+/// use cimbrolau::raw;
+/// let file = cimbrolau::snapshot::add_device(&cimbrolau::snapshot::EMPTY, (3, 1, 0), &[0xAB, 0xCD])?;
+/// let mut out = [0; 64];
+/// let answer = raw::replace_device(&file, 3, 1, 0, &[0xEF], &mut out);
+/// assert_eq!((answer.number, answer.place), (0, 53));
+/// assert_eq!(out[52], 0xEF);
+/// # Ok::<(), cimbrolau::Refusal>(())
+/// ```
+pub fn replace_device(
+    file: &[u8],
+    id: u32,
+    version: u16,
+    flags: u16,
+    payload: &[u8],
+    out: &mut [u8],
+) -> Answer {
+    // SAFETY: each pointer and length are of one live slice; the library reads `file` and `payload` and writes within
+    // `out`, which no other reference names, during the call alone.
+    unsafe {
+        c::cimbrolau_replace_device(
+            file.as_ptr(),
+            file.len(),
+            id,
+            version,
+            flags,
+            payload.as_ptr(),
+            payload.len(),
             out.as_mut_ptr(),
             out.len(),
         )

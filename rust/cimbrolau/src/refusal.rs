@@ -55,6 +55,8 @@ pub enum Kind {
     Empty = 23,
     /// A committed record runs past the commit cursor or the ring's end, or a skip reaches the commit cursor.
     Record = 24,
+    /// The entry to be changed isn't there.
+    Absent = 25,
     /// Cursors are given out of turn.
     Turn = 29,
 }
@@ -84,6 +86,7 @@ const TABLE: &[(Kind, &str, &str)] = &[
     (Kind::Full, "FULL", "bytes in use and those needed exceed the capacity"),
     (Kind::Empty, "EMPTY", "nothing is committed"),
     (Kind::Record, "RECORD", "committed record or skip runs too far"),
+    (Kind::Absent, "ABSENT", "entry to be changed isn't there"),
     (Kind::Turn, "TURN", "cursors given out of turn"),
 ];
 

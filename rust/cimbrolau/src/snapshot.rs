@@ -324,3 +324,53 @@ pub fn add_disk(file: &[u8], id: u32, base: &[u8], overlay: &[u8]) -> Result<Vec
     let most = file_most(file.len() + 20 + 12 + base.len() + overlay.len());
     filled(most, |out| raw::add_disk(file, id, base, overlay, out))
 }
+
+/// The canonical form of the file without one of its devices. A key that is not there is ABSENT; with its last device a
+/// file loses its section of devices.
+///
+/// ```
+/// use cimbrolau::{snapshot, Kind};
+/// let file = snapshot::add_device(&snapshot::EMPTY, (18, 1, 0), &[0x11])?;
+/// assert_eq!(snapshot::remove_device(&file, (18, 1, 0))?, snapshot::EMPTY);
+///
+/// let refusal = snapshot::remove_device(&file, (18, 2, 0)).unwrap_err();
+/// assert_eq!(refusal.kind, Kind::Absent);
+/// # Ok::<(), cimbrolau::Refusal>(())
+/// ```
+pub fn remove_device(file: &[u8], key: impl Into<DeviceKey>) -> Result<Vec<u8>> {
+    let DeviceKey { id, version, flags } = key.into();
+    // It is never longer than the file.
+    filled(file_most(file.len()), |out| raw::remove_device(file, id, version, flags, out))
+}
+
+/// The canonical form of the file without one of its disks. A disk that is not there is ABSENT.
+///
+/// ```
+/// use cimbrolau::snapshot;
+/// let file = snapshot::add_disk(&snapshot::EMPTY, 1, b"base.img", b"")?;
+/// assert_eq!(snapshot::remove_disk(&file, 1)?, snapshot::EMPTY);
+/// # Ok::<(), cimbrolau::Refusal>(())
+/// ```
+pub fn remove_disk(file: &[u8], id: u32) -> Result<Vec<u8>> {
+    filled(file_most(file.len()), |out| raw::remove_disk(file, id, out))
+}
+
+/// The canonical form of the file with another payload in one of its devices. A key that is not there is ABSENT.
+///
+/// ```
+/// use cimbrolau::snapshot;
+/// let file = snapshot::add_device(&snapshot::EMPTY, (3, 1, 0), &[15, 0])?;
+/// let file = snapshot::replace_device(&file, (3, 1, 0), &[16, 0])?;
+/// assert_eq!(snapshot::devices(&file)?[0].payload(&file), Some(&[16, 0][..]));
+/// # Ok::<(), cimbrolau::Refusal>(())
+/// ```
+pub fn replace_device(
+    file: &[u8],
+    key: impl Into<DeviceKey>,
+    payload: &[u8],
+) -> Result<Vec<u8>> {
+    let DeviceKey { id, version, flags } = key.into();
+    // It grows by no more than the new payload.
+    let most = file_most(file.len() + payload.len());
+    filled(most, |out| raw::replace_device(file, id, version, flags, payload, out))
+}

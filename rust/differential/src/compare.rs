@@ -40,7 +40,7 @@ pub struct Comparison {
 type Call = fn(&[u8], &mut [u8]) -> Answer;
 
 /// The calls on a file with an output: the library's and the reference's.
-const FILE_CALLS: [(&str, Call, Call); 6] = [
+const FILE_CALLS: [(&str, Call, Call); 9] = [
     ("sections", library::sections, reference::sections),
     ("devices", library::devices, reference::devices),
     ("disks", library::disks, reference::disks),
@@ -54,6 +54,21 @@ const FILE_CALLS: [(&str, Call, Call); 6] = [
         "add_disk of 256",
         |file, out| library::add_disk(file, 256, b"base", b"", out),
         |file, out| reference::add_disk(file, 256, b"base", b"", out),
+    ),
+    (
+        "remove_device of (3, 1, 0)",
+        |file, out| library::remove_device(file, 3, 1, 0, out),
+        |file, out| reference::remove_device(file, 3, 1, 0, out),
+    ),
+    (
+        "remove_disk of 256",
+        |file, out| library::remove_disk(file, 256, out),
+        |file, out| reference::remove_disk(file, 256, out),
+    ),
+    (
+        "replace_device of (3, 1, 0)",
+        |file, out| library::replace_device(file, 3, 1, 0, b"another", out),
+        |file, out| reference::replace_device(file, 3, 1, 0, b"another", out),
     ),
 ];
 
@@ -134,6 +149,58 @@ impl Comparison {
             &inputs,
             |out| library::add_disk(file, id, base, overlay, out),
             |out| reference::add_disk(file, id, base, overlay, out),
+        );
+        for (before, input) in before.into_iter().zip(inputs) {
+            self.unchanged(before, input);
+        }
+        (answer, self.lent())
+    }
+
+    /// Removes a device from a file; the answer, and what the output then holds.
+    pub fn remove_device(&mut self, file: &[u8], key: DeviceKey) -> (Answer, &[u8]) {
+        self.inputs += 1;
+        let (id, version, flags) = key;
+        let before = fingerprint(file);
+        let answer = self.output(
+            &format!("remove_device of {key:?}"),
+            &[file],
+            |out| library::remove_device(file, id, version, flags, out),
+            |out| reference::remove_device(file, id, version, flags, out),
+        );
+        self.unchanged(before, file);
+        (answer, self.lent())
+    }
+
+    /// Removes a disk from a file; the answer, and what the output then holds.
+    pub fn remove_disk(&mut self, file: &[u8], id: u32) -> (Answer, &[u8]) {
+        self.inputs += 1;
+        let before = fingerprint(file);
+        let answer = self.output(
+            &format!("remove_disk of {id}"),
+            &[file],
+            |out| library::remove_disk(file, id, out),
+            |out| reference::remove_disk(file, id, out),
+        );
+        self.unchanged(before, file);
+        (answer, self.lent())
+    }
+
+    /// Replaces a device's payload; the answer, and what the output then holds.
+    pub fn replace_device(
+        &mut self,
+        file: &[u8],
+        key: DeviceKey,
+        payload: &[u8],
+    ) -> (Answer, &[u8]) {
+        self.inputs += 1;
+        let (id, version, flags) = key;
+        let inputs = [file, payload];
+        let before = inputs.map(fingerprint);
+        let answer = self.output(
+            &format!("replace_device of {key:?}"),
+            &inputs,
+            |out| library::replace_device(file, id, version, flags, payload, out),
+            |out| reference::replace_device(file, id, version, flags, payload, out),
         );
         for (before, input) in before.into_iter().zip(inputs) {
             self.unchanged(before, input);

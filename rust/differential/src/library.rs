@@ -48,6 +48,25 @@ pub fn add_disk(file: &[u8], id: u32, base: &[u8], overlay: &[u8], out: &mut [u8
     answer!(raw::add_disk(file, id, base, overlay, out))
 }
 
+pub fn remove_device(file: &[u8], id: u32, version: u16, flags: u16, out: &mut [u8]) -> Answer {
+    answer!(raw::remove_device(file, id, version, flags, out))
+}
+
+pub fn remove_disk(file: &[u8], id: u32, out: &mut [u8]) -> Answer {
+    answer!(raw::remove_disk(file, id, out))
+}
+
+pub fn replace_device(
+    file: &[u8],
+    id: u32,
+    version: u16,
+    flags: u16,
+    payload: &[u8],
+    out: &mut [u8],
+) -> Answer {
+    answer!(raw::replace_device(file, id, version, flags, payload, out))
+}
+
 pub fn wrapper_check(wrapper: &[u8]) -> Answer {
     answer!(raw::wrapper_check(wrapper))
 }

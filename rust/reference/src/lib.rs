@@ -27,5 +27,8 @@ pub use ring::{
     Record,
 };
 pub use sheet::{access, cpu_field, cpu_set, mmu_field, mmu_set, Access};
-pub use snapshot::{add_device, add_disk, canonical, check, devices, disks, sections};
+pub use snapshot::{
+    add_device, add_disk, canonical, check, devices, disks, remove_device, remove_disk,
+    replace_device, sections,
+};
 pub use wrapper::{controllers, wrapper_canonical, wrapper_check};

@@ -11,6 +11,7 @@ mod bounds;
 mod breaks;
 mod messages;
 mod orders;
+mod removals;
 mod rings;
 mod sheets;
 mod snapshots;
@@ -53,6 +54,10 @@ const GROUPS: &[Group] = &[
     ("messages: written at random", messages::written),
     ("adds: chains in several orders", adds::chains),
     ("adds: to any file", adds::to_any_file),
+    ("removals: on any file", removals::on_any_file),
+    ("removals: every entry, to the last", removals::to_the_last),
+    ("removals: what was just added", removals::undone),
+    ("removals: payloads replaced twice", removals::replaced_twice),
     ("texts: every break", breaks::all),
     ("bounds: counts", bounds::counts::all),
     ("bounds: texts and messages", bounds::texts::all),
