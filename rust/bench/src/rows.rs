@@ -95,7 +95,8 @@ fn counts(tell: Tell) {
             let file = inputs::devices(count, 64, order);
             let devices = if count == 1 { "device" } else { "devices" };
             let input = format!("{count} {devices} {}", order.name());
-            file_rows(Case { file: &file, input, reading, writing: 1.2 }, tell);
+            file_rows(Case { file: &file, input: input.clone(), reading, writing: 1.2 }, tell);
+            edit_rows(Case { file: &file, input, reading, writing: 1.2 }, tell);
         }
         let file = inputs::disks(255, order);
         let input = format!("255 disks {}", order.name());
@@ -115,6 +116,22 @@ fn file_rows(case: Case, tell: Tell) {
         &case,
         |file, out| raw::add_device(file, 1, 1, 1, &[0x11; 64], out),
         |file, out| reference::add_device(file, 1, 1, 1, &[0x11; 64], out),
+    ));
+}
+
+/// One device fewer and one payload exchanged: the first key's, which every such file has.
+fn edit_rows(case: Case, tell: Tell) {
+    tell(writing_row(
+        "remove_device",
+        &case,
+        |file, out| raw::remove_device(file, 1, 1, 0, out),
+        |file, out| reference::remove_device(file, 1, 1, 0, out),
+    ));
+    tell(writing_row(
+        "replace_device",
+        &case,
+        |file, out| raw::replace_device(file, 1, 1, 0, &[0x22; 80], out),
+        |file, out| reference::replace_device(file, 1, 1, 0, &[0x22; 80], out),
     ));
 }
 

@@ -449,9 +449,7 @@ pub fn remove_device(file: &[u8], id: u32, version: u16, flags: u16, out: &mut [
 pub fn remove_disk(file: &[u8], id: u32, out: &mut [u8]) -> Answer {
     // SAFETY: each pointer and length are of one live slice; the library reads `file` and writes within `out`,
     // which no other reference names, during the call alone.
-    unsafe {
-        c::cimbrolau_remove_disk(file.as_ptr(), file.len(), id, out.as_mut_ptr(), out.len())
-    }
+    unsafe { c::cimbrolau_remove_disk(file.as_ptr(), file.len(), id, out.as_mut_ptr(), out.len()) }
 }
 
 /// Writes the canonical form of a snapshot file with another payload in one of its devices.

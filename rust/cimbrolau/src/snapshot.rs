@@ -364,11 +364,7 @@ pub fn remove_disk(file: &[u8], id: u32) -> Result<Vec<u8>> {
 /// assert_eq!(snapshot::devices(&file)?[0].payload(&file), Some(&[16, 0][..]));
 /// # Ok::<(), cimbrolau::Refusal>(())
 /// ```
-pub fn replace_device(
-    file: &[u8],
-    key: impl Into<DeviceKey>,
-    payload: &[u8],
-) -> Result<Vec<u8>> {
+pub fn replace_device(file: &[u8], key: impl Into<DeviceKey>, payload: &[u8]) -> Result<Vec<u8>> {
     let DeviceKey { id, version, flags } = key.into();
     // It grows by no more than the new payload.
     let most = file_most(file.len() + payload.len());

@@ -1,8 +1,8 @@
 //! AEROSNAP files: checked, listed, written in canonical form, and with one entry more.
 
 use crate::answer::{
-    answered, ask, Answer, Taken, ABSENT, CUT, ENDIAN, HAVE, ABSENT, LIMIT, MAGIC, MANY, RESERVED, SECVER, SHAPE,
-    SHORT, SIZE, TEXT, TWICE, VERSION,
+    answered, ask, Answer, Taken, ABSENT, CUT, ENDIAN, HAVE, LIMIT, MAGIC, MANY, RESERVED, SECVER,
+    SHAPE, SHORT, SIZE, TEXT, TWICE, VERSION,
 };
 use crate::cursor::{is_text, u16_at, u32_at, u64_at, Cursor, Output};
 use crate::list::{

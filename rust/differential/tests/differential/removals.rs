@@ -106,10 +106,17 @@ pub fn to_the_last(run: &mut Comparison) {
         run.random.shuffle(&mut keys);
         run.random.shuffle(&mut ids);
         while let Some(key) = keys.pop() {
-            file = roomy(|| file_of(run.remove_device(&file, key))).expect("a device that is there");
-            assert_eq!(file_of(run.remove_device(&file, key)), Err(ABSENT), "a device that is gone");
-            if let (true, Some(id)) = (run.random.once_in(2), ids.pop()) {
-                file = roomy(|| file_of(run.remove_disk(&file, id))).expect("a disk that is there");
+            file =
+                roomy(|| file_of(run.remove_device(&file, key))).expect("a device that is there");
+            assert_eq!(
+                file_of(run.remove_device(&file, key)),
+                Err(ABSENT),
+                "a device that is gone"
+            );
+            if run.random.once_in(2) {
+                if let Some(id) = ids.pop() {
+                    file = roomy(|| file_of(run.remove_disk(&file, id))).expect("it is there");
+                }
             }
         }
         while let Some(id) = ids.pop() {
@@ -154,7 +161,8 @@ pub fn replaced_twice(run: &mut Comparison) {
             run.random.bytes(length)
         });
         let once = roomy(|| file_of(run.replace_device(&file, key, &last)));
-        let between = roomy(|| file_of(run.replace_device(&file, key, &first))).expect("it is there");
+        let between =
+            roomy(|| file_of(run.replace_device(&file, key, &first))).expect("it is there");
         let twice = roomy(|| file_of(run.replace_device(&between, key, &last)));
         assert!(once.is_ok() && once == twice, "replaced twice: input {}", run.inputs);
     }
