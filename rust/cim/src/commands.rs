@@ -73,8 +73,9 @@ fn list(words: &Words) -> Result<(), Failure> {
 
 fn canon(words: &Words) -> Result<(), Failure> {
     let [name, out] = words.plain("FILE and OUT")?;
+    let target = files::claim(out, false)?;
     let file = files::read(name, snapshot::MOST_BYTES)?;
-    files::write(out, &snapshot::canonical(&file).map_err(of_input(&file))?)
+    target.put(&snapshot::canonical(&file).map_err(of_input(&file))?)
 }
 
 fn add_device(words: &Words) -> Result<(), Failure> {
@@ -86,10 +87,10 @@ fn add_device(words: &Words) -> Result<(), Failure> {
     if name == "-" && payload == "-" {
         return Err(Failure::Usage("only one input can be standard input".into()));
     }
+    let target = files::claim(out, false)?;
     let file = files::read(name, snapshot::MOST_BYTES)?;
     let payload = files::read(payload, snapshot::MOST_PAYLOAD_BYTES)?;
-    files::write(
-        out,
+    target.put(
         &snapshot::add_device(&file, (id, version, flags), &payload).map_err(of_input(&file))?,
     )
 }
@@ -99,8 +100,9 @@ fn add_disk(words: &Words) -> Result<(), Failure> {
     let id = words.number("--id", u32::MAX)?;
     let base = words.needed("--base")?.as_bytes();
     let overlay = words.needed("--overlay")?.as_bytes();
+    let target = files::claim(out, false)?;
     let file = files::read(name, snapshot::MOST_BYTES)?;
-    files::write(out, &snapshot::add_disk(&file, id, base, overlay).map_err(of_input(&file))?)
+    target.put(&snapshot::add_disk(&file, id, base, overlay).map_err(of_input(&file))?)
 }
 
 fn wrapper(words: &Words) -> Result<(), Failure> {

@@ -61,17 +61,26 @@ impl Failure {
 }
 
 impl From<Refusal> for Failure {
+    /// ROOM of a call that makes its own output is no fault of the input: there is no memory for it.
     fn from(refusal: Refusal) -> Failure {
-        Failure::Refused(refusal, None)
+        match refusal {
+            Refusal { kind: Kind::Room, place } => {
+                Failure::Io(format!("out of memory: the output takes {place} bytes"))
+            }
+            _ => Failure::Refused(refusal, None),
+        }
     }
 }
 
 /// A refusal of this input, with the bytes around the place where a text in it breaks. (At place 0 stands no text of an
 /// input: that is the place of one that is to be added.)
 pub fn of_input(input: &[u8]) -> impl FnOnce(Refusal) -> Failure + '_ {
-    |refusal| {
-        let broken = refusal.kind == Kind::Text && refusal.place > 0;
-        Failure::Refused(refusal, broken.then(|| around(input, refusal.place as usize)))
+    |refusal| match Failure::from(refusal) {
+        Failure::Refused(refusal, _) => {
+            let broken = refusal.kind == Kind::Text && refusal.place > 0;
+            Failure::Refused(refusal, broken.then(|| around(input, refusal.place as usize)))
+        }
+        other => other,
     }
 }
 

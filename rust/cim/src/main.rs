@@ -4,12 +4,16 @@
 //! status 0; 1 where the library refuses; 2 for a command line that it does not understand; 3 where a file cannot be
 //! read or written.
 
-#![forbid(unsafe_code)]
+#![deny(unsafe_code)]
 
+mod calls;
 mod commands;
 mod failure;
 mod files;
 mod help;
+mod shown;
+#[allow(unsafe_code)]
+mod system;
 mod words;
 
 use failure::Failure;
@@ -36,7 +40,7 @@ fn run(words: &[OsString]) -> Result<(), Failure> {
         _ => (),
     }
     let Some(command) = commands::ALL.iter().find(|command| command.name == name) else {
-        let word = first.to_string_lossy();
+        let word = shown::name_of(first);
         return Err(Failure::Usage(format!("there is no command `{word}`; see `cim --help`")));
     };
     if rest.iter().any(|word| word == "--help" || word == "-h") {

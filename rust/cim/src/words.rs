@@ -1,6 +1,7 @@
 //! The words of a command line behind the command's name: files, and options with their values.
 
 use crate::failure::Failure;
+use crate::shown::name_of;
 use std::ffi::{OsStr, OsString};
 
 /// The words of a command line, sorted.
@@ -20,7 +21,7 @@ pub fn split(words: &[OsString], allowed: &[&str]) -> Result<Words, String> {
             continue;
         }
         if !allowed.contains(&text.as_ref()) {
-            return Err(format!("there is no option `{text}`"));
+            return Err(format!("there is no option `{}`", name_of(word)));
         }
         if sorted.options.iter().any(|(name, _)| *name == text) {
             return Err(format!("`{text}` is given twice"));
@@ -57,7 +58,7 @@ impl Words {
     pub fn number(&self, name: &str, most: u32) -> Result<u32, Failure> {
         let value = self.needed(name)?;
         number_of(value).filter(|number| *number <= most).ok_or_else(|| {
-            let word = value.to_string_lossy();
+            let word = name_of(value);
             Failure::Usage(format!("`{name} {word}` is no number from 0 to {most}"))
         })
     }

@@ -1,4 +1,6 @@
-//! Runs `cim` as a person would: every command, its refusals and statuses, and what is left of files when it fails.
+//! Runs `cim` as a person would: every command, its refusals and statuses.
+
+mod common;
 
 #[allow(dead_code)]
 #[path = "../examples/panel.rs"]
@@ -7,85 +9,9 @@ mod panel;
 #[path = "../examples/panel_region.rs"]
 mod panel_region;
 
+use common::*;
 use std::fs;
-use std::io::Write;
-use std::path::{Path, PathBuf};
-use std::process::{Command, Output, Stdio};
-
-/// Document 01's example P4: two devices, saved in descending order of their keys.
-const TWO_DEVICES: &[u8] = b"AEROSNAP\x01\x00\x01\x00\x00\x00\x00\x00\
-    \x04\x00\x00\x00\x01\x00\x00\x00\x27\x00\x00\x00\x00\x00\x00\x00\
-    \x02\x00\x00\x00\
-    \x0E\x00\x00\x00\x01\x00\x00\x00\x01\x00\x00\x00\x00\x00\x00\x00\x11\
-    \x03\x00\x00\x00\x01\x00\x00\x00\x02\x00\x00\x00\x00\x00\x00\x00\xAB\xCD";
-
-/// P6: P4 with both keys (3, 1, 0).
-fn key_again() -> Vec<u8> {
-    let mut file = TWO_DEVICES.to_vec();
-    file[36] = 3;
-    file
-}
-
-/// A folder of its own for one test, empty.
-fn folder(test: &str) -> PathBuf {
-    let folder = Path::new(env!("CARGO_TARGET_TMPDIR")).join(test);
-    let _ = fs::remove_dir_all(&folder);
-    fs::create_dir_all(&folder).unwrap();
-    folder
-}
-
-fn put(folder: &Path, name: &str, bytes: &[u8]) -> PathBuf {
-    let path = folder.join(name);
-    fs::write(&path, bytes).unwrap();
-    path
-}
-
-/// The names of what stands in a folder, sorted.
-fn names(folder: &Path) -> Vec<String> {
-    let name =
-        |entry: std::io::Result<fs::DirEntry>| entry.unwrap().file_name().into_string().unwrap();
-    let mut names: Vec<String> = fs::read_dir(folder).unwrap().map(name).collect();
-    names.sort();
-    names
-}
-
-fn cim(folder: &Path) -> Command {
-    let mut command = Command::new(env!("CARGO_BIN_EXE_cim"));
-    command.current_dir(folder);
-    command
-}
-
-fn run(folder: &Path, words: &[&str]) -> Output {
-    cim(folder).args(words).output().unwrap()
-}
-
-/// Runs with `input` on standard input.
-fn fed(folder: &Path, words: &[&str], input: &[u8]) -> Output {
-    let mut child = cim(folder)
-        .args(words)
-        .stdin(Stdio::piped())
-        .stdout(Stdio::piped())
-        .stderr(Stdio::piped())
-        .spawn()
-        .unwrap();
-    child.stdin.take().unwrap().write_all(input).unwrap();
-    child.wait_with_output().unwrap()
-}
-
-#[track_caller]
-fn prints(output: Output, expected: &str) {
-    assert_eq!(String::from_utf8_lossy(&output.stderr), "");
-    assert_eq!(String::from_utf8_lossy(&output.stdout), expected);
-    assert_eq!(output.status.code(), Some(0));
-}
-
-/// Nothing on standard output, the text on standard error, the status.
-#[track_caller]
-fn fails(output: Output, expected: &str, status: i32) {
-    assert_eq!(String::from_utf8_lossy(&output.stderr), expected);
-    assert_eq!(String::from_utf8_lossy(&output.stdout), "");
-    assert_eq!(output.status.code(), Some(status));
-}
+use std::path::Path;
 
 // ---- check and list
 
@@ -302,141 +228,6 @@ fn an_add_can_take_its_file_or_its_payload_from_standard_input() {
     let told =
         "cim: add-device: only one input can be standard input; see `cim add-device --help`\n";
     fails(both, told, 2);
-}
-
-// ---- what is left of files
-
-#[test]
-fn a_refusal_keeps_the_target() {
-    let at = folder("kept");
-    put(&at, "bad", &key_again());
-    put(&at, "out", b"old");
-    fails(run(&at, &["canon", "bad", "out"]), "refused 13 KEY at 53: key again\n", 1);
-    assert_eq!(fs::read(at.join("out")).unwrap(), b"old");
-    assert_eq!(names(&at), ["bad", "out"]);
-}
-
-#[test]
-fn a_folder_that_is_not_there_is_told() {
-    let at = folder("nowhere");
-    put(&at, "in", TWO_DEVICES);
-    let told = "cim: cannot write nowhere/out: No such file or directory (os error 2)\n";
-    fails(run(&at, &["canon", "in", "nowhere/out"]), told, 3);
-    let told = "cim: cannot write in/out: Not a directory (os error 20)\n";
-    fails(run(&at, &["canon", "in", "in/out"]), told, 3);
-    assert_eq!(names(&at), ["in"]);
-}
-
-#[test]
-fn what_is_no_file_or_is_read_only_is_not_replaced() {
-    let at = folder("no_file");
-    put(&at, "in", TWO_DEVICES);
-    fs::create_dir(at.join("folder")).unwrap();
-    let told = "cim: cannot write folder: it is there, and not a file (`-` is standard output)\n";
-    fails(run(&at, &["canon", "in", "folder"]), told, 3);
-
-    let kept = put(&at, "kept", b"old");
-    let mut permissions = fs::metadata(&kept).unwrap().permissions();
-    permissions.set_readonly(true);
-    fs::set_permissions(&kept, permissions).unwrap();
-    fails(
-        run(&at, &["canon", "in", "kept"]),
-        "cim: cannot write kept: it is there, and read-only\n",
-        3,
-    );
-    assert_eq!(fs::read(&kept).unwrap(), b"old");
-    assert_eq!(names(&at), ["folder", "in", "kept"]);
-}
-
-#[test]
-fn a_link_stays_and_permissions_too() {
-    use std::os::unix::fs::{symlink, PermissionsExt};
-    let at = folder("link");
-    put(&at, "in", TWO_DEVICES);
-    fs::create_dir(at.join("store")).unwrap();
-    let real = put(&at, "store/real", b"old");
-    fs::set_permissions(&real, fs::Permissions::from_mode(0o640)).unwrap();
-    symlink("store/real", at.join("link")).unwrap();
-    prints(run(&at, &["canon", "in", "link"]), "71 bytes written to link\n");
-    assert!(fs::symlink_metadata(at.join("link")).unwrap().is_symlink());
-    assert_eq!(fs::read(&real).unwrap().len(), 71);
-    assert_eq!(fs::metadata(&real).unwrap().permissions().mode() & 0o777, 0o640);
-    assert_eq!(names(&at.join("store")), ["real"]);
-}
-
-/// Runs `cim canon in out` where no file can grow past a few KiB, so that writing fails half-way. `guard` is what the
-/// shell does first.
-fn cut_short(at: &Path, guard: &str) -> Output {
-    let mut file = TWO_DEVICES[..16].to_vec();
-    file.extend(b"\x06\x00\x00\x00\x01\x00\x00\x00\x00\x00\x10\x00\x00\x00\x00\x00"); // RAM, 1 MiB
-    file.resize(32 + (1 << 20), 7);
-    put(at, "in", &file);
-    put(at, "out", b"old");
-    Command::new("sh")
-        .args([
-            "-c",
-            &format!("{guard} ulimit -f 8; exec \"$0\" canon in out"),
-            env!("CARGO_BIN_EXE_cim"),
-        ])
-        .current_dir(at)
-        .output()
-        .unwrap()
-}
-
-#[test]
-fn a_write_that_fails_half_way_leaves_the_old_file_and_nothing_else() {
-    let at = folder("half");
-    // With the signal ignored, the system reports the fault to the program.
-    let output = cut_short(&at, "trap '' XFSZ;");
-    fails(output, "cim: cannot write out: File too large (os error 27)\n", 3);
-    assert_eq!(fs::read(at.join("out")).unwrap(), b"old");
-    assert_eq!(names(&at), ["in", "out"]);
-}
-
-#[test]
-fn a_kill_half_way_leaves_the_old_file() {
-    let at = folder("killed");
-    // Without, the system kills the program in the middle of its write.
-    let output = cut_short(&at, "");
-    assert_eq!(output.status.code(), None);
-    assert_eq!(fs::read(at.join("out")).unwrap(), b"old");
-}
-
-#[test]
-fn an_output_that_nobody_reads_ends_quietly() {
-    let at = folder("closed");
-    let mut child = cim(&at)
-        .args(["list", "-"])
-        .stdin(Stdio::piped())
-        .stdout(Stdio::piped())
-        .stderr(Stdio::piped())
-        .spawn()
-        .unwrap();
-    drop(child.stdout.take());
-    child.stdin.take().unwrap().write_all(TWO_DEVICES).unwrap();
-    fails(child.wait_with_output().unwrap(), "", 3);
-}
-
-#[test]
-fn a_refusal_that_nobody_reads_keeps_its_status() {
-    let at = folder("unheard");
-    put(&at, "in", &key_again());
-    let full = fs::OpenOptions::new().write(true).open("/dev/full").unwrap();
-    let output = cim(&at).args(["check", "in"]).stderr(full).output().unwrap();
-    assert_eq!(output.status.code(), Some(1));
-}
-
-#[test]
-fn an_output_with_no_room_is_told() {
-    let at = folder("full");
-    put(&at, "in", TWO_DEVICES);
-    let full = fs::OpenOptions::new().write(true).open("/dev/full").unwrap();
-    let output = cim(&at).args(["list", "in"]).stdout(full).output().unwrap();
-    fails(
-        output,
-        "cim: cannot write to standard output: No space left on device (os error 28)\n",
-        3,
-    );
 }
 
 // ---- wrappers and messages
