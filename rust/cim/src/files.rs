@@ -5,9 +5,13 @@
 //! takes the target's name.
 
 use crate::calls;
+use crate::command::KEEP;
 use crate::failure::Failure;
+use crate::json::Object;
+use crate::lines::Lines;
 use crate::shown::name_of;
 use crate::system;
+use crate::words::Words;
 use std::ffi::{OsStr, OsString};
 use std::fmt::Display;
 use std::fs::{File, Metadata};
@@ -91,8 +95,9 @@ const PATIENCE: Duration = Duration::from_secs(60);
 const PART: &str = ".cim-part";
 
 /// An output that is this command's alone until it is written or given up.
-pub struct Target {
-    name: OsString,
+pub struct Target<'a> {
+    words: &'a Words,
+    name: &'a OsStr,
     /// None for standard output.
     claim: Option<Claim>,
 }
@@ -105,24 +110,29 @@ struct Claim {
     keep: bool,
 }
 
-/// Claims an output by its name, `-` for standard output. With `keep` a file that is there is not replaced.
-pub fn claim(name: &OsStr, keep: bool) -> Result<Target, Failure> {
+/// Claims an output by its name, `-` for standard output. With `--no-clobber` a file that is there is not replaced.
+pub fn claim<'a>(words: &'a Words, name: &'a OsStr) -> Result<Target<'a>, Failure> {
     let claim = if is_dash(name) {
         None
     } else {
         let told = |error| Failure::io(format!("cannot write {}", name_of(name)), error);
-        Some(Claim::make(Path::new(name), keep).map_err(told)?)
+        Some(Claim::make(Path::new(name), words.has(&KEEP)).map_err(told)?)
     };
-    Ok(Target { name: name.to_os_string(), claim })
+    Ok(Target { words, name, claim })
 }
 
-impl Target {
+impl Target<'_> {
     /// Writes the bytes in the target's place, all or nothing, and says so.
     pub fn put(self, bytes: &[u8]) -> Result<(), Failure> {
         let Some(claim) = self.claim else { return print_bytes(bytes) };
-        let shown = name_of(&self.name);
+        let shown = name_of(self.name);
         claim.put(bytes).map_err(|error| Failure::io(format!("cannot write {shown}"), error))?;
-        print(&format!("{} bytes written to {shown}\n", bytes.len()))
+        let written = bytes.len() as u64;
+        let object = Object::new("written").text("file", &shown).number("bytes", written);
+        let mut lines = Lines::new(self.words);
+        let bytes = if written == 1 { "byte" } else { "bytes" };
+        lines.line(object, format_args!("{written} {bytes} written to {shown}"));
+        lines.print()
     }
 }
 

@@ -16,36 +16,6 @@ use std::path::Path;
 // ---- check and list
 
 #[test]
-fn check_takes_or_refuses() {
-    let at = folder("check");
-    put(&at, "good", TWO_DEVICES);
-    put(&at, "bad", &key_again());
-    put(&at, "short", &TWO_DEVICES[..15]);
-    prints(run(&at, &["check", "good"]), "taken\n");
-    fails(run(&at, &["check", "bad"]), "refused 13 KEY at 53: key again\n", 1);
-    fails(run(&at, &["check", "short"]), "refused 1 SHORT at 0: under 16 bytes\n", 1);
-    prints(fed(&at, &["check", "-"], TWO_DEVICES), "taken\n");
-}
-
-/// A disk whose base image is `/b\xFCro`, which is no UTF-8 from its third byte on.
-const BROKEN_TEXT: &[u8] = b"AEROSNAP\x01\x00\x01\x00\x00\x00\x00\x00\
-    \x05\x00\x00\x00\x01\x00\x00\x00\x15\x00\x00\x00\x00\x00\x00\x00\
-    \x01\x00\x00\x00\x07\x00\x00\x00\x05\x00\x00\x00/b\xFCro\x00\x00\x00\x00";
-
-#[test]
-fn a_broken_text_is_shown_at_the_byte_at_which_it_breaks() {
-    let at = folder("broken_text");
-    put(&at, "broken", BROKEN_TEXT);
-    let told = "refused 14 TEXT at 46: not UTF-8\n\
-        bytes from 38: 00 00 05 00 00 00 2F 62 [FC] 72 6F 00 00 00 00\n";
-    for words in [&["check", "broken"][..], &["list", "broken"], &["canon", "broken", "out"]] {
-        fails(run(&at, words), told, 1);
-    }
-    let told = "refused 14 TEXT at 8: not UTF-8\nbytes from 0: FE 1F 02 00 00 00 E2 82 [end]\n";
-    fails(run(&at, &["message", "--hex", "FE1F 02000000 E282"]), told, 1);
-}
-
-#[test]
 fn list_prints_the_listing_of_document_01() {
     let at = folder("list");
     put(&at, "good", TWO_DEVICES);
@@ -54,7 +24,7 @@ fn list_prints_the_listing_of_document_01() {
         "id version flags offset length\n4 1 0 32 39\ndevice 3 1 0 69 2 1\ndevice 14 1 0 52 1 0\n";
     prints(run(&at, &["list", "good"]), listing);
     prints(fed(&at, &["list", "-"], TWO_DEVICES), listing);
-    fails(run(&at, &["list", "bad"]), "refused 13 KEY at 53: key again\n", 1);
+    fails(run(&at, &["list", "bad"]), KEY_AGAIN, 1);
 }
 
 #[test]
@@ -185,7 +155,7 @@ fn adds_are_refused_as_the_library_refuses() {
         run(&at, &words)
     };
     fails(device("in", "3"), have, 1);
-    fails(device("bad", "9"), "refused 13 KEY at 53: key again\n", 1);
+    fails(device("bad", "9"), KEY_AGAIN, 1);
     let disk = |base: &std::ffi::OsStr| {
         cim(&at)
             .args(["add-disk", "in", "out", "--id", "1", "--overlay", "", "--base"])
@@ -246,7 +216,17 @@ fn wrapper_lists_controllers_in_address_order() {
         250 0 31 2 S\\x20T\\xff 45 0 1\n256 1 0 0 NVME 32 1 0\n";
     prints(run(&at, &["wrapper", "good"]), listing);
     prints(fed(&at, &["wrapper", "-"], wrapper), listing);
-    fails(run(&at, &["wrapper", "bad"]), "refused 2 MAGIC at 8: letters wrong\n", 1);
+    let told = "refused 2 MAGIC at 8: letters wrong: the wrapper's header\n\
+        bytes from 0: 41 45 52 4F 01 00 00 00 [58] 53 4B 43 01 00 00 00 02\n";
+    fails(run(&at, &["wrapper", "bad"]), told, 1);
+    let mut twice = *wrapper;
+    (twice[33], twice[34]) = (0, 1);
+    put(&at, "twice", &twice);
+    let told = "refused 13 KEY at 33 (0x21): key again: entry 1\n\
+        bytes from 25: 4D 45 01 00 00 00 07 [00] 01 00 00 53 20 54 FF 00\n";
+    let output = run(&at, &["wrapper", "twice"]);
+    assert_eq!(output.status.code(), Some(1));
+    assert!(String::from_utf8_lossy(&output.stderr).starts_with(told.lines().next().unwrap()));
 }
 
 #[test]
@@ -259,19 +239,34 @@ fn message_tells_kind_numbers_and_data() {
     prints(run(&at, &["message", "01110700 00000f000000"]), "PortReadResp id 7 value 15\n");
     fs::write(at.join("0200"), [0xff, 0x1f]).unwrap();
     prints(run(&at, &["message", "0200"]), "TripleFault\n");
-    fails(hex("0200"), "refused 18 TAG at 0: unknown tag\n", 1);
+    fails(hex("0200"), "refused 18 TAG at 0: unknown tag\nbytes from 0: [02] 00\n", 1);
     prints(
         hex("04 11 09 00 00 00 00 00 00 00 00 02 00 00 00"),
         "DiskReadResp id 9 ok 0 bytes 0 error_code 2\n",
     );
     prints(hex("04 11 09 00 00 00 01 00 02 00 00"), "DiskReadResp id 9 ok 1 bytes 512\n");
     prints(hex("00 14 03 03 00 00 00 61 0A 62"), "Log level 3 data 7 3 \"a\\nb\"\n");
-    prints(hex("00 15 F8 03 02 00 00 00 68 69"), "SerialOutput port 1016 data 8 2\n");
+    let serial = "SerialOutput port 1016 data 8 2";
+    prints(hex("00 15 F8 03 02 00 00 00 68 69"), &format!("{serial} \"hi\"\n"));
+    prints(hex("00 15 F8 03 02 00 00 00 02 69"), &format!("{serial} hex 02 69\n"));
+    prints(hex("00 15 F8 03 00 00 00 00"), "SerialOutput port 1016 data 8 0 \"\"\n");
+    // As people paste it.
+    for bytes in ["0x01 0x11 0x07 0 0 0", "1 11 7", "01 11 x"] {
+        assert_eq!(hex(bytes).status.code(), Some(2), "{bytes}");
+    }
+    let pasted =
+        ["0x01,0x11,0x07,0x00,0x00,0x00,0x0F,0x00,0x00,0x00", "01:11:07:00:00:00:0f:00:00:00"];
+    for bytes in pasted {
+        prints(hex(bytes), "PortReadResp id 7 value 15\n");
+        prints(run(&at, &["message", bytes]), "PortReadResp id 7 value 15\n");
+    }
     prints(hex("ff 1f"), "TripleFault\n");
-    fails(hex("02 00"), "refused 18 TAG at 0: unknown tag\n", 1);
+    fails(hex("02 00"), "refused 18 TAG at 0: unknown tag\nbytes from 0: [02] 00\n", 1);
     fails(hex(""), "refused 11 SHAPE at 0: field doesn't fit, or bytes left over\n", 1);
     let two = "04 11 09 00 00 00 02 00 00 00 00 02 00 00 00";
-    fails(hex(two), "refused 15 VALUE at 6: byte or number outside its values\n", 1);
+    let told = "refused 15 VALUE at 6: byte or number outside its values\n\
+        bytes from 0: 04 11 09 00 00 00 [02] 00 00 00 00 02 00 00 00\n";
+    fails(hex(two), told, 1);
     let file = b"\x00\x10\x0F\x00\x00\x00";
     put(&at, "ack", file);
     prints(run(&at, &["message", "ack"]), "Ack seq 15\n");
@@ -298,7 +293,7 @@ fn region_lists_queues_and_what_waits() {
         "0 0 48 128 -40 64 32 104\n",
         "1 1 192 64 -24 28 28 52\n",
         "record 0 156 12 PortRead id 7 port 1016 size 1\n",
-        "record 0 68 25 MmioWrite id 8 addr 4096 data 18 7\n",
+        "record 0 68 25 MmioWrite id 8 addr 4096 data 18 7 \"valve 7\"\n",
         "record 1 252 10 PortReadResp id 7 value 15\n",
         "record 1 212 14 Log level 3 data 7 7 \"tank 15\"\n",
         "record 1 232 2 refused 18 TAG at 0: unknown tag; bytes 02 00\n",
@@ -342,13 +337,19 @@ fn region_refuses_what_is_broken() {
         bytes[place] = byte;
         fed(&at, &["region", "-"], &bytes)
     };
-    let told = |place: usize| format!("refused 20 REGION at {place}: broken region\n");
-    fails(broken(0, b'B'), &told(0), 1);
-    fails(broken(12, 65), &told(12), 1);
-    fails(broken(36, 44), &told(36), 1);
-    fails(broken(192, 1), &told(192), 1);
-    fails(fed(&at, &["region", "-"], &bytes[..271]), &told(8), 1);
-    fails(fed(&at, &["region", "-"], TWO_DEVICES), &told(0), 1);
+    let is_told = |output: std::process::Output, place: &str| {
+        let told = String::from_utf8(output.stderr).unwrap();
+        let (line, bytes) = told.split_once('\n').unwrap();
+        assert_eq!(line, format!("refused 20 REGION at {place}: broken region"));
+        assert!(bytes.starts_with("bytes from ") && bytes.contains('['), "{bytes}");
+        assert_eq!(output.status.code(), Some(1));
+    };
+    is_told(broken(0, b'B'), "0");
+    is_told(broken(12, 65), "12 (0xC)");
+    is_told(broken(36, 44), "36 (0x24)");
+    is_told(broken(192, 1), "192 (0xC0)");
+    is_told(fed(&at, &["region", "-"], &bytes[..271]), "8");
+    is_told(fed(&at, &["region", "-"], TWO_DEVICES), "0");
 }
 
 // ---- the command line
@@ -361,12 +362,14 @@ fn help_and_version_are_printed() {
         assert_eq!(output.status.code(), Some(0));
         assert!(String::from_utf8(output.stdout).unwrap().contains("cim add-disk FILE OUT"));
     }
-    let names =
-        ["check", "list", "canon", "add-device", "add-disk", "wrapper", "message", "region"];
-    for name in names {
+    let help = String::from_utf8(run(&at, &["--help"]).stdout).unwrap();
+    let names: Vec<&str> =
+        help.lines().filter_map(|line| line.strip_prefix("  cim ")?.split(' ').next()).collect();
+    assert!(names.len() > 10);
+    for name in names.into_iter().filter(|name| *name != "COMMAND" && *name != "--version") {
         let output = run(&at, &[name, "--help"]);
         assert_eq!(output.status.code(), Some(0));
-        assert!(String::from_utf8(output.stdout).unwrap().starts_with(&format!("cim {name} ")));
+        assert!(String::from_utf8(output.stdout).unwrap().starts_with(&format!("cim {name}")));
     }
     prints(run(&at, &["--version"]), concat!("cim ", env!("CARGO_PKG_VERSION"), "\n"));
 }
@@ -377,8 +380,12 @@ fn a_command_line_that_is_not_understood_is_told() {
     let usage = |words: &[&str], told: &str| fails(run(&at, words), &format!("cim: {told}\n"), 2);
     usage(&[], "no command is given; see `cim --help`");
     usage(&["chek", "f"], "there is no command `chek`; see `cim --help`");
-    usage(&["check"], "check: takes one FILE, and 0 are given; see `cim check --help`");
-    usage(&["check", "a", "b"], "check: takes one FILE, and 2 are given; see `cim check --help`");
+    usage(&["check"], "check: takes one FILE or more, and 0 are given; see `cim check --help`");
+    usage(&["list", "a", "b"], "list: takes one FILE, and 2 are given; see `cim list --help`");
+    usage(
+        &["check", "-", "-"],
+        "check: only one input can be standard input; see `cim check --help`",
+    );
     usage(&["check", "--fast", "a"], "check: there is no option `--fast`; see `cim check --help`");
     usage(&["canon", "a"], "canon: takes FILE and OUT, and 1 are given; see `cim canon --help`");
     let see = "see `cim add-disk --help`";
@@ -407,8 +414,12 @@ fn a_command_line_that_is_not_understood_is_told() {
         "add-device: `--version 65536` is no number from 0 to 65535; see `cim add-device --help`",
     );
     usage(
-        &["message", "--hex", "0x11"],
-        "message: `--hex 0x11` is not made of two hexadecimal digits for each byte; see `cim message --help`",
+        &["message", "--hex", "0x1"],
+        "message: `--hex 0x1`: `0x1` has 1 digit; each byte is two, as 07; see `cim message --help`",
+    );
+    usage(
+        &["message", "1 11 7"],
+        "message: there is no file `1 11 7`, and as hexadecimal `1` has 1 digit; each byte is two, as 07; see `cim message --help`",
     );
     usage(
         &["message", "--hex", "02 00", "f"],

@@ -21,6 +21,11 @@ pub fn key_again() -> Vec<u8> {
     file
 }
 
+/// What is said of P6.
+pub const KEY_AGAIN: &str = "refused 13 KEY at 53 (0x35): key again: \
+    DEVICES, entry 1 (device 3 PIT, version 1, flags 0), the same key as entry 0 at 36\n\
+    bytes from 45: 00 00 00 00 00 00 00 11 [03] 00 00 00 01 00 00 00 02\n";
+
 /// A folder of its own for one test, empty.
 pub fn folder(test: &str) -> PathBuf {
     let folder = Path::new(env!("CARGO_TARGET_TMPDIR")).join(test);
