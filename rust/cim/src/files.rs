@@ -9,6 +9,7 @@ use crate::command::KEEP;
 use crate::failure::Failure;
 use crate::json::Object;
 use crate::lines::Lines;
+use crate::progress::Progress;
 use crate::shown::name_of;
 use crate::system;
 use crate::words::Words;
@@ -57,7 +58,8 @@ pub fn read(name: &OsStr, most: u64) -> Result<Vec<u8>, Failure> {
         if system::input_is_closed() {
             return Err(Failure::Io("cannot read standard input: it is closed".into()));
         }
-        read_all(io::stdin().lock(), &mut bytes, most + 1)
+        let progress = Progress::new("reading standard input".into(), None);
+        read_all(io::stdin().lock(), &mut bytes, most + 1, progress)
             .map_err(|error| Failure::io("cannot read standard input", error))?;
         return Ok(bytes);
     }
@@ -65,14 +67,20 @@ pub fn read(name: &OsStr, most: u64) -> Result<Vec<u8>, Failure> {
         .and_then(|file| {
             let expected = calls::status_of(&file)?.len().min(most + 1);
             bytes.try_reserve_exact(expected as usize + 1)?;
-            read_all(file, &mut bytes, most + 1)
+            let progress = Progress::new(format!("reading {}", name_of(name)), Some(expected));
+            read_all(file, &mut bytes, most + 1, progress)
         })
         .map_err(|error| Failure::io(format!("cannot read {}", name_of(name)), error))?;
     Ok(bytes)
 }
 
 /// Reads up to `most` bytes.
-fn read_all(mut input: impl Read, bytes: &mut Vec<u8>, most: u64) -> io::Result<()> {
+fn read_all(
+    mut input: impl Read,
+    bytes: &mut Vec<u8>,
+    most: u64,
+    mut progress: Progress,
+) -> io::Result<()> {
     loop {
         // Room is asked for before it is used: the standard library's own reading aborts where there is none.
         if bytes.len() == bytes.capacity() {
@@ -83,6 +91,7 @@ fn read_all(mut input: impl Read, bytes: &mut Vec<u8>, most: u64) -> io::Result<
         if calls::read(&mut input, bytes, left.min(room))? == 0 {
             return Ok(());
         }
+        progress.at(bytes.len() as u64);
     }
 }
 
@@ -148,7 +157,9 @@ impl Claim {
     }
 
     fn put(self, bytes: &[u8]) -> io::Result<()> {
-        self.part.fill(bytes, self.old.as_ref())?;
+        let shown = name_of(self.path.as_os_str());
+        let progress = Progress::new(format!("writing {shown}"), Some(bytes.len() as u64));
+        self.part.fill(bytes, self.old.as_ref(), progress)?;
         let now = replaceable(&self.path, self.keep)?;
         if now.as_ref().map(stamp) != self.old.as_ref().map(stamp) {
             return Err(io::Error::other("it has changed since it was read, and is kept"));
@@ -263,9 +274,10 @@ impl Part {
 
     /// Writes the bytes, with the owner, the group and the permissions of the file to be replaced, and waits until they
     /// are on the disk.
-    fn fill(&self, bytes: &[u8], old: Option<&Metadata>) -> io::Result<()> {
-        for part in bytes.chunks(STEP) {
+    fn fill(&self, bytes: &[u8], old: Option<&Metadata>, mut progress: Progress) -> io::Result<()> {
+        for (number, part) in (1..).zip(bytes.chunks(STEP)) {
             calls::write(&self.file, part)?;
+            progress.at(bytes.len().min(number * STEP) as u64);
         }
         if let Some(old) = old {
             let new = calls::status_of(&self.file)?;

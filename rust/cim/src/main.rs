@@ -17,6 +17,7 @@ mod json;
 mod lines;
 mod names;
 mod place;
+mod progress;
 mod select;
 mod shown;
 #[allow(unsafe_code)]

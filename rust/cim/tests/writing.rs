@@ -423,3 +423,29 @@ fn names_are_printed_without_their_controls() {
     fails(run(&at, &["check", "\x07"]), told, 3);
     fails(run(&at, &["\x1bc"]), "cim: there is no command `\\u{1b}c`; see `cim --help`\n", 2);
 }
+
+// ---- progress
+
+#[test]
+fn a_long_file_is_told_about_on_a_terminal_and_nowhere_else() {
+    let at = folder("progress");
+    large(&at, "in", 80);
+    prints(run(&at, &["check", "in"]), "in: taken\n");
+    let on_terminal = |name: &str| {
+        Command::new("script")
+            .args(["-qec", &format!("{} check {name}", env!("CARGO_BIN_EXE_cim")), "/dev/null"])
+            .current_dir(&at)
+            .stdin(Stdio::null())
+            .output()
+    };
+    let Ok(output) = on_terminal("in") else {
+        eprintln!("a_long_file_is_told_about: not run on a terminal, script(1) is not there");
+        return;
+    };
+    let seen = String::from_utf8_lossy(&output.stdout).into_owned();
+    assert!(seen.contains("\rreading in: 8.0 MiB of 80.0 MiB\u{1b}[K"), "{seen:?}");
+    assert!(seen.ends_with("\r\u{1b}[Kin: taken\r\n"), "{seen:?}");
+    put(&at, "short", TWO_DEVICES);
+    let output = on_terminal("short").unwrap();
+    assert_eq!(String::from_utf8_lossy(&output.stdout), "short: taken\r\n");
+}
