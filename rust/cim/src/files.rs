@@ -16,7 +16,7 @@ use crate::words::Words;
 use std::ffi::{OsStr, OsString};
 use std::fmt::Display;
 use std::fs::{File, Metadata};
-use std::io::{self, Read, Write};
+use std::io::{self, IsTerminal, Read, Write};
 use std::os::unix::fs::MetadataExt;
 use std::path::{Path, PathBuf};
 use std::time::{Duration, Instant};
@@ -240,6 +240,7 @@ impl Part {
         system::watch();
         sweep(folder_of(target));
         let start = Instant::now();
+        let mut told = !io::stderr().is_terminal();
         loop {
             match system::undisturbed(|| Part::create(&path, mode)) {
                 Ok(Some(part)) => return Ok(part),
@@ -252,6 +253,10 @@ impl Part {
             }
             if start.elapsed() > PATIENCE {
                 return Err(io::Error::other("another command is writing it"));
+            }
+            if !told && start.elapsed() > Duration::from_secs(1) {
+                told = true;
+                complain(format_args!("cim: waits for another command to write {}", name_of(name)));
             }
             std::thread::sleep(Duration::from_millis(5));
         }
@@ -461,7 +466,7 @@ mod tests {
     #[test]
     fn each_call_of_a_replacement_of_anothers_file() {
         if fs::metadata("/proc/self").unwrap().uid() != 0 {
-            eprintln!("not run: it takes root to change owners");
+            complain("not run: the owner of a replaced file, it takes root to change owners");
             return;
         }
         each("owner", false, Some(OLD), |target| {

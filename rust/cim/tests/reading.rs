@@ -395,7 +395,7 @@ fn file_tells_snapshots_by_their_first_bytes() {
         Command::new("file").args(["-b", "-m", magic, name]).current_dir(&at).output().map(said)
     };
     let Ok(panel) = told("panel") else {
-        eprintln!("file_tells_snapshots_by_their_first_bytes: not run, file(1) is not there");
+        not_run("docs/magic, file(1) is not there");
         return;
     };
     assert_eq!(panel, "AEROSNAP snapshot, version 1\n");

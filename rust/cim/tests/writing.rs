@@ -153,7 +153,7 @@ const SOMEBODY: u32 = 1000;
 fn root(test: &str) -> bool {
     let is_root = fs::metadata("/proc/self").unwrap().uid() == 0;
     if !is_root {
-        eprintln!("{test}: not run, it takes root to change owners");
+        not_run(&format!("{test}, it takes root to change owners"));
     }
     is_root
 }
@@ -439,7 +439,7 @@ fn a_long_file_is_told_about_on_a_terminal_and_nowhere_else() {
             .output()
     };
     let Ok(output) = on_terminal("in") else {
-        eprintln!("a_long_file_is_told_about: not run on a terminal, script(1) is not there");
+        not_run("a long file on a terminal, script(1) is not there");
         return;
     };
     let seen = String::from_utf8_lossy(&output.stdout).into_owned();

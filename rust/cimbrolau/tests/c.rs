@@ -102,7 +102,8 @@ fn the_header_is_one_of_cpp_too() {
         .arg(&program)
         .output();
     let Ok(output) = compiler else {
-        eprintln!("the_header_is_one_of_cpp_too: not run, c++ is not there");
+        use std::io::Write;
+        let _ = writeln!(std::io::stderr(), "not run: the header in C++, c++ is not there");
         return;
     };
     assert!(output.status.success(), "{}", String::from_utf8_lossy(&output.stderr));

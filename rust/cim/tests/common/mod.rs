@@ -86,3 +86,8 @@ pub fn fails(output: Output, expected: &str, status: i32) {
     assert_eq!(String::from_utf8_lossy(&output.stdout), "");
     assert_eq!(output.status.code(), Some(status));
 }
+
+/// Says that a test is not run, past what the tests' own output keeps back.
+pub fn not_run(why: &str) {
+    let _ = writeln!(std::io::stderr(), "not run: {why}");
+}
