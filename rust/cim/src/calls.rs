@@ -52,12 +52,30 @@ pub fn folder(path: &Path) -> io::Result<ReadDir> {
     fs::read_dir(path)
 }
 
-/// Locks a file for as long as it is open; false where another has it.
-pub fn lock(file: &File) -> io::Result<bool> {
+/// Who has a file locked.
+#[derive(Clone, Copy, Debug, PartialEq)]
+pub enum Lock {
+    /// The caller, for as long as the file is open.
+    Mine,
+    Another,
+    /// The file system has no locks.
+    Unknown,
+}
+
+/// The number of an error that some file systems answer where they have no locks.
+const NO_LOCKS: i32 = 37;
+
+pub fn lock(file: &File) -> io::Result<Lock> {
     step()?;
     match file.try_lock() {
-        Ok(()) => Ok(true),
-        Err(TryLockError::WouldBlock) => Ok(false),
+        Ok(()) => Ok(Lock::Mine),
+        Err(TryLockError::WouldBlock) => Ok(Lock::Another),
+        Err(TryLockError::Error(error))
+            if error.kind() == io::ErrorKind::Unsupported
+                || error.raw_os_error() == Some(NO_LOCKS) =>
+        {
+            Ok(Lock::Unknown)
+        }
         Err(TryLockError::Error(error)) => Err(error),
     }
 }

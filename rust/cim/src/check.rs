@@ -51,13 +51,14 @@ fn one(words: &Words, name: &OsStr) -> Result<u8, Failure> {
     let json = words.has(&JSON);
     let file = || Object::new("check").text("file", &shown);
     let found = files::read(name, snapshot::MOST_BYTES)
-        .and_then(|file| snapshot::check(&file).map_err(of_snapshot(&file)));
+        .and_then(|file| snapshot::check(&file).map_err(of_snapshot(&file)))
+        .map_err(|failure| if json { failure } else { failure.named(&shown) });
     let (object, status) = match found {
         Ok(()) if words.has(&QUIET) => return Ok(0),
         Ok(()) if !json => return files::print(&format!("{shown}: taken\n")).map(|()| 0),
         Ok(()) => (file().text("verdict", "taken"), 0),
         Err(Failure::Refused(told)) if !json => {
-            files::complain(format_args!("{shown}: {}", told.words()));
+            files::complain(told.words());
             return Ok(1);
         }
         Err(Failure::Refused(told)) => (told.members(file().text("verdict", "refused")), 1),

@@ -54,7 +54,9 @@ fn run(words: &Words) -> Result<(), Failure> {
 /// The canonical form of a file. What was read is let go.
 fn canonical(name: &OsStr) -> Result<Vec<u8>, Failure> {
     let file = files::read(name, snapshot::MOST_BYTES)?;
-    snapshot::canonical(&file).map_err(of_snapshot(&file))
+    snapshot::canonical(&file)
+        .map_err(of_snapshot(&file))
+        .map_err(|failure| failure.named(&name_of(name)))
 }
 
 /// A part of a snapshot by what it is called: parts of two files that are called the same are compared.

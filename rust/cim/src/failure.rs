@@ -27,6 +27,8 @@ pub enum Failure {
 
 /// A refusal, and what can be said beside it.
 pub struct Told {
+    /// What is refused, where a command has more than one input.
+    pub of: Option<String>,
     pub refusal: Refusal,
     /// Where its place lies, in words.
     pub lies: Option<String>,
@@ -38,7 +40,8 @@ impl Told {
     /// The refusal on a line, and the bytes on a second one.
     pub fn words(&self) -> String {
         let Refusal { kind, place } = self.refusal;
-        let mut words = format!("refused {} {} at {place}", kind.number(), kind.name());
+        let of = self.of.as_ref().map_or_else(String::new, |of| format!("{of}: "));
+        let mut words = format!("{of}refused {} {} at {place}", kind.number(), kind.name());
         if place > 9 {
             words += &format!(" (0x{place:X})");
         }
@@ -56,6 +59,7 @@ impl Told {
     pub fn members(&self, object: Object) -> Object {
         let Refusal { kind, place } = self.refusal;
         let object = object
+            .perhaps("file", self.of.as_deref())
             .number("number", kind.number())
             .text("name", kind.name())
             .number("place", place)
@@ -75,6 +79,14 @@ impl Failure {
             return Failure::Closed;
         }
         Failure::Io(format!("{tried}: {error}"))
+    }
+
+    /// A refusal, told with what is refused.
+    pub fn named(mut self, of: &str) -> Failure {
+        if let Failure::Refused(told) = &mut self {
+            told.of = Some(of.to_string());
+        }
+        self
     }
 
     /// A fault of the command line, told with the command that it was given to.
@@ -125,7 +137,7 @@ impl From<Refusal> for Failure {
             Refusal { kind: Kind::Room, place } => {
                 Failure::Io(format!("out of memory: the output takes {place} bytes"))
             }
-            _ => Failure::Refused(Box::new(Told { refusal, lies: None, bytes: None })),
+            _ => Failure::Refused(Box::new(Told { of: None, refusal, lies: None, bytes: None })),
         }
     }
 }

@@ -4,7 +4,7 @@
 //! that two commands that change one file come one after the other. The bytes go there, and once they are on the disk it
 //! takes the target's name.
 
-use crate::calls;
+use crate::calls::{self, Lock};
 use crate::command::KEEP;
 use crate::failure::Failure;
 use crate::json::Object;
@@ -252,7 +252,10 @@ impl Part {
                 continue;
             }
             if start.elapsed() > PATIENCE {
-                return Err(io::Error::other("another command is writing it"));
+                let left = name_of(path.as_os_str());
+                let sentence =
+                    format!("another command is writing it, or was killed and left {left}");
+                return Err(io::Error::other(sentence));
             }
             if !told && start.elapsed() > Duration::from_secs(1) {
                 told = true;
@@ -267,14 +270,12 @@ impl Part {
         let file = calls::create(path, mode)?;
         system::remove_at_end(Some(path));
         let part = Part { path: path.to_path_buf(), file, taken: false };
-        match calls::lock(&part.file).and_then(|locked| Ok(locked && is_at(&part.file, path)?)) {
-            Ok(true) => Ok(Some(part)),
-            Ok(false) => {
-                part.forget();
-                Ok(None)
-            }
-            Err(error) => Err(error),
+        // Where there are no locks, that the file is new has to do.
+        if calls::lock(&part.file)? != Lock::Another && is_at(&part.file, path)? {
+            return Ok(Some(part));
         }
+        part.forget();
+        Ok(None)
     }
 
     /// Writes the bytes, with the owner, the group and the permissions of the file to be replaced, and waits until they
@@ -357,14 +358,23 @@ fn is_at(file: &File, path: &Path) -> io::Result<bool> {
     }
 }
 
-/// Removes a new file that nobody has locked: its command was killed. False where somebody has it.
+/// Removes a new file that nobody has locked: its command was killed. False where somebody has it, or nobody knows.
 fn remove_left(path: &Path) -> io::Result<bool> {
+    match calls::status(path) {
+        Ok(found) if found.is_file() => (),
+        Ok(_) => {
+            let name = name_of(path.as_os_str());
+            return Err(io::Error::other(format!("{name} is in the way, and not a file")));
+        }
+        Err(error) if error.kind() == io::ErrorKind::NotFound => return Ok(true),
+        Err(error) => return Err(error),
+    }
     let file = match calls::open(path) {
         Ok(file) => file,
         Err(error) if error.kind() == io::ErrorKind::NotFound => return Ok(true),
         Err(error) => return Err(error),
     };
-    if !calls::lock(&file)? {
+    if calls::lock(&file)? != Lock::Mine {
         return Ok(false);
     }
     if is_at(&file, path)? {

@@ -69,11 +69,11 @@ fn run(words: &[OsString], json: &mut bool) -> Result<(), Failure> {
         let word = shown::name_of(first);
         return Err(Failure::Usage(format!("there is no command `{word}`; see `cim --help`")));
     };
-    let files = rest.iter().position(|word| word == "--").unwrap_or(rest.len());
-    if rest[..files].iter().any(|word| word == "--help" || word == "-h") {
+    let split = words::split(rest, command.options);
+    if split.as_ref().is_ok_and(|words| words.asks_for_help) {
         return files::print(&help::about(command));
     }
-    let words = words::split(rest, command.options)
+    let words = split
         .map_err(|fault| Failure::Usage(format!("{name}: {fault}; see `cim {name} --help`")))?;
     *json = words.has(&command::JSON);
     (command.run)(&words).map_err(|failure| failure.of_command(name))

@@ -101,5 +101,5 @@ fn records(region: &mut Region, queue: u32, lines: &mut Lines) -> Result<(), Fai
 
 /// A refusal as an object.
 fn refused(refusal: Refusal) -> Object {
-    Refused { refusal, lies: None, bytes: None }.members(Object::new("refused"))
+    Refused { of: None, refusal, lies: None, bytes: None }.members(Object::new("refused"))
 }

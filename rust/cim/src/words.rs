@@ -10,12 +10,14 @@ use std::os::unix::ffi::OsStrExt;
 pub struct Words {
     plain: Vec<OsString>,
     options: Vec<(&'static str, OsString)>,
+    /// Whether one of them is `--help`.
+    pub asks_for_help: bool,
 }
 
 /// Sorts the words by the options that the command knows. A value is the next word or stands behind `=`; behind `--` all
 /// words are plain, and so is `-`.
 pub fn split(words: &[OsString], known: &[Choice]) -> Result<Words, String> {
-    let mut sorted = Words { plain: Vec::new(), options: Vec::new() };
+    let mut sorted = Words { plain: Vec::new(), options: Vec::new(), asks_for_help: false };
     let mut rest = words.iter();
     while let Some(word) = rest.next() {
         let bytes = word.as_bytes();
@@ -25,6 +27,10 @@ pub fn split(words: &[OsString], known: &[Choice]) -> Result<Words, String> {
         }
         if !bytes.starts_with(b"-") || word == "-" {
             sorted.plain.push(word.clone());
+            continue;
+        }
+        if word == "--help" || word == "-h" {
+            sorted.asks_for_help = true;
             continue;
         }
         let (name, behind) = match bytes.iter().position(|byte| *byte == b'=') {
@@ -132,7 +138,9 @@ mod tests {
         let words = sorted(&["-", "--id", "3", "file", "-q"]).unwrap_or_else(|_| panic!("refused"));
         assert_eq!(words.plain, ["-", "file"]);
         assert_eq!(words.option("--id"), Some(OsStr::new("3")));
-        assert!(words.has(&KNOWN[1]));
+        assert!(words.has(&KNOWN[1]) && !words.asks_for_help);
+        assert!(!sorted(&["--id", "-h", "--", "--help"]).is_ok_and(|words| words.asks_for_help));
+        assert!(sorted(&["file", "-h"]).is_ok_and(|words| words.asks_for_help));
         for (words, fault) in [
             (&["--fast=1"][..], "there is no option `--fast`"),
             (&["--id"], "`--id` lacks its value"),

@@ -5,6 +5,7 @@ use crate::failure::{of_snapshot, of_wrapper, Failure};
 use crate::files;
 use crate::json::Object;
 use crate::lines::Lines;
+use crate::names;
 use crate::select;
 use crate::words::Words;
 use cimbrolau::snapshot;
@@ -38,6 +39,7 @@ fn run(words: &Words) -> Result<(), Failure> {
             let device = select::device(devices, word)?;
             let payload = device.payload(&file);
             print(words, payload.expect("a record's part stands in the file that it came from"))
+                .map_err(|failure| failure.named(&names::device_words(device.key())))
         }
     }
 }

@@ -172,7 +172,7 @@ fn diff_compares_content() {
         2,
     );
     put(&at, "bad", &key_again());
-    fails(run(&at, &["diff", "two", "bad"]), KEY_AGAIN, 1);
+    fails(run(&at, &["diff", "two", "bad"]), &format!("bad: {KEY_AGAIN}"), 1);
 }
 
 #[test]
@@ -241,7 +241,8 @@ fn wrapper_goes_on_from_a_snapshot() {
     let listing = "address bus device function tag offset length position\n\
         250 0 31 2 SATA 45 2 1\n256 1 0 0 NVME 32 1 0\n";
     prints(run(&at, &["wrapper", "panel", "--device", "256"]), listing);
-    let told = "refused 1 SHORT at 0: under 16 bytes: it has 1 byte\nbytes from 0: [11]\n";
+    let told = "device 14 PCI_CFG, version 1, flags 0: \
+        refused 1 SHORT at 0: under 16 bytes: it has 1 byte\nbytes from 0: [11]\n";
     fails(run(&at, &["wrapper", "panel", "--device", "14"]), told, 1);
 }
 

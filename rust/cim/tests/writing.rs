@@ -344,6 +344,21 @@ fn a_file_that_changed_since_it_was_read_is_kept() {
     assert_eq!(names(&at), ["par"]);
 }
 
+#[test]
+fn what_stands_in_the_way_of_the_new_file_is_told() {
+    let at = folder("in_the_way");
+    put(&at, "in", TWO_DEVICES);
+    put(&at, "kept", b"kept");
+    symlink("kept", at.join(".out.cim-part")).unwrap();
+    let told = "cim: cannot write out: ./.out.cim-part is in the way, and not a file\n";
+    fails(run(&at, &["canon", "in", "out"]), told, 3);
+    fs::remove_file(at.join(".out.cim-part")).unwrap();
+    assert!(Command::new("mkfifo").arg(at.join(".out.cim-part")).status().unwrap().success());
+    fails(run(&at, &["canon", "in", "out"]), told, 3);
+    assert_eq!(fs::read(at.join("kept")).unwrap(), b"kept");
+    assert_eq!(names(&at), [".out.cim-part", "in", "kept"]);
+}
+
 // ---- signals
 
 /// Sends a signal to a child.
