@@ -1,6 +1,8 @@
 //! The system calls that reading and writing files take, one function for each. In tests every one of them can be made to
 //! fail, or to be the last one made, as if the command had been killed there.
 
+use crate::system;
+use std::ffi::{CStr, CString};
 use std::fs::{self, File, Metadata, OpenOptions, ReadDir, TryLockError};
 use std::io::{self, Read, Write};
 use std::os::unix::fs::{fchown, OpenOptionsExt, PermissionsExt};
@@ -107,6 +109,17 @@ pub fn set_owner(file: &File, owner: u32, group: u32) -> io::Result<()> {
 pub fn set_mode(file: &File, mode: u32) -> io::Result<()> {
     step()?;
     file.set_permissions(fs::Permissions::from_mode(mode))
+}
+
+/// The attributes of a file that go with it when it is replaced.
+pub fn attributes(file: &File) -> io::Result<Vec<(CString, Vec<u8>)>> {
+    step()?;
+    system::attributes(file)
+}
+
+pub fn set_attribute(file: &File, name: &CStr, value: &[u8]) -> io::Result<()> {
+    step()?;
+    system::set_attribute(file, name, value)
 }
 
 /// Waits until a file or a folder is on the disk.

@@ -159,7 +159,8 @@ impl Claim {
     fn put(self, bytes: &[u8]) -> io::Result<()> {
         let shown = name_of(self.path.as_os_str());
         let progress = Progress::new(format!("writing {shown}"), Some(bytes.len() as u64));
-        self.part.fill(bytes, self.old.as_ref(), progress)?;
+        let old = self.old.as_ref().map(|old| (self.path.as_path(), old));
+        self.part.fill(bytes, old, progress)?;
         let now = replaceable(&self.path, self.keep)?;
         if now.as_ref().map(stamp) != self.old.as_ref().map(stamp) {
             return Err(io::Error::other("it has changed since it was read, and is kept"));
@@ -278,25 +279,37 @@ impl Part {
         Ok(None)
     }
 
-    /// Writes the bytes, with the owner, the group and the permissions of the file to be replaced, and waits until they
-    /// are on the disk.
-    fn fill(&self, bytes: &[u8], old: Option<&Metadata>, mut progress: Progress) -> io::Result<()> {
+    /// Writes the bytes, makes the file like the one to be replaced, and waits until all of it is on the disk.
+    fn fill(
+        &self,
+        bytes: &[u8],
+        old: Option<(&Path, &Metadata)>,
+        mut progress: Progress,
+    ) -> io::Result<()> {
         for (number, part) in (1..).zip(bytes.chunks(STEP)) {
             calls::write(&self.file, part)?;
             progress.at(bytes.len().min(number * STEP) as u64);
         }
-        if let Some(old) = old {
-            let new = calls::status_of(&self.file)?;
-            if (new.uid(), new.gid()) != (old.uid(), old.gid()) {
-                calls::set_owner(&self.file, old.uid(), old.gid()).map_err(|error| {
-                    let (owner, group) = (old.uid(), old.gid());
-                    let sentence = format!("its owner and group, {owner}:{group}, cannot be kept");
-                    io::Error::new(error.kind(), format!("{sentence}: {error}"))
-                })?;
-            }
-            calls::set_mode(&self.file, old.mode() & 0o7777)?;
+        if let Some((path, old)) = old {
+            self.become_alike(path, old)?;
         }
         calls::sync(&self.file)
+    }
+
+    /// Takes over the owner, the group, the permissions and the attributes of the file to be replaced.
+    fn become_alike(&self, path: &Path, old: &Metadata) -> io::Result<()> {
+        let new = calls::status_of(&self.file)?;
+        let (owner, group) = (old.uid(), old.gid());
+        if (new.uid(), new.gid()) != (owner, group) {
+            let kept = format!("its owner and group, {owner}:{group}, cannot be kept");
+            calls::set_owner(&self.file, owner, group).map_err(told(&kept))?;
+        }
+        calls::set_mode(&self.file, old.mode() & 0o7777)?;
+        for (name, value) in calls::open_to_write(path).and_then(|old| calls::attributes(&old))? {
+            let kept = format!("its attribute {} cannot be kept", name.to_string_lossy());
+            calls::set_attribute(&self.file, &name, &value).map_err(told(&kept))?;
+        }
+        Ok(())
     }
 
     /// Gives the file the target's name; with `keep` only if nothing has that name.
@@ -333,6 +346,11 @@ impl Drop for Part {
             });
         }
     }
+}
+
+/// An error, told behind what it keeps from being done.
+fn told(what: &str) -> impl Fn(io::Error) -> io::Error + '_ {
+    move |error| io::Error::new(error.kind(), format!("{what}: {error}"))
 }
 
 /// Bytes that are read or written at once.
@@ -483,6 +501,41 @@ mod tests {
             fs::write(target, OLD).unwrap();
             chown(target, Some(1000), Some(1001)).unwrap();
         });
+    }
+
+    #[test]
+    fn who_else_may_use_a_file_stays() {
+        let folder = folder("attributes");
+        let target = folder.join("target");
+        fs::write(&target, OLD).unwrap();
+        let file = File::open(&target).unwrap();
+        // Version 2; the owner may read and write, user 1001 may read, the group nothing, at most that, others nothing.
+        let entries: [(u16, u16, u32); 5] = [
+            (1, 6, u32::MAX),
+            (2, 4, 1001),
+            (4, 0, u32::MAX),
+            (16, 4, u32::MAX),
+            (32, 0, u32::MAX),
+        ];
+        let mut list = 2u32.to_le_bytes().to_vec();
+        for (who, may, id) in entries {
+            list.extend(who.to_le_bytes());
+            list.extend(may.to_le_bytes());
+            list.extend(id.to_le_bytes());
+        }
+        for (name, value) in [(c"system.posix_acl_access", &list[..]), (c"user.cim", b"kept")] {
+            if let Err(error) = system::set_attribute(&file, name, value) {
+                complain(format_args!("not run: {name:?} cannot be set here: {error}"));
+            }
+        }
+        let before = system::attributes(&file).unwrap();
+        let mode = file.metadata().unwrap().mode();
+        assert_eq!(write(&target, false, Plan::Nothing), (true, false));
+        let file = File::open(&target).unwrap();
+        assert_eq!(fs::read(&target).unwrap(), NEW);
+        assert_eq!(system::attributes(&file).unwrap(), before);
+        assert_eq!(file.metadata().unwrap().mode(), mode);
+        fs::remove_dir_all(&folder).unwrap();
     }
 
     #[test]

@@ -1,7 +1,11 @@
-//! What the system offers and the standard library does not: what to do when a signal comes, and which descriptors were
-//! closed at the start. All of it is the C library's, declared here; nothing else in the command is `unsafe`.
+//! What the system offers and the standard library does not: what to do when a signal comes, which descriptors were closed
+//! at the start, and the further attributes of a file, its list of who else may use it among them. All of it is the C
+//! library's, declared here; nothing else in the command is `unsafe`.
 
-use std::ffi::{c_char, c_int, CString};
+use std::ffi::{c_char, c_int, c_void, CStr, CString};
+use std::fs::File;
+use std::io;
+use std::os::fd::AsRawFd;
 use std::path::Path;
 use std::ptr::null_mut;
 use std::sync::atomic::{AtomicBool, AtomicI32, AtomicPtr, AtomicU8, Ordering::SeqCst};
@@ -12,6 +16,17 @@ extern "C" {
     fn raise(number: c_int) -> c_int;
     fn unlink(path: *const c_char) -> c_int;
     fn fcntl(descriptor: c_int, command: c_int, ...) -> c_int;
+    /// The names of a file's attributes, each with a zero byte behind it; how many bytes they have.
+    fn flistxattr(descriptor: c_int, names: *mut c_char, room: usize) -> isize;
+    /// An attribute's value; how many bytes it has.
+    fn fgetxattr(descriptor: c_int, name: *const c_char, value: *mut c_void, room: usize) -> isize;
+    fn fsetxattr(
+        descriptor: c_int,
+        name: *const c_char,
+        value: *const c_void,
+        length: usize,
+        flags: c_int,
+    ) -> c_int;
 }
 
 // The numbers are the same on every Linux.
@@ -113,4 +128,57 @@ pub fn input_is_closed() -> bool {
 /// Whether standard output was closed at the start.
 pub fn output_is_closed() -> bool {
     CLOSED.load(SeqCst) & 2 != 0
+}
+
+// ---- attributes
+
+/// The most bytes that the names of a file's attributes have, and the value of one.
+const MOST_ATTRIBUTE: usize = 65_536;
+
+/// The attribute that lists who else may use a file.
+const LIST: &[u8] = b"system.posix_acl_access";
+
+/// Those attributes of a file that its owner gives it: the list of who else may use it, and what programs keep there. A file
+/// system that knows none has none.
+pub fn attributes(file: &File) -> io::Result<Vec<(CString, Vec<u8>)>> {
+    let mut names = vec![0u8; MOST_ATTRIBUTE];
+    // SAFETY: the pointer and the length are of one live slice, within which the system writes during the call alone.
+    let length = unsafe { flistxattr(file.as_raw_fd(), names.as_mut_ptr().cast(), names.len()) };
+    let Ok(length) = usize::try_from(length) else {
+        return match io::Error::last_os_error() {
+            error if error.kind() == io::ErrorKind::Unsupported => Ok(Vec::new()),
+            error => Err(error),
+        };
+    };
+    let mut found = Vec::new();
+    for name in names[..length].split_inclusive(|byte| *byte == 0) {
+        let Ok(name) = CStr::from_bytes_with_nul(name) else { continue };
+        if name.to_bytes() == LIST || name.to_bytes().starts_with(b"user.") {
+            found.push((name.to_owned(), attribute(file, name)?));
+        }
+    }
+    Ok(found)
+}
+
+fn attribute(file: &File, name: &CStr) -> io::Result<Vec<u8>> {
+    let mut value = vec![0u8; MOST_ATTRIBUTE];
+    // SAFETY: as above; the name is a C string.
+    let length = unsafe {
+        fgetxattr(file.as_raw_fd(), name.as_ptr(), value.as_mut_ptr().cast(), value.len())
+    };
+    value.truncate(usize::try_from(length).map_err(|_| io::Error::last_os_error())?);
+    Ok(value)
+}
+
+pub fn set_attribute(file: &File, name: &CStr, value: &[u8]) -> io::Result<()> {
+    // SAFETY: the pointer and the length are of one live slice, which the system reads during the call alone; the name is a
+    // C string.
+    let done = unsafe {
+        fsetxattr(file.as_raw_fd(), name.as_ptr(), value.as_ptr().cast(), value.len(), 0)
+    };
+    if done == 0 {
+        Ok(())
+    } else {
+        Err(io::Error::last_os_error())
+    }
 }
