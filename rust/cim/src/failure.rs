@@ -89,6 +89,14 @@ impl Failure {
         self
     }
 
+    /// A refusal, told with where its place lies.
+    pub fn lying(mut self, lies: Option<String>) -> Failure {
+        if let Failure::Refused(told) = &mut self {
+            told.lies = lies;
+        }
+        self
+    }
+
     /// A fault of the command line, told with the command that it was given to.
     pub fn of_command(self, name: &str) -> Failure {
         match self {

@@ -7,7 +7,7 @@
 use crate::names;
 use crate::shown::{name_of, size};
 use cimbrolau::snapshot::{self, Device, DeviceKey, Section};
-use cimbrolau::{wrapper, Kind, Message, Refusal, Result};
+use cimbrolau::{region, wrapper, Kind, Message, Refusal, Result};
 use std::ffi::OsStr;
 use std::fmt::Write;
 use std::os::unix::ffi::OsStrExt;
@@ -181,6 +181,29 @@ pub fn in_wrapper(bytes: &[u8], refusal: Refusal) -> Option<String> {
         _ if place < HEADER => Some("the wrapper's header".into()),
         _ => in_list(&mut Cut::of_wrapper(bytes, place)?, refusal, &UNSAID),
     }
+}
+
+/// Where the place of a region's refusal lies. The region is asked about with fewer queues, and is as it was afterwards.
+pub fn in_region(region: &mut [u8], refusal: Refusal) -> Option<String> {
+    let place = usize::try_from(refusal.place).ok()?;
+    if place < HEADER || refusal.kind != Kind::Region {
+        return Some("the region's header".into());
+    }
+    let count = HEADER - 4..HEADER;
+    let own = region.get(count.clone())?.to_vec();
+    // With so many queues and no fewer, the same field is the first wrong one.
+    let queues = (1..=region::MOST_QUEUES).find(|queues| {
+        region[count.clone()].copy_from_slice(&(*queues as u32).to_le_bytes());
+        region::check(region) == Err(refusal)
+    });
+    region[count].copy_from_slice(&own);
+    let (queue, field) = (place / HEADER - 1, place % HEADER);
+    Some(match (queues?, field) {
+        (queues, 4) if queue < queues => format!("queue {queue}: its offset"),
+        (queues, 8) if queue < queues => format!("queue {queue}: its capacity"),
+        (queues, 12) if queue < queues => format!("queue {queue}: its reserved number"),
+        (queues, _) => format!("queue {}: the header of its ring", queues - 1),
+    })
 }
 
 /// A list that is cut at a place, and a count that can be set: of it the library is asked what it would be with fewer
@@ -385,26 +408,31 @@ mod tests {
         let id = number(file, at, 4) as u32;
         let name = names::section_word(id);
         let end = at + 16 + number(file, at + 8, 8);
-        if !matches!(id, 4 | 5) {
+        if !matches!(id, 4 | 5 | 7 | 8) {
             return format!("{name}, ");
         }
+        let version = number(file, at + 4, 2);
         if place == at + 16 {
             return format!("{name}, its count");
         }
         let count = number(file, at + 16, 4);
         let mut entry = at + 20;
         for index in 0..count {
-            let behind = match id {
-                _ if entry + 8 > end => usize::MAX,
-                4 if entry + 16 > end => usize::MAX,
-                4 => (entry + 16).saturating_add(number(file, entry + 8, 8)),
-                _ => {
-                    let overlay = (entry + 8).saturating_add(number(file, entry + 4, 4));
-                    match overlay.saturating_add(4) > end {
-                        true => usize::MAX,
-                        false => overlay + 4 + number(file, overlay, 4),
-                    }
+            // A part of `fixed` bytes, then a length of `width` bytes and so many bytes; endless where it does not fit.
+            let sized = |start: usize, fixed: usize, width: usize| {
+                let length = start.saturating_add(fixed);
+                match length.saturating_add(width) > end {
+                    true => usize::MAX,
+                    false => (length + width).saturating_add(number(file, length, width)),
                 }
+            };
+            let behind = match (id, version) {
+                (4, _) => sized(entry, 8, 8),
+                (5, _) => sized(sized(entry, 4, 4), 0, 4),
+                (7, _) => sized(sized(entry, 4, 4), 0, 8),
+                (_, 1) if entry + 72 <= end => entry + 72,
+                (_, 2) if entry + 268 <= end => entry + 268,
+                _ => usize::MAX,
             };
             if place < behind || place == behind && kind == Kind::Text {
                 return format!("{name}, entry {index}");
@@ -435,6 +463,54 @@ mod tests {
             }
         }
         assert!(refused > 1500, "{refused}");
+    }
+
+    /// The words for a region beside a walk over its descriptors.
+    #[test]
+    fn regions_with_faults_at_random() {
+        let mut random = differential::random::Random::new(28);
+        let mut refused = 0;
+        for number in 0..20_000 {
+            let made = differential::regions::any(&mut random);
+            let mut region = differential::damage::several(&mut random, &made, 1 + number % 2);
+            let Err(refusal) = region::check(&region) else { continue };
+            refused += 1;
+            let before = region.clone();
+            let said = in_region(&mut region, refusal).expect("words");
+            assert_eq!(region, before);
+            let expected = expected_in_region(&region, refusal.place as usize);
+            assert_eq!(said, expected, "{refusal}");
+        }
+        assert!(refused > 5_000, "{refused}");
+    }
+
+    fn expected_in_region(region: &[u8], place: usize) -> String {
+        if place < 16 {
+            return "the region's header".into();
+        }
+        let count = number(region, 12, 4);
+        let queue = (place - 16) / 16;
+        if queue < count {
+            let field = ["kind", "offset", "capacity", "reserved number"][place % 16 / 4];
+            return format!("queue {queue}: its {field}");
+        }
+        let ring = (0..count).find(|queue| {
+            let ring = number(region, 20 + 16 * queue, 4);
+            (ring..ring + 16).contains(&place)
+        });
+        format!("queue {}: the header of its ring", ring.expect("a ring"))
+    }
+
+    #[test]
+    fn files_with_faults_at_random() {
+        let mut random = differential::random::Random::new(28);
+        let mut refused = 0;
+        for number in 0..20_000 {
+            let made = differential::make::file(&mut random);
+            let file = differential::damage::several(&mut random, &made, 1 + number % 3);
+            agree(&file, &mut refused);
+        }
+        assert!(refused > 10_000, "{refused}");
     }
 
     #[test]

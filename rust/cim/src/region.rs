@@ -6,6 +6,7 @@ use crate::files;
 use crate::json::Object;
 use crate::lines::Lines;
 use crate::message::Told;
+use crate::place;
 use crate::shown::hex;
 use crate::words::Words;
 use cimbrolau::region::{self, Cursors, Queue, Region};
@@ -38,7 +39,10 @@ fn run(words: &Words) -> Result<(), Failure> {
     let [name] = words.plain("one FILE")?;
     // Records are taken from what was read; the file stays.
     let mut bytes = files::read(name, region::MOST_BYTES)?;
-    region::check(&bytes).map_err(of_input(&bytes))?;
+    if let Err(refusal) = region::check(&bytes) {
+        let lies = place::in_region(&mut bytes, refusal);
+        return Err(of_input(&bytes)(refusal).lying(lies));
+    }
     let mut region = Region::open(&mut bytes)?;
     let mut lines = Lines::new(words);
     lines.heading("queue kind offset capacity head reserve commit used");

@@ -337,19 +337,20 @@ fn region_refuses_what_is_broken() {
         bytes[place] = byte;
         fed(&at, &["region", "-"], &bytes)
     };
-    let is_told = |output: std::process::Output, place: &str| {
+    let is_told = |output: std::process::Output, place: &str, lies: &str| {
         let told = String::from_utf8(output.stderr).unwrap();
         let (line, bytes) = told.split_once('\n').unwrap();
-        assert_eq!(line, format!("refused 20 REGION at {place}: broken region"));
+        assert_eq!(line, format!("refused 20 REGION at {place}: broken region: {lies}"));
         assert!(bytes.starts_with("bytes from ") && bytes.contains('['), "{bytes}");
         assert_eq!(output.status.code(), Some(1));
     };
-    is_told(broken(0, b'B'), "0");
-    is_told(broken(12, 65), "12 (0xC)");
-    is_told(broken(36, 44), "36 (0x24)");
-    is_told(broken(192, 1), "192 (0xC0)");
-    is_told(fed(&at, &["region", "-"], &bytes[..271]), "8");
-    is_told(fed(&at, &["region", "-"], TWO_DEVICES), "0");
+    let header = "the region's header";
+    is_told(broken(0, b'B'), "0", header);
+    is_told(broken(12, 65), "12 (0xC)", header);
+    is_told(broken(36, 44), "36 (0x24)", "queue 1: its offset");
+    is_told(broken(192, 1), "192 (0xC0)", "queue 1: the header of its ring");
+    is_told(fed(&at, &["region", "-"], &bytes[..271]), "8", header);
+    is_told(fed(&at, &["region", "-"], TWO_DEVICES), "0", header);
 }
 
 // ---- the command line
