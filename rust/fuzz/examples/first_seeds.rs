@@ -43,6 +43,10 @@ fn main() {
     {
         write("regions", 12 + number, &regions::one(64, at, committed, pending).1);
     }
+    for (number, extended) in [false, true].into_iter().enumerate() {
+        write("states", number, &make::cpu_state(random, 2, extended));
+    }
+    write("states", 2, &make::mmu_state(random, 2));
     let tags = [
         0x0000, 0x0001, 0x0100, 0x0101, 0x0102, 0x0103, 0x0104, 0x0105, 0x1000, 0x1100, 0x1101,
         0x1102, 0x1103, 0x1104, 0x1105, 0x1200, 0x1300, 0x1301, 0x1302, 0x1303, 0x1400, 0x1500,

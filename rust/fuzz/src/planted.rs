@@ -4,7 +4,7 @@ use differential::planted;
 use reference::answer::{CUT, KEY, MANY, SECVER, TEXT, VALUE};
 use reference::Answer;
 
-use crate::subject::{files, messages, regions, wrappers, Call, Subject};
+use crate::subject::{files, messages, regions, states, wrappers, Call, Subject};
 
 const TAKEN: Answer = Answer { number: 0, place: 0 };
 
@@ -98,6 +98,17 @@ pub fn all() -> Vec<(&'static str, Subject)> {
                         }
                     }
                     answer
+                }),
+            ),
+        ),
+        (
+            "a register that the state lacks",
+            with(
+                states(),
+                "cpu_field",
+                Box::new(|state, out| {
+                    let (field, index) = (u32::from(state.first().copied().unwrap_or(0)) % 28, 0);
+                    reference::cpu_field(state, field, index, out)
                 }),
             ),
         ),

@@ -121,6 +121,49 @@ pub fn messages() -> Subject {
     }
 }
 
+/// CPU and MMU states: a field read, and a field set in a copy of the state.
+pub fn states() -> Subject {
+    type Set = fn(&mut [u8], u32, u32, &[u8]) -> Answer;
+    let set = |set: Set| -> Call {
+        Box::new(move |state, out| {
+            let (field, index) = field_of(state);
+            out.copy_from_slice(state);
+            // A value of one of the widths that fields have.
+            let width =
+                state.get(2).map_or(0, |byte| [1, 2, 4, 8, 16, 512][usize::from(*byte) % 6]);
+            let width = width.min(state.len());
+            set(out, field, index, &state[..width])
+        })
+    };
+    let sets = |name, ours: Set, theirs: Set| Pair {
+        name,
+        ours: set(ours),
+        theirs: set(theirs),
+        lends: Lends::Input(0),
+    };
+    Subject {
+        name: "states",
+        pairs: vec![
+            pair!("cpu_field", side => |state, out| {
+                let (field, index) = field_of(state);
+                side::cpu_field(state, field, index, out)
+            }),
+            pair!("mmu_field", side => |state, out| {
+                let (field, index) = field_of(state);
+                side::mmu_field(state, field, index, out)
+            }),
+            sets("cpu_set", library::cpu_set, reference::cpu_set),
+            sets("mmu_set", library::mmu_set, reference::mmu_set),
+        ],
+    }
+}
+
+/// A field and an index, by the state's first bytes.
+fn field_of(state: &[u8]) -> (u32, u32) {
+    let byte = |at: usize| u32::from(state.get(at).copied().unwrap_or(0));
+    (byte(0) % 28, byte(1) % 18)
+}
+
 /// Regions, with these calls in the library's place.
 pub fn regions(calls: RingCalls) -> Subject {
     let mut pairs = vec![Pair {
