@@ -1,8 +1,8 @@
 //! Where the place of a refusal lies, in words.
 //!
 //! Nothing is read here by itself: all of it comes of asking the library again, about the file cut before the place. A file
-//! that is cut inside a section is CUT at that section's start, and a list that is cut and counts fewer entries is taken, or
-//! has bytes left over where the next entry starts. What no call says is not said.
+//! that is cut inside a section is CUT at that section's start. A list that is cut and counts fewer entries is taken, or has
+//! bytes left over where the next entry starts; one that is cut before that does not fit. What no call says is not said.
 
 use crate::names;
 use crate::shown::{name_of, size};
@@ -265,28 +265,42 @@ impl Cut {
             .map_err(|Refusal { kind, place }| Refusal { kind, place: place + moved })
     }
 
-    /// Where the entry of a number starts, if all before it are whole and stand before `end`.
-    fn entry(&mut self, number: u32, end: usize) -> Option<usize> {
-        let start = match self.ask(end, Some(number)) {
-            Ok(()) => end,
+    /// Up to where the list is taken with so many entries, at most up to `end`: up to where they end, or, as far as what
+    /// follows a list is taken with it, further. None where they do not stand before `end`.
+    fn taken(&mut self, entries: u32, end: usize) -> Option<usize> {
+        let end = match self.ask(end, Some(entries)) {
+            Ok(()) => return Some(end),
             Err(Refusal { kind: Kind::Shape, place }) => place as usize,
             Err(_) => return None,
         };
-        self.ask(start, Some(number)).is_ok().then_some(start)
+        self.ask(end, Some(entries)).is_ok().then_some(end)
+    }
+
+    /// Where the entry of a number starts, if all before it stand before `end`: the first place up to which they are taken.
+    fn entry(&mut self, number: u32, end: usize) -> Option<usize> {
+        let mut start = self.taken(number, end)?;
+        let mut low = self.count + self.moved + 4;
+        while low < start {
+            let middle = low + (start - low) / 2;
+            match self.ask(middle, Some(number)) {
+                Ok(()) => start = middle,
+                Err(_) => low = middle + 1,
+            }
+        }
+        Some(start)
     }
 
     /// The last entry that starts before `end` or there, and where.
     fn last(&mut self, end: usize) -> Option<(u32, usize)> {
-        let mut found = (0, self.entry(0, end)?);
         let (mut low, mut high) = (0, MOST_ENTRIES + 1);
         while high - low > 1 {
             let middle = low + (high - low) / 2;
-            match self.entry(middle, end) {
-                Some(start) => (low, found) = (middle, (middle, start)),
+            match self.taken(middle, end) {
+                Some(_) => low = middle,
                 None => high = middle,
             }
         }
-        Some(found)
+        Some((low, self.entry(low, end)?))
     }
 
     /// Where the text starts that breaks at a place: cut there, it does not fit. A text that ends early is whole there,
@@ -511,6 +525,37 @@ mod tests {
             agree(&file, &mut refused);
         }
         assert!(refused > 10_000, "{refused}");
+    }
+
+    /// A check that takes bytes behind the last entry of a list.
+    fn lenient(file: &[u8]) -> Result<()> {
+        let refusal = match snapshot::check(file) {
+            Err(refusal) if refusal.kind == Kind::Shape => refusal,
+            other => return other,
+        };
+        let mut shorter = file[..refusal.place as usize].to_vec();
+        let length = shorter.len().saturating_sub(32) as u64;
+        shorter[24..32].copy_from_slice(&length.to_le_bytes());
+        snapshot::check(&shorter).map_err(|_| refusal)
+    }
+
+    /// Entries are found where bytes may follow a list as where they may not.
+    #[test]
+    fn entries_are_found_whatever_may_follow_them() {
+        let mut file = snapshot::EMPTY.to_vec();
+        for id in 0..40u32 {
+            file = snapshot::add_device(&file, (id, 1, 0), &vec![7; id as usize % 5]).unwrap();
+        }
+        let devices = snapshot::devices(&file).unwrap();
+        for check in [snapshot::check, lenient] {
+            for (number, device) in (0..).zip(&devices) {
+                let entry = device.offset as usize - 16;
+                for place in entry..entry + 16 + device.length as usize {
+                    let mut cut = Cut { check, ..Cut::of_section(&file, 16, place).unwrap() };
+                    assert_eq!(cut.last(place), Some((number, entry)), "{place}");
+                }
+            }
+        }
     }
 
     #[test]
