@@ -8,7 +8,7 @@ use crate::lines::Lines;
 use crate::names;
 use crate::shown::{data, name_of};
 use crate::words::Words;
-use cimbrolau::snapshot;
+use cimbrolau::snapshot::{self, Section};
 use std::collections::HashMap;
 use std::ffi::OsStr;
 
@@ -43,6 +43,10 @@ fn run(words: &Words) -> Result<(), Failure> {
     let mut found = Found { lines, names: [name_of(one), name_of(other)], any: false };
     found.compare(parts(&a)?, parts(&b)?);
     if !found.any {
+        // The lists as they stand: what their entries do not show.
+        found.compare(sections(&a, IS_READ)?, sections(&b, IS_READ)?);
+    }
+    if !found.any {
         let object = Object::new("difference").text("difference", "order");
         let order = "sections that the format does not know stand in another order";
         found.lines.line(object, format_args!("{order}"));
@@ -66,15 +70,31 @@ struct Part<'a> {
     holds: Vec<(&'static str, &'a [u8])>,
 }
 
-/// The parts of a canonical form: its sections but the lists that calls read, then its devices and its disks.
+/// Whether calls read a section's entries, so that they are compared one by one.
+const IS_READ: fn(&Section) -> bool =
+    |section| matches!(names::section(section.id), Some("DEVICES" | "DISKS"));
+
+/// The parts of a canonical form: its sections but those whose entries are read, then its devices and its disks.
 fn parts(form: &[u8]) -> Result<Vec<Part<'_>>, Failure> {
-    let mut parts: Vec<Part> = Vec::new();
+    let mut parts = sections(form, |section| !IS_READ(section))?;
+    for device in snapshot::devices(form)? {
+        let holds = vec![("payload", device.payload(form).unwrap_or(&[]))];
+        parts.push(Part { name: names::device_words(device.key()), holds });
+    }
+    for disk in snapshot::disks(form)? {
+        let [base, overlay] = [disk.base(form), disk.overlay(form)].map(Option::unwrap_or_default);
+        let holds = vec![("base", base.as_bytes()), ("overlay", overlay.as_bytes())];
+        parts.push(Part { name: format!("disk {}", disk.id), holds });
+    }
+    Ok(parts)
+}
+
+/// Those sections of a canonical form that are meant.
+fn sections(form: &[u8], is_meant: fn(&Section) -> bool) -> Result<Vec<Part<'_>>, Failure> {
+    let mut parts = Vec::new();
     let mut earlier: Vec<String> = Vec::new();
-    for section in snapshot::sections(form)? {
-        if matches!(names::section(section.id), Some("DEVICES" | "DISKS")) {
-            continue;
-        }
-        let mut name = format!("section {}", names::section_words(&section));
+    for section in snapshot::sections(form)?.iter().filter(|section| is_meant(section)) {
+        let mut name = format!("section {}", names::section_words(section));
         // Sections that the format does not know may repeat.
         let before = earlier.iter().filter(|other| **other == name).count();
         earlier.push(name.clone());
@@ -82,18 +102,6 @@ fn parts(form: &[u8]) -> Result<Vec<Part<'_>>, Failure> {
             name += &format!(", number {before} of them");
         }
         parts.push(Part { name, holds: vec![("payload", section.payload(form).unwrap_or(&[]))] });
-    }
-    for device in snapshot::devices(form)? {
-        let payload = device.payload(form).unwrap_or(&[]);
-        parts.push(Part {
-            name: names::device_words(device.key()),
-            holds: vec![("payload", payload)],
-        });
-    }
-    for disk in snapshot::disks(form)? {
-        let [base, overlay] = [disk.base(form), disk.overlay(form)].map(Option::unwrap_or_default);
-        let holds = vec![("base", base.as_bytes()), ("overlay", overlay.as_bytes())];
-        parts.push(Part { name: format!("disk {}", disk.id), holds });
     }
     Ok(parts)
 }
