@@ -241,7 +241,7 @@ pub fn check(file: &[u8]) -> Result<()> {
 /// ```
 pub fn sections(file: &[u8]) -> Result<Vec<Section>> {
     let table = filled(RECORD * SECTIONS, |table| raw::sections(file, table))?;
-    Ok(records::all(&table, Section::of))
+    records::all(&table, Section::of)
 }
 
 /// Every device of the file, in the order of their keys.
@@ -256,7 +256,7 @@ pub fn sections(file: &[u8]) -> Result<Vec<Section>> {
 /// ```
 pub fn devices(file: &[u8]) -> Result<Vec<Device>> {
     let table = filled(table_most(file, 16, DEVICES), |table| raw::devices(file, table))?;
-    Ok(records::all(&table, Device::of))
+    records::all(&table, Device::of)
 }
 
 /// Every disk of the file, in the order of their ids.
@@ -271,7 +271,7 @@ pub fn devices(file: &[u8]) -> Result<Vec<Device>> {
 /// ```
 pub fn disks(file: &[u8]) -> Result<Vec<Disk>> {
     let table = filled(table_most(file, 12, DISKS), |table| raw::disks(file, table))?;
-    Ok(records::all(&table, Disk::of))
+    records::all(&table, Disk::of)
 }
 
 /// The file's canonical form: the known sections in ascending id, then the others as found; lists in the order of their
