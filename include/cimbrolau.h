@@ -90,6 +90,7 @@ static inline const char *cimbrolau_name(uint32_t number) {
     case CIMBROLAU_FULL: return "FULL";
     case CIMBROLAU_EMPTY: return "EMPTY";
     case CIMBROLAU_RECORD: return "RECORD";
+    case CIMBROLAU_ABSENT: return "ABSENT";
     case CIMBROLAU_TURN: return "TURN";
     default: return NULL;
     }

@@ -1,7 +1,7 @@
 -- What the parts of the code that writes an edited file ask and give.
 -- Assumes nothing.
 use mathlib.Core.Path.{_≡_}
-use mathlib.Core.Bool.{Bool, true, not, cond}
+use mathlib.Core.Bool.{Bool, not, cond}
 use mathlib.Core.List.{List, [], _∷_, _++_, map}
 use Prim.Native.Nat.{ℕ, _+_, _-_, _≤_}
 use lib.Dec.{leb}
@@ -16,7 +16,7 @@ use Rattle.writer.specs.Runs.{entryBy}
 use Rattle.aerosnap.specs.declared.Side.{Side}
 use Rattle.aerosnap.specs.File.{fileMost, sectionsMost, devicesMost, header}
 use Rattle.aerosnap.specs.Content.{Content, contentOf, secs, render, canonical, kindAt, idAt, entriesAt}
-use Rattle.aerosnap.specs.Adding.{Item, device, disk, deviceNamed, diskNamed, sideOf, entryOf, there, ownChecks}
+use Rattle.aerosnap.specs.Adding.{device, disk, deviceNamed, diskNamed, sideOf, entryOf, there, ownChecks}
 use Rattle.aerosnap.specs.Edits.{stands, Edit, add, remove, replace, target, news, changed, apply, editFile}
 use Rattle.sections.specs.Walks.{sectionsIn}
 use Rattle.canon.specs.declared.Edit as code

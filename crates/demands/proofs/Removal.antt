@@ -11,7 +11,7 @@ use Rattle.answer.proofs.Outcomes.{taken-is}
 use Rattle.order.specs.Keyed.{keep, without}
 use Rattle.aerosnap.specs.File.{fileOf}
 use Rattle.aerosnap.specs.Content.{isId, Content, contentAt, secs, kindAt, idAt, entriesAt}
-use Rattle.aerosnap.specs.Adding.{Name, deviceNamed, sideOf}
+use Rattle.aerosnap.specs.Adding.{Name, sideOf}
 use Rattle.aerosnap.specs.Edits.{keyOf, stands, remove, replace, apply, editTo, editFile, EditCall}
 use Rattle.aerosnap.proofs.Taken.{file-complete}
 use Rattle.aerosnap.proofs.Back.{secs-valid}

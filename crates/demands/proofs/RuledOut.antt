@@ -20,7 +20,7 @@ use Rattle.aerosnap.specs.Payloads.{payload}
 use Rattle.aerosnap.specs.File.{ruled, sectionOf, sections, fileOf}
 use Rattle.aerosnap.specs.Content.{Content, contentAt, render, IsCanonical}
 use Rattle.aerosnap.specs.Adding.{Item, device, disk, Wide, listIn, entryOf, withItem}
-use Rattle.aerosnap.specs.Edits.{add, addTo, addItem, Call, editFile, editTo}
+use Rattle.aerosnap.specs.Edits.{add, Call, editFile, editTo}
 use Rattle.aerosnap.specs.Calls.{canonicalCall}
 use Rattle.aerosnap.proofs.Canonical.{canonical-exactly}
 use Rattle.aerosnap.proofs.Added.{add-exactly, grows}

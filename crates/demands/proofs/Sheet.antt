@@ -2,9 +2,9 @@
 -- Assumes nothing.
 use mathlib.Core.Path.{_≡_, refl, sym, ap, _∙_, subst}
 use mathlib.Core.Logic.{_↔_, _⊎_, inl, inr}
-use mathlib.Core.Bool.{Bool, true, false, _&&_, _||_, cond}
+use mathlib.Core.Bool.{Bool, true, false, _||_, cond}
 use mathlib.Core.List.{List, [], _∷_, _++_}
-use Prim.Native.Nat.{ℕ, _+_, _*_, _≤_, _<_}
+use Prim.Native.Nat.{ℕ, _+_, _≤_, _<_}
 use native.Mathlib.Omega.{arith}
 use lib.Dec.{leb, ltb, eqb}
 use lib.ListN.{length, take, drop, getD, length-drop}
@@ -13,16 +13,13 @@ use borrow.Author.Tests.{leb-true, leb-false, le-leb, lt-ltb, eq-eqb, eqb-true}
 use Rattle.answer.specs.declared.Answer.{Answer}
 use Rattle.answer.specs.Numbers.{SHAPE, VALUE, isAmong}
 use Rattle.answer.specs.Outcome.{Outcome, taken, refused, Checks, checked, Pass, First, room, fitting}
-use Rattle.answer.specs.Calls.{asked}
 use Rattle.answer.proofs.Checks.{pass-checked, checked-pass, checked-append, asked-pass, and-true}
 use Rattle.answer.proofs.Outcomes.{taken-is, taken-refused}
 use Rattle.answer.proofs.Firsts.{checked-first}
 use Rattle.wire.specs.Numbers.{Bytes, leAt, bytesOf}
 use Rattle.wire.proofs.Numbers.{bytesOf-leAt}
-use Rattle.wire.specs.Parts.{splice}
 use Rattle.wire.proofs.Parts.{length-splice}
-use Rattle.access.specs.declared.Access.{Access}
-use Rattle.access.specs.Access.{wordOf, accessOf, Shows}
+use Rattle.access.specs.Access.{wordOf}
 use Rattle.access.proofs.Masks.{shows}
 use Rattle.fields.specs.declared.State.{State}
 use Rattle.fields.specs.declared.State.the-variants.{Cpu, Mmu}

@@ -11,7 +11,6 @@ use Rattle.answer.specs.Numbers.{ABSENT, isNumber}
 use Rattle.answer.specs.Outcome.{taken, refused}
 use Rattle.answer.specs.Calls.{Writes}
 use Rattle.order.specs.Keyed.{keep, without}
-use Rattle.aerosnap.specs.declared.Side.{Side}
 use Rattle.aerosnap.specs.File.{fileOf}
 use Rattle.aerosnap.specs.Content.{isId, Content, contentAt, kindAt, idAt, entriesAt, IsCanonical}
 use Rattle.aerosnap.specs.Adding.{Item, Name, deviceNamed, nameOf, sideOf}

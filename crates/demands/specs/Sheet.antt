@@ -11,11 +11,10 @@ use lib.Dec.{leb}
 use lib.ListN.{length, getD}
 use Rattle.answer.specs.declared.Answer.{Answer}
 use Rattle.answer.specs.Numbers.{SHAPE, VALUE, isAmong}
-use Rattle.answer.specs.Outcome.{Outcome, taken, refused, Checks, Pass, First, room, fitting}
+use Rattle.answer.specs.Outcome.{taken, refused, Pass, First, room, fitting}
 use Rattle.answer.specs.Calls.{asked}
 use Rattle.wire.specs.Numbers.{Bytes}
-use Rattle.access.specs.declared.Access.{Access}
-use Rattle.access.specs.Access.{wordOf, accessOf, Shows}
+use Rattle.access.specs.Access.{accessOf, Shows}
 use Rattle.fields.specs.declared.State.{State}
 use Rattle.fields.specs.declared.State.the-variants.{Cpu, Mmu}
 use Rattle.fields.specs.Layout.{rowAt}
@@ -24,7 +23,7 @@ use Rattle.sheet.specs.declared.CpuSheet.{CpuSheet}
 use Rattle.sheet.specs.declared.MmuSheet.{MmuSheet}
 use Rattle.sheet.specs.declared.CpuShown.{CpuShown}
 use Rattle.sheet.specs.declared.MmuShown.{MmuShown}
-use Rattle.sheet.specs.Sheet.{cpuOf, cpuOver, mmuOf, mmuOver}
+use Rattle.sheet.specs.Sheet.{cpuOf, cpuOver, mmuOf}
 use Rattle.sheet.specs.Members.{cpuMember, mmuMember}
 use Rattle.sheet.specs.Calls.{cpuCount, cpuShown, mmuShown, cpuCall, mmuCall, cpuOverChecks, cpuOverCall, mmuOverCall}
 

@@ -3,7 +3,7 @@
 
 use crate::command::Command;
 use crate::{add_device, add_disk, canon, check, completions, diff, explain, extract, list};
-use crate::{manual, message, region, show, wrapper};
+use crate::{manual, message, region, remove_device, remove_disk, replace_device, show, wrapper};
 
 pub const ALL: &[Command] = &[
     check::COMMAND,
@@ -15,6 +15,9 @@ pub const ALL: &[Command] = &[
     canon::COMMAND,
     add_device::COMMAND,
     add_disk::COMMAND,
+    remove_device::COMMAND,
+    remove_disk::COMMAND,
+    replace_device::COMMAND,
     wrapper::COMMAND,
     message::COMMAND,
     region::COMMAND,

@@ -38,6 +38,9 @@ mod list;
 mod manual;
 mod message;
 mod region;
+mod remove_device;
+mod remove_disk;
+mod replace_device;
 mod show;
 mod wrapper;
 
