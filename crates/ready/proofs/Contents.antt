@@ -111,7 +111,7 @@ module _ (l : List (List ℕ)) (f : IsFile l) where
 
 -- the answer for a file that is refused
 module _ (s old : List ℕ) where
-  pub ready-refused : {n p : ℕ} → fileOf s ≡ refused n p → Tells (readyCall (length old) s) old (record { number = n; «is_ready» = 0; place = p }) old
+  pub ready-refused : {n p : ℕ} → fileOf s ≡ refused n p → Tells (readyCall (length old) s) old (record { number = n; ready = 0; place = p }) old
   unfolding readyCall
   ready-refused h = rw h (record { answers = refl; leaves = refl })
 
@@ -138,10 +138,10 @@ module _ (s zero : List ℕ) (room : 2048 ≤ length zero) where
   call-refused h = ap (λ (o : Outcome (List (List ℕ))). after o (λ x. fitting (length zero) (sectionRows 16 0 x))) h
 
   module _ {r : Answer} {table : List ℕ} (w : Writes (sectionsCall (length zero) s) zero r table) where
-    pub table-refused : (r .number ≡ 0 → ⊥) → (old : List ℕ) → Tells (readyCall (length old) s) old (record { number = r .number; «is_ready» = 0; place = r .place }) old
+    pub table-refused : (r .number ≡ 0 → ⊥) → (old : List ℕ) → Tells (readyCall (length old) s) old (record { number = r .number; ready = 0; place = r .place }) old
     table-refused h old = go (fileOf s) refl
       where
-        go : (o : Outcome (List (List ℕ))) → fileOf s ≡ o → Tells (readyCall (length old) s) old (record { number = r .number; «is_ready» = 0; place = r .place }) old
+        go : (o : Outcome (List (List ℕ))) → fileOf s ≡ o → Tells (readyCall (length old) s) old (record { number = r .number; ready = 0; place = r .place }) old
         go (taken l) e = absurd (h (ap (λ (x : Answer). x .number) (w .answers ∙ ap answer (call-taken e))))
         go (refused n p) e = let q : r ≡ record { number = n; place = p } = w .answers ∙ ap answer (call-refused e) in rw q (ready-refused s old e)
 

@@ -40,7 +40,7 @@ panel = file (device 17 ∷ device 3 ∷ device 4 ∷ storage 1 noControllers �
 
 pub record Examples : Type 0 where
   -- all is there: a yes, and an empty list asks no room
-  pub yes-is : asReadiness (readyCall 0 panel) ≡ record { number = 0; «is_ready» = 1; place = 0 }
+  pub yes-is : asReadiness (readyCall 0 panel) ≡ record { number = 0; ready = 1; place = 0 }
   -- the older id of the interrupt controller will do
   pub older : readyCall 0 (file (device 2 ∷ device 3 ∷ device 4 ∷ storage 1 noControllers ∷ device 13 ∷ device 16 ∷ device 17 ∷ []) (disk 0 ∷ disk 1 ∷ [])) ≡ taken []
   -- no HPET, no interrupt controller, no disk 0

@@ -118,7 +118,7 @@ no-bytes [] h = refl
 no-bytes (x ∷ b) h = absurd (omega arith)
 
 -- a list that is not empty is a no
-some-missing : (b : List ℕ) → (length b ≡ 0 → ⊥) → asReadiness (taken b) ≡ record { number = 0; «is_ready» = 0; place = length b }
+some-missing : (b : List ℕ) → (length b ≡ 0 → ⊥) → asReadiness (taken b) ≡ record { number = 0; ready = 0; place = length b }
 some-missing [] h = absurd (h refl)
 some-missing (x ∷ b) h = refl
 
@@ -131,19 +131,19 @@ module _ (old b : List ℕ) {zero pairs : List ℕ} {n : ℕ} (w : Wrote b zero 
   pub all-inside : n ≤ length pairs
   all-inside = omega (arith, w .count, ap length (w .bytes), length-append b (drop (length b) zero))
 
-  pub tells-yes : n ≡ 0 → Tells (fitting (length old) b) old (record { number = 0; «is_ready» = 1; place = 0 }) old
+  pub tells-yes : n ≡ 0 → Tells (fitting (length old) b) old (record { number = 0; ready = 1; place = 0 }) old
   tells-yes h =
       let e : b ≡ [] = no-bytes b (omega (arith, w .count)) in
       rw e (record { answers = rw (le-leb 0 (length old) (omega arith)); leaves = rw (le-leb 0 (length old) (omega arith)) })
 
-  pub tells-room : (n ≡ 0 → ⊥) → length old < n → Tells (fitting (length old) b) old (record { number = ROOM; «is_ready» = 0; place = n }) old
+  pub tells-room : (n ≡ 0 → ⊥) → length old < n → Tells (fitting (length old) b) old (record { number = ROOM; ready = 0; place = n }) old
   tells-room z h = rw (w .count, lt-leb (length b) (length old) (omega (arith, w .count))) (record { answers = refl; leaves = refl })
 
-  pub tells-no : (n ≡ 0 → ⊥) → n ≤ length old → {part new : List ℕ} → part ≡ take n pairs → new ≡ put 0 part old → Tells (fitting (length old) b) old (record { number = 0; «is_ready» = 0; place = n }) new
+  pub tells-no : (n ≡ 0 → ⊥) → n ≤ length old → {part new : List ℕ} → part ≡ take n pairs → new ≡ put 0 part old → Tells (fitting (length old) b) old (record { number = 0; ready = 0; place = n }) new
   tells-no z h {part} {new} p q =
       let k : length b ≤ length old = omega (arith, w .count) in
       let e : part ≡ b = p ∙ ap (λ (j : ℕ). take j pairs) (w .count) ∙ ap (take (length b)) (w .bytes) ∙ take-append-seam b (drop (length b) zero) in
       rw (le-leb (length b) (length old) k) (record {
-        answers = ap (λ (j : ℕ). record { number = 0; «is_ready» = 0; place = j }) (w .count) ∙ sym (some-missing b (λ y. z (w .count ∙ y)));
+        answers = ap (λ (j : ℕ). record { number = 0; ready = 0; place = j }) (w .count) ∙ sym (some-missing b (λ y. z (w .count ∙ y)));
         leaves = q ∙ ap (λ (x : List ℕ). put 0 x old) e ∙ put-start b old k;
       })

@@ -92,9 +92,9 @@ readyCall have file = after (contentAt file) (λ c. fitting have (pairsBytes (mi
 
 -- number and place as those of a call that writes; yes is 1 where nothing is missing, and 0 beside a list and beside a refusal
 abbrev pub asReadiness : Outcome (List ℕ) → Readiness
-asReadiness (taken []) = record { number = 0; «is_ready» = 1; place = 0 }
-asReadiness (taken (x ∷ b)) = record { number = 0; «is_ready» = 0; place = length (x ∷ b) }
-asReadiness (refused n p) = record { number = n; «is_ready» = 0; place = p }
+asReadiness (taken []) = record { number = 0; ready = 1; place = 0 }
+asReadiness (taken (x ∷ b)) = record { number = 0; ready = 0; place = length (x ∷ b) }
+asReadiness (refused n p) = record { number = n; ready = 0; place = p }
 
 -- the promise: the answer r, and `new` in the lent list that held `old`
 pub record Tells (o : Outcome (List ℕ)) (old : List ℕ) (r : Readiness) (new : List ℕ) : Type 0 where

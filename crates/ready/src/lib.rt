@@ -20,7 +20,7 @@ ghost use Rattle.ready.specs.Steps as steps;
 #[repr(C)]
 pub struct Readiness {
     pub number: u32,
-    pub is_ready: u32,
+    pub ready: u32,
     pub place: u64,
 }
 
@@ -194,21 +194,21 @@ fn hand_out(notes: [usize; 9], list: &mut [u8]) -> Readiness
     if n == 0 {
         return Readiness {
             number: TAKEN,
-            is_ready: 1,
+            ready: 1,
             place: 0,
         };
     }
     if list.len() < n {
         return Readiness {
             number: ROOM,
-            is_ready: 0,
+            ready: 0,
             place: n as u64,
         };
     }
     wire::copy(list, 0, &pairs[..n]);
     Readiness {
         number: TAKEN,
-        is_ready: 0,
+        ready: 0,
         place: n as u64,
     }
 }
@@ -236,7 +236,7 @@ pub fn ready(file: &[u8], list: &mut [u8]) -> Readiness
     if sections.number != TAKEN {
         return Readiness {
             number: sections.number,
-            is_ready: 0,
+            ready: 0,
             place: sections.place,
         };
     }

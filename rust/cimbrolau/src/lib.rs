@@ -22,6 +22,7 @@
 //!
 //! - [`snapshot`][]: snapshot files
 //! - [`wrapper`][]: disk-controller wrappers
+//! - [`ready`][]: whether a snapshot is ready to restore
 //! - [`Message`][]: messages
 //! - [`region`][]: regions of shared memory, and the rings in them
 //! - [`sheet`][]: the fields of CPU and MMU states
@@ -33,6 +34,7 @@
 mod message;
 #[allow(unsafe_code)]
 pub mod raw;
+pub mod ready;
 mod records;
 mod refusal;
 pub mod region;

@@ -360,3 +360,15 @@ fn put_grown_list(list: &List, payload: u64, new: &New, output: &mut Output) {
         output.put(entry.bytes);
     }
 }
+
+// What readiness looks at.
+
+/// The devices and the disks of a file that is taken, each in key order.
+pub(crate) fn devices_and_disks(file: &[u8]) -> Taken<(List<'_>, List<'_>)> {
+    let mut sections = read_file(file)?;
+    let mut list_of = |id| {
+        let section = sections.iter_mut().find(|section| section.id == id);
+        section.and_then(|section| section.list.take()).unwrap_or_default()
+    };
+    Ok((list_of(DEVICES), list_of(DISKS)))
+}
