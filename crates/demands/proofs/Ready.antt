@@ -9,10 +9,10 @@ use native.Mathlib.Omega.{arith}
 use lib.Dec.{leb, eqb}
 use lib.ListN.{length, drop, getD, length-append}
 use borrow.Author.Tests.{eqb-true, eqb-false, eq-eqb, ne-eqb, le-leb, leb-true, leb-false}
-use Rattle.answer.specs.Numbers.{ROOM}
+use Rattle.answer.specs.Numbers.{ROOM, isNumber}
 use Rattle.answer.specs.Outcome.{Outcome, taken, refused, after, checked, fitting, Faulty}
 use Rattle.answer.specs.Calls.{memory}
-use Rattle.answer.proofs.Table.{fault-some}
+use Rattle.answer.proofs.Table.{fault-number, fault-some}
 use Rattle.wire.proofs.Numbers.{length-bytesOf}
 use Rattle.wire.specs.Numbers.{bytesOf}
 use Rattle.order.specs.Keyed.{Every, flat, keep, sort, has, Asc}
@@ -215,8 +215,7 @@ module _ (c : Content) where
 
   restorable-none : Restorable c → missing c ≡ []
   restorable-none v =
-      met-none needs
-      (
+      met-none needs (
         some-has 3 (c .devices) (v .pit),
         (
           some-has 4 (c .devices) (v .rtc),
@@ -337,6 +336,11 @@ refuses-so s old new r (faulty e n y l) h = (inl e, y, l)
 refuses-so s old new r (short c e k n p y l) h = (inr (c, missing c, e, is-missing c, omega (arith, pairs-long (missing c)), n, p ∙ pairs-long (missing c)), y, l)
 refuses-so s old new r (told c e g l) h = absurd (h (g .number))
 
+numbers-in : (s old new : List ℕ) (r : Readiness) → Ends s old r new → r .number ≢ 0 → isNumber (r .number) ≡ true
+numbers-in s old new r (faulty e n y l) h = fault-number (r .number) (rw e at (content-faulty s))
+numbers-in s old new r (short c e k n p y l) h = rw n refl
+numbers-in s old new r (told c e g l) h = absurd (h (g .number))
+
 -- only devices and disks count
 same-missing : (c d : Content) → c .devices ≡ d .devices → c .disks ≡ d .disks → missing c ≡ missing d
 same-missing c d p q = rw (p, q)
@@ -362,6 +366,7 @@ ready = record {
   list = λ s old new r v h. list-is s old new r (ends s old new r v) h;
   empty = λ s old new r v h. empty-is s old new r (ends s old new r v) h;
   refuses = λ s old new r v h. refuses-so s old new r (ends s old new r v) h;
+  numbers = λ s old new r v h. numbers-in s old new r (ends s old new r v) h;
   same = λ s t old new now r q e v w. tells-once v (subst (λ (o : Outcome (List ℕ)). Tells o old q now) (sym (same-call (length old) s t e)) w);
   any-order = any-order;
 }

@@ -1,12 +1,13 @@
 -- Request 13, ready to restore? One yes or no before a panel is switched; for a no, the list of what is missing.
 -- Assumes nothing.
 use mathlib.Core.Path.{_≡_}
+use mathlib.Core.Bool.{true}
 use mathlib.Core.Logic.{_≢_, _↔_, _⊎_}
 use mathlib.Core.List.{List, [], _∷_, _++_, List·Permᴰ}
 use Prim.Native.Nat.{ℕ, _+_, _*_, _<_}
 use lib.Dec.{eqb}
 use lib.ListN.{length, drop}
-use Rattle.answer.specs.Numbers.{ROOM}
+use Rattle.answer.specs.Numbers.{ROOM, isNumber}
 use Rattle.answer.specs.Outcome.{taken, refused}
 use Rattle.wire.specs.Numbers.{bytesOf}
 use Rattle.order.specs.Keyed.{flat, keep, Asc}
@@ -93,6 +94,7 @@ pub record Ready : Type 0 where
   pub empty : (s old new : List ℕ) (r : Readiness) → Says s old r new → r .number ≡ 0 → (r .place ≡ 0) ↔ (r .ready ≡ 1)
   -- a refusal is the file's own, or else ROOM for the list; it is no yes, and the list stays as it was
   pub refuses : (s old new : List ℕ) (r : Readiness) → Says s old r new → r .number ≢ 0 → Refuses s old (r .number) (r .place) × (r .ready ≡ 0) × (new ≡ old)
+  pub numbers : (s old new : List ℕ) (r : Readiness) → Says s old r new → r .number ≢ 0 → isNumber (r .number) ≡ true
   -- two files with the same content get the same answer
   pub same : (s t old new now : List ℕ) (r q : Readiness) → contentAt s ≡ contentAt t → Says s old r new → Says t old q now → (r ≡ q) × (new ≡ now)
   -- and so do files that hold the same devices and disks in whatever order, whatever else is in them
