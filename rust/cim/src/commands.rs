@@ -3,6 +3,7 @@
 use crate::failure::{of_input, Failure};
 use crate::files;
 use crate::help;
+use crate::ready;
 use crate::words::Words;
 use cimbrolau::region::{self, Cursors, Queue, Region};
 use cimbrolau::snapshot::{self, Device, Disk, Section};
@@ -25,6 +26,7 @@ pub struct Command {
 pub const ALL: &[Command] = &[
     Command { name: "check", help: help::CHECK, options: &[], run: check },
     Command { name: "list", help: help::LIST, options: &[], run: list },
+    Command { name: "ready", help: ready::HELP, options: &[], run: ready::run },
     Command { name: "canon", help: help::CANON, options: &[], run: canon },
     Command {
         name: "add-device",

@@ -10,6 +10,8 @@ use std::process::ExitCode;
 pub enum Failure {
     /// The library refuses the input: status 1. Of a broken text, the bytes around the place.
     Refused(Refusal, Option<String>),
+    /// A snapshot is not ready to restore, which is told already: status 1.
+    NotReady,
     /// The command line is not understood: status 2.
     Usage(String),
     /// A file cannot be read or written: status 3.
@@ -47,6 +49,7 @@ impl Failure {
                 }
                 ExitCode::from(1)
             }
+            Failure::NotReady => ExitCode::from(1),
             Failure::Usage(fault) => {
                 complain(format_args!("cim: {fault}"));
                 ExitCode::from(2)

@@ -7,6 +7,7 @@ cim: checks, lists and writes AEROSNAP snapshots, and reads DSKC wrappers, AIPC 
 
   cim check FILE                      whether a snapshot follows the rules
   cim list FILE                       its sections, devices and disks
+  cim ready FILE                      whether it is ready to restore, or what is missing
   cim canon FILE OUT                  write its canonical form
   cim add-device FILE OUT --id N --version N --flags N --payload FILE
                                       write it with one device more
@@ -21,8 +22,8 @@ cim: checks, lists and writes AEROSNAP snapshots, and reads DSKC wrappers, AIPC 
 `-` is standard input or standard output. An output is written beside its target and renamed once it
 is on the disk: the target is the old file or the new one, whole.
 
-Status: 0 done; 1 refused, with the refusal on standard error as `refused NUMBER NAME at PLACE: WHY`;
-2 a command line that is not understood; 3 a file that cannot be read or written.
+Status: 0 done; 1 refused, with the refusal on standard error as `refused NUMBER NAME at PLACE: WHY`,
+or not ready; 2 a command line that is not understood; 3 a file that cannot be read or written.
 ";
 
 pub const CHECK: &str = "\

@@ -1,8 +1,9 @@
-//! `cim`: checks, lists and writes snapshots, and reads wrappers, messages and regions of rings.
+//! `cim`: checks, lists and writes snapshots, says whether they are ready to restore, and reads wrappers, messages and
+//! regions of rings.
 //!
 //! A command reads its input whole, asks the proved library, and prints or writes what that answers. It ends with
-//! status 0; 1 where the library refuses; 2 for a command line that it does not understand; 3 where a file cannot be
-//! read or written.
+//! status 0; 1 where the library refuses, or where a snapshot is not ready to restore; 2 for a command line that it does
+//! not understand; 3 where a file cannot be read or written.
 
 #![forbid(unsafe_code)]
 
@@ -10,6 +11,7 @@ mod commands;
 mod failure;
 mod files;
 mod help;
+mod ready;
 mod words;
 
 use failure::Failure;

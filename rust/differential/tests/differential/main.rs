@@ -11,6 +11,7 @@ mod bounds;
 mod breaks;
 mod messages;
 mod orders;
+mod ready;
 mod rings;
 mod sheets;
 mod snapshots;
@@ -54,6 +55,12 @@ const GROUPS: &[Group] = &[
     ("adds: chains in several orders", adds::chains),
     ("adds: to any file", adds::to_any_file),
     ("texts: every break", breaks::all),
+    ("ready: all subsets of what is needed", ready::subsets),
+    ("ready: two controllers, id 6 twice", ready::twice),
+    ("ready: broken wrappers", ready::wrappers),
+    ("ready: every room", ready::rooms),
+    ("ready: damaged panels", ready::damaged),
+    ("ready: any devices and disks", ready::any),
     ("bounds: counts", bounds::counts::all),
     ("bounds: texts and messages", bounds::texts::all),
     ("bounds: payloads", bounds::payloads::all),

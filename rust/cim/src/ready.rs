@@ -1,0 +1,67 @@
+//! `cim ready`: one yes or no before a panel is switched, and for a no a line for each thing that is missing.
+
+use crate::failure::{of_input, Failure};
+use crate::files;
+use crate::words::Words;
+use cimbrolau::ready::{self, id::DISK_CONTROLLER, Missing};
+use cimbrolau::{snapshot, wrapper, Refusal};
+
+pub const HELP: &str = "\
+cim ready FILE
+
+Prints `ready` if the snapshot has all that a panel needs to be restored: an interrupt controller (2 or
+21), PIT 3, RTC 4, i8042 13, ACPI PM 16, HPET 17, exactly one device with id 6, whose payload is an
+accepted wrapper, and the disks 0 and 1, whose paths may be empty. Versions and flags do not matter.
+
+Else it prints `not ready` and a line for each thing that is missing, the devices before the disks,
+and ends with status 1:
+
+  not ready
+  device 6: its wrapper is refused 13 KEY at 40
+  device 17 HPET is missing
+  disk 0 is missing
+
+The place behind a refused wrapper counts from the wrapper's start. A refused snapshot is told as by
+`cim check`, on standard error.
+";
+
+pub fn run(words: &Words) -> Result<(), Failure> {
+    let [name] = words.plain("one FILE")?;
+    let file = files::read(name, snapshot::MOST_BYTES)?;
+    let missing = ready::missing(&file).map_err(of_input(&file))?;
+    if missing.is_empty() {
+        return files::print("ready\n");
+    }
+    let mut text = String::from("not ready\n");
+    for thing in missing {
+        text.push_str(&line(&file, thing)?);
+        text.push('\n');
+    }
+    files::print(&text)?;
+    Err(Failure::NotReady)
+}
+
+/// What is missing, in words.
+fn line(file: &[u8], thing: Missing) -> Result<String, Refusal> {
+    match thing {
+        Missing::Device(DISK_CONTROLLER) => storage(file),
+        other => Ok(format!("{other} is missing")),
+    }
+}
+
+/// Why device 6 counts as missing: there is none, there is more than one, or its wrapper is refused.
+fn storage(file: &[u8]) -> Result<String, Refusal> {
+    let mut entries = snapshot::devices(file)?;
+    entries.retain(|device| device.id == DISK_CONTROLLER);
+    Ok(match entries[..] {
+        [] => format!("{} is missing", Missing::Device(DISK_CONTROLLER)),
+        [one] => match wrapper::check(one.payload(file).unwrap_or_default()) {
+            Err(Refusal { kind, place }) => {
+                let (number, name) = (kind.number(), kind.name());
+                format!("device 6: its wrapper is refused {number} {name} at {place}")
+            }
+            Ok(()) => unreachable!("an accepted wrapper is not missing"),
+        },
+        _ => format!("device 6: {} entries have this id, where one is wanted", entries.len()),
+    })
+}
