@@ -67,9 +67,9 @@ pub fn subsets(run: &mut Comparison) {
             let there: Vec<u32> =
                 (0..ids.len()).filter(|at| chosen >> at & 1 == 1).map(|at| ids[at]).collect();
             let disks: Vec<u32> = (0..2).filter(|id| disks >> id & 1 == 1).collect();
-            let lacks = |id: u32| !there.contains(&id) && !(id == 21 && there.contains(&OLDER));
+            let met = |id: u32| there.contains(&id) || (id == 21 && there.contains(&OLDER));
             let mut missing: Vec<(u32, u32)> =
-                NEEDED.into_iter().filter(|id| lacks(*id)).map(|id| (1, id)).collect();
+                NEEDED.into_iter().filter(|id| !met(*id)).map(|id| (1, id)).collect();
             missing.extend((0..2).filter(|id| !disks.contains(id)).map(|id| (2, id)));
             for order in 0..3 {
                 let mut devices: Vec<_> = there.iter().map(|id| device(*id)).collect();
