@@ -8,19 +8,19 @@ use Prim.Native.Nat.{ℕ, zero, suc, _+_, _*_, _≤_, _<_}
 use native.Mathlib.Omega.{arith}
 use lib.Dec.{leb, eqb}
 use lib.ListN.{length, drop, getD, length-append}
-use borrow.Author.Tests.{eqb-true, eqb-false, eq-eqb, ne-eqb, le-leb, leb-true, leb-false}
+use borrow.Author.Tests.{eqb-true, eq-eqb, leb-false}
 use Rattle.answer.specs.Numbers.{ROOM, isNumber}
-use Rattle.answer.specs.Outcome.{Outcome, taken, refused, after, checked, fitting, Faulty}
+use Rattle.answer.specs.Outcome.{Outcome, taken, refused, after, fitting}
 use Rattle.answer.specs.Calls.{memory}
 use Rattle.answer.proofs.Table.{fault-number, fault-some}
 use Rattle.wire.proofs.Numbers.{length-bytesOf}
 use Rattle.wire.specs.Numbers.{bytesOf}
-use Rattle.order.specs.Keyed.{Every, flat, keep, sort, has, Asc}
+use Rattle.order.specs.Keyed.{Every, flat, has, Asc}
 use Rattle.order.specs.Entries.{join}
 use Rattle.order.proofs.Sorts.{sort-unique}
 use Rattle.entries.specs.Kinds.{idKey, devices, disks}
 use Rattle.aerosnap.specs.Known.{DEVICES, DISKS}
-use Rattle.aerosnap.specs.File.{header, fileOf}
+use Rattle.aerosnap.specs.File.{header}
 use Rattle.aerosnap.specs.Rules.{IsFile}
 use Rattle.aerosnap.specs.Content.{Content, contentOf, contentAt, entriesIn}
 use Rattle.aerosnap.proofs.Canon.{entries-apart}
@@ -28,7 +28,7 @@ use Rattle.aerosnap.proofs.Taken.{file-complete}
 use Rattle.aerosnap.proofs.Named.{content-faulty}
 use Rattle.dskc.specs.Wrapper.{wrapperOf}
 use Rattle.ready.specs.declared.Readiness.{Readiness}
-use Rattle.ready.specs.Missing.{hasId, withId, isTaken, wraps, oneWrapper, Need, device, disk, needs, nameIn, lacking, missing, pairBytes, pairsBytes, readyCall, asReadiness, Tells}
+use Rattle.ready.specs.Missing.{hasId, withId, isTaken, oneWrapper, Need, wantedDevice, wanted, nameIn, lacking, missing, pairBytes, pairsBytes, readyCall, asReadiness, Tells}
 use Rattle.ready.proofs.Once.{tells-once}
 use Rattle.demands.specs.Ready.{Has, OneWrapper, Restorable, Lacks, pit, rtc, wrapper, i8042, acpi-pm, hpet, controller, disk-0, disk-1, Listed, pairKey, IsMissing, Says, Refuses, Ready}
 
@@ -109,7 +109,7 @@ controller-tests l = either-tests (has-tests 2 l) (has-tests 21 l)
 
 module _ (c : Content) where
   -- a need that is not met is lacking
-  meant : Every (λ n. n .there c ≡ false → Lacks c (n .part) (n .id)) needs
+  meant : Every (λ n. n .there c ≡ false → Lacks c (n .part) (n .id)) wanted
   meant = (
     (λ h. pit (fails (has-tests 3 (c .devices)) h)),
     (
@@ -143,28 +143,28 @@ module _ (c : Content) where
       go false e (inr h) r = r h
 
   -- the need with a number, if it is not met, is listed
-  listed-in : (ns : List Need) (i : ℕ) → i < length ns → getD ns i (device 0) .there c ≡ false → Listed (getD ns i (device 0) .part) (getD ns i (device 0) .id) (flat (lacking c) ns)
+  listed-in : (ns : List Need) (i : ℕ) → i < length ns → getD ns i (wantedDevice 0) .there c ≡ false → Listed (getD ns i (wantedDevice 0) .part) (getD ns i (wantedDevice 0) .id) (flat (lacking c) ns)
   listed-in [] i h e = absurd (omega arith)
   listed-in (n ∷ ns) zero h e = rw e (inl (refl, refl))
   listed-in (n ∷ ns) (suc i) h e = go (n .there c) (listed-in ns i (omega arith) e)
     where
       m : Need
-      m = getD ns i (device 0)
+      m = getD ns i (wantedDevice 0)
 
       go : (b : Bool) → Listed (m .part) (m .id) (flat (lacking c) ns) → Listed (m .part) (m .id) (cond b [] (nameIn n ∷ []) ++ flat (lacking c) ns)
       go true h = h
       go false h = inr h
 
   lacks-listed : (part id : ℕ) → Lacks c part id → Listed part id (missing c)
-  lacks-listed part id (pit h) = listed-in needs 0 (omega arith) (not-held (has-tests 3 (c .devices)) h)
-  lacks-listed part id (rtc h) = listed-in needs 1 (omega arith) (not-held (has-tests 4 (c .devices)) h)
-  lacks-listed part id (wrapper h) = listed-in needs 2 (omega arith) (not-held (wrapper-tests (c .devices)) h)
-  lacks-listed part id (i8042 h) = listed-in needs 3 (omega arith) (not-held (has-tests 13 (c .devices)) h)
-  lacks-listed part id (acpi-pm h) = listed-in needs 4 (omega arith) (not-held (has-tests 16 (c .devices)) h)
-  lacks-listed part id (hpet h) = listed-in needs 5 (omega arith) (not-held (has-tests 17 (c .devices)) h)
-  lacks-listed part id (controller g h) = listed-in needs 6 (omega arith) (not-held (controller-tests (c .devices)) (λ x. elim x [ inl y ↦ g y | inr y ↦ h y ]))
-  lacks-listed part id (disk-0 h) = listed-in needs 7 (omega arith) (not-held (has-tests 0 (c .disks)) h)
-  lacks-listed part id (disk-1 h) = listed-in needs 8 (omega arith) (not-held (has-tests 1 (c .disks)) h)
+  lacks-listed part id (pit h) = listed-in wanted 0 (omega arith) (not-held (has-tests 3 (c .devices)) h)
+  lacks-listed part id (rtc h) = listed-in wanted 1 (omega arith) (not-held (has-tests 4 (c .devices)) h)
+  lacks-listed part id (wrapper h) = listed-in wanted 2 (omega arith) (not-held (wrapper-tests (c .devices)) h)
+  lacks-listed part id (i8042 h) = listed-in wanted 3 (omega arith) (not-held (has-tests 13 (c .devices)) h)
+  lacks-listed part id (acpi-pm h) = listed-in wanted 4 (omega arith) (not-held (has-tests 16 (c .devices)) h)
+  lacks-listed part id (hpet h) = listed-in wanted 5 (omega arith) (not-held (has-tests 17 (c .devices)) h)
+  lacks-listed part id (controller g h) = listed-in wanted 6 (omega arith) (not-held (controller-tests (c .devices)) (λ x. elim x [ inl y ↦ g y | inr y ↦ h y ]))
+  lacks-listed part id (disk-0 h) = listed-in wanted 7 (omega arith) (not-held (has-tests 0 (c .disks)) h)
+  lacks-listed part id (disk-1 h) = listed-in wanted 8 (omega arith) (not-held (has-tests 1 (c .disks)) h)
 
   -- what is left out keeps the order
   asc-low : (m n : ℕ) (l : List (ℕ × ℕ)) → m ≤ n → Asc pairKey n l → Asc pairKey m l
@@ -181,8 +181,8 @@ module _ (c : Content) where
 
   is-missing : IsMissing c (missing c)
   is-missing = record {
-    exactly = λ part id. (listed-lacks part id needs meant, lacks-listed part id);
-    ascend = asc-lacking 0 needs (omega arith, (omega arith, (omega arith, (omega arith, (omega arith, (omega arith, (omega arith, (omega arith, (omega arith, tt)))))))));
+    exactly = λ part id. (listed-lacks part id wanted meant, lacks-listed part id);
+    ascend = asc-lacking 0 wanted (omega arith, (omega arith, (omega arith, (omega arith, (omega arith, (omega arith, (omega arith, (omega arith, (omega arith, tt)))))))));
   }
 
   -- nothing is missing exactly from what can be restored
@@ -200,7 +200,7 @@ module _ (c : Content) where
 
   none-restorable : missing c ≡ [] → Restorable c
   none-restorable e =
-      let (a, (b, (w, (i, (p, (h, (k, (d, (f, _))))))))) = all-met needs e in
+      let (a, (b, (w, (i, (p, (h, (k, (d, (f, _))))))))) = all-met wanted e in
       record {
         controller = controller-tests (c .devices) .holds k;
         pit = has-some 3 (c .devices) a;
@@ -215,7 +215,7 @@ module _ (c : Content) where
 
   restorable-none : Restorable c → missing c ≡ []
   restorable-none v =
-      met-none needs (
+      met-none wanted (
         some-has 3 (c .devices) (v .pit),
         (
           some-has 4 (c .devices) (v .rtc),
@@ -241,10 +241,6 @@ pairs-long : (l : List (ℕ × ℕ)) → length (pairsBytes l) ≡ 8 * length l
 pairs-long [] = refl
 pairs-long (p ∷ l) =
     omega (arith, length-append (pairBytes p) (pairsBytes l), length-append (bytesOf 4 (p .0)) (bytesOf 4 (p .1)), length-bytesOf 4 (p .0), length-bytesOf 4 (p .1), pairs-long l)
-
-none-long : (l : List (ℕ × ℕ)) → length l ≡ 0 → l ≡ []
-none-long [] h = refl
-none-long (p ∷ l) h = absurd (omega arith)
 
 -- what is answered with a list: number 0, its bytes, and a yes exactly if it is empty
 pub record Given (b : List ℕ) (r : Readiness) : Type 0 where

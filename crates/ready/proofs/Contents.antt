@@ -14,7 +14,7 @@ use Rattle.answer.specs.Outcome.{Outcome, taken, refused, after, fitting}
 use Rattle.answer.specs.Calls.{answer, memory, Writes}
 use Rattle.answer.proofs.Table.{fault-some}
 use Rattle.wire.specs.Numbers.{Bytes, le, leAt}
-use Rattle.order.specs.Keyed.{Every, flat, keep, sort}
+use Rattle.order.specs.Keyed.{Every, flat, keep}
 use Rattle.order.specs.Entries.{join}
 use Rattle.order.proofs.Folds.{every-imp, flat-append}
 use Rattle.order.proofs.Keeps.{keep-none}
@@ -35,8 +35,8 @@ use Rattle.aerosnap.proofs.Rows.{sections-length}
 use Rattle.aerosnap.proofs.Records.{section-rows}
 use Rattle.aerosnap.proofs.Named.{file-faulty}
 use Rattle.ready.specs.declared.Readiness.{Readiness}
-use Rattle.ready.specs.Missing.{Need, needs, nameIn, lacking, missing, pairBytes, pairsBytes, readyCall, Tells}
-use Rattle.ready.specs.Steps.{NamesSections, payloadIn, Stands, notes, names, pairFor, listed}
+use Rattle.ready.specs.Missing.{Need, wanted, nameIn, lacking, missing, pairBytes, pairsBytes, readyCall, Tells}
+use Rattle.ready.specs.Steps.{NamesSections, payloadIn, Stands, notes, names, pairFor, pairsFor}
 use Rattle.ready.proofs.Present.{note-sorted, either-sorted, wrapper-sorted}
 
 -- ---- the list of a known id
@@ -79,14 +79,14 @@ pair-lacking c n x h = rw h (go (n .there c))
     go true = refl
     go false = sym (append-nil (pairBytes (nameIn n)))
 
-listed-lacking : (c : Content) (ns : List Need) (l : List ℕ) → Told c ns l → listed (map nameIn ns) l ≡ pairsBytes (flat (lacking c) ns)
-unfolding listed
-listed-lacking c [] [] h = refl
-listed-lacking c [] (x ∷ l) h = absurd h
-listed-lacking c (n ∷ ns) [] h = absurd h
-listed-lacking c (n ∷ ns) (x ∷ l) h =
-    ap (λ (y : List ℕ). y ++ listed (map nameIn ns) l) (pair-lacking c n x (h .0))
-    ∙ ap (λ (y : List ℕ). pairsBytes (lacking c n) ++ y) (listed-lacking c ns l (h .1))
+pairs-lacking : (c : Content) (ns : List Need) (l : List ℕ) → Told c ns l → pairsFor (map nameIn ns) l ≡ pairsBytes (flat (lacking c) ns)
+unfolding pairsFor
+pairs-lacking c [] [] h = refl
+pairs-lacking c [] (x ∷ l) h = absurd h
+pairs-lacking c (n ∷ ns) [] h = absurd h
+pairs-lacking c (n ∷ ns) (x ∷ l) h =
+    ap (λ (y : List ℕ). y ++ pairsFor (map nameIn ns) l) (pair-lacking c n x (h .0))
+    ∙ ap (λ (y : List ℕ). pairsBytes (lacking c n) ++ y) (pairs-lacking c ns l (h .1))
     ∙ sym (flat-append pairBytes (lacking c n) (flat (lacking c) ns))
 
 -- the sections l of a file, and bytes that stand for the payloads of its lists
@@ -97,14 +97,14 @@ module _ (l : List (List ℕ)) (f : IsFile l) where
   pub disks-stand : Stands disks (payloadIn DISKS l) (entriesIn DISKS disks l)
   disks-stand = payload-stands DISKS disks refl (λ v. refl) l (f .are) (f .once)
 
-  pub listed-missing : listed names (notes (payloadIn DEVICES l) (entriesIn DEVICES devices l) (entriesIn DISKS disks l)) ≡ pairsBytes (missing (contentOf l))
-  listed-missing =
+  pub pairs-missing : pairsFor names (notes (payloadIn DEVICES l) (entriesIn DEVICES devices l) (entriesIn DISKS disks l)) ≡ pairsBytes (missing (contentOf l))
+  pairs-missing =
       let m : List (List ℕ) = entriesIn DEVICES devices l in
       let k : List (List ℕ) = entriesIn DISKS disks l in
       let v = devices-stand in
       let has = note-sorted (devices .key) in
       let disk = note-sorted (disks .key) in
-      listed-lacking (contentOf l) needs (notes (payloadIn DEVICES l) m k)
+      pairs-lacking (contentOf l) wanted (notes (payloadIn DEVICES l) m k)
       (has 3 m, (has 4 m, (wrapper-sorted (devices .key) 6 (payloadIn DEVICES l) m (v .rest) (v .cut) (v .are), (has 13 m, (has 16 m, (has 17 m, (either-sorted (devices .key) 2 21 m, (disk 0 k, (disk 1 k, tt)))))))))
 
 -- ---- the calls
@@ -164,10 +164,10 @@ module _ (s zero : List ℕ) (room : 2048 ≤ length zero) where
 -- what is noted by the payloads of a file that is taken is told as the call says
 pub judged : (s old : List ℕ) (l : List (List ℕ)) → fileOf s ≡ taken l → (x y : List ℕ) → x ≡ payloadIn DEVICES l → y ≡ payloadIn DISKS l
     → {noted : List ℕ} → ((m k : List (List ℕ)) → Stands devices x m → Stands disks y k → noted ≡ notes x m k)
-    → {r : Readiness} {new : List ℕ} → Tells (fitting (length old) (listed names noted)) old r new → Tells (readyCall (length old) s) old r new
+    → {r : Readiness} {new : List ℕ} → Tells (fitting (length old) (pairsFor names noted)) old r new → Tells (readyCall (length old) s) old r new
 judged s old l h x y p q {noted} n {r} {new} t =
     let f = file-sound s h .1 in
     let m : List (List ℕ) = entriesIn DEVICES devices l in
     let k : List (List ℕ) = entriesIn DISKS disks l in
     let e : noted ≡ notes (payloadIn DEVICES l) m k = n m k (rw p (devices-stand l f)) (rw q (disks-stand l f)) ∙ ap (λ (z : List ℕ). notes z m k) p in
-    subst (λ (o : Outcome (List ℕ)). Tells o old r new) (ap (λ (z : List ℕ). fitting (length old) (listed names z)) e ∙ ap (fitting (length old)) (listed-missing l f) ∙ sym (ready-taken s old h)) t
+    subst (λ (o : Outcome (List ℕ)). Tells o old r new) (ap (λ (z : List ℕ). fitting (length old) (pairsFor names z)) e ∙ ap (fitting (length old)) (pairs-missing l f) ∙ sym (ready-taken s old h)) t

@@ -3,14 +3,13 @@
 use mathlib.Core.Path.{_≡_, refl}
 use mathlib.Core.List.{List, [], _∷_, _++_}
 use Prim.Native.Nat.{ℕ}
-use lib.ListN.{length}
 use Rattle.answer.specs.Numbers.{SHORT, ROOM}
 use Rattle.answer.specs.Outcome.{taken, refused}
 use Rattle.wire.specs.Numbers.{le, leAt, bytesOf}
 use Rattle.utf8.specs.Scan.{isText, breakAt, scan, scanFrom}
 use Rattle.format.specs.Format.{read}
 use Rattle.order.specs.Keyed.{insert, has}
-use Rattle.order.specs.Entries.{join, split}
+use Rattle.order.specs.Entries.{split}
 use Rattle.lists.specs.Lists.{entryAt, walk, listAt, listBytes}
 use Rattle.aerosnap.specs.File.{header, ruled, sectionOf, sections, fileOf}
 use Rattle.aerosnap.specs.Payloads.{payload}

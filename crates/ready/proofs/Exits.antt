@@ -2,13 +2,11 @@
 -- Assumes nothing.
 use mathlib.Core.Path.{_≡_, refl, sym, _∙_, ap}
 use mathlib.Core.List.{List, [], _∷_, _++_, map, append-nil}
-use mathlib.Core.Bool.{Bool, true, false}
 use Prim.Native.Nat.{ℕ, zero, suc, _+_, _≤_, _<_}
 use native.Mathlib.Omega.{arith}
 use lib.ListN.{length, take, drop, getD, set, take-append-drop, length-append}
 use lib.Seq.{take-all, take-append-seam}
-use lib.Dec.{eqb}
-use borrow.Author.Tests.{eqb-true, eq-eqb, ne-eqb, le-leb, lt-leb, lt-ltb, le-ltb}
+use borrow.Author.Tests.{eq-eqb, ne-eqb, le-leb, lt-leb, lt-ltb, le-ltb}
 use Rattle.answer.specs.declared.Answer.{Answer}
 use Rattle.answer.specs.Numbers.{ROOM}
 use Rattle.answer.specs.Outcome.{taken, fitting}
@@ -20,7 +18,7 @@ use Rattle.wire.proofs.Parts.{put-fits}
 use Rattle.wire.proofs.Splices.{splice-more, stored-long}
 use Rattle.dskc.specs.Wrapper.{wrapperOf}
 use Rattle.ready.specs.Missing.{asReadiness, Tells}
-use Rattle.ready.specs.Steps.{noted, payloadFrom, wrapperAt, either, pairFor, Put}
+use Rattle.ready.specs.Steps.{noted, payloadFrom, wrapperAt, either, pairFor, PutAt}
 use Rattle.ready.proofs.Accepted.{wrapper-faulty, number-taken, number-refused}
 
 -- ---- bytes_in
@@ -86,11 +84,11 @@ unfolding splice
 nothing-put at old = let q : at + 0 ≡ at = omega arith in rw (append-nil, q) (sym (take-append-drop at old))
 
 module _ (old : List ℕ) (at : ℕ) (p : ℕ × ℕ) (x : ℕ) where
-  pub not-put : (x ≡ 0 → ⊥) → Put (pairFor p x) at old old at
+  pub not-put : (x ≡ 0 → ⊥) → PutAt (pairFor p x) at old old at
   not-put h = rw (ne-eqb x 0 h) (record { ends = omega arith; bytes = nothing-put at old })
 
   -- two u32 stored one behind the other
-  pub pair-put : x ≡ 0 → at + 8 ≤ length old → {mid new : List ℕ} → mid ≡ put at (bytesOf 4 (p .0)) old → new ≡ put (at + 4) (bytesOf 4 (p .1)) mid → Put (pairFor p x) at old new (at + 8)
+  pub pair-put : x ≡ 0 → at + 8 ≤ length old → {mid new : List ℕ} → mid ≡ put at (bytesOf 4 (p .0)) old → new ≡ put (at + 4) (bytesOf 4 (p .1)) mid → PutAt (pairFor p x) at old new (at + 8)
   pair-put z h {mid} {new} e f =
       let a : mid ≡ splice at (bytesOf 4 (p .0)) old = e ∙ put-fits at (bytesOf 4 (p .0)) old (omega (arith, length-bytesOf 4 (p .0))) in
       let n : length mid ≡ length old = ap length a ∙ stored-long 4 (p .0) at old (omega arith) in
@@ -111,7 +109,7 @@ pub nine : {a b c d e f g h i a′ b′ c′ d′ e′ f′ g′ h′ i′ : ℕ
     → _≡_ {A = List ℕ} (a ∷ b ∷ c ∷ d ∷ e ∷ f ∷ g ∷ h ∷ i ∷ []) (a′ ∷ b′ ∷ c′ ∷ d′ ∷ e′ ∷ f′ ∷ g′ ∷ h′ ∷ i′ ∷ [])
 nine p q r s t u v w x = cc
 
--- ---- hand_out
+-- ---- hand_list
 
 no-bytes : (b : List ℕ) → length b ≡ 0 → b ≡ []
 no-bytes [] h = refl

@@ -3,19 +3,19 @@
 use mathlib.Core.Path.{_≡_, refl, sym, _∙_, ap}
 use mathlib.Core.Logic.{_⊎_, inl, inr}
 use mathlib.Core.List.{List, [], _∷_, _++_, append-assoc, append-nil, List·Permᴰ, Permᴰ·symm}
-use mathlib.Core.Bool.{Bool, true, false, not, _||_, _&&_, cond}
-use Prim.Native.Nat.{ℕ, suc, _+_, _≤_, _<_}
+use mathlib.Core.Bool.{Bool, true, false, not, _||_, cond}
+use Prim.Native.Nat.{ℕ, _+_, _≤_}
 use native.Mathlib.Omega.{arith}
 use lib.ListN.{length, take, drop, length-drop}
 use lib.Seq.{take-all, drop-append-le, take-append-le}
-use lib.Dec.{leb, eqb}
-use borrow.Author.Tests.{eqb-true, eqb-false, eq-eqb, ne-eqb, le-leb, lt-leb}
+use lib.Dec.{eqb}
+use borrow.Author.Tests.{eqb-true, eqb-false, eq-eqb, ne-eqb, le-leb}
 use Rattle.wire.specs.Numbers.{leAt}
 use Rattle.wire.proofs.Numbers.{leAt-append, leAt-here}
 use Rattle.format.specs.Format.{span, Is}
 use Rattle.format.proofs.Meaning.{complete}
 use Rattle.format.proofs.Spans.{span-read}
-use Rattle.order.specs.Keyed.{Every, keep, sort, insert, has, Fresh}
+use Rattle.order.specs.Keyed.{Every, sort, has}
 use Rattle.order.specs.Entries.{join}
 use Rattle.order.proofs.Keys.{has-fresh, fresh-has}
 use Rattle.order.proofs.Perms.{perm-length, every-perm}
@@ -23,8 +23,7 @@ use Rattle.order.proofs.Inserts.{insert-nil}
 use Rattle.order.proofs.Sorts.{sort-perm, keep-sort}
 use Rattle.order.proofs.Starts.{drop-past}
 use Rattle.entries.specs.Kinds.{idKey, devices}
-use Rattle.dskc.specs.Wrapper.{wrapperOf}
-use Rattle.ready.specs.Missing.{hasId, withId, isTaken, wraps, oneWrapper}
+use Rattle.ready.specs.Missing.{hasId, withId, wraps, oneWrapper}
 use Rattle.ready.specs.Steps.{mark, noteOf, payloadFrom, wrapperAt, either}
 
 -- ---- an id that an entry has

@@ -3,15 +3,15 @@
 use mathlib.Core.Path.{_≡_, refl, sym, _∙_, ap}
 use mathlib.Core.List.{List, [], _∷_, _++_, append-assoc, append-nil}
 use mathlib.Core.Bool.{Bool, true, false, cond}
-use Prim.Native.Nat.{ℕ, suc, _+_, _*_, _≤_, _<_}
+use Prim.Native.Nat.{ℕ, _+_, _*_, _≤_, _<_}
 use native.Mathlib.Omega.{arith}
 use native.Mathlib.Numerals.{add-one}
-use lib.ListN.{length, take, drop, getD, set, length-append, length-drop, length-set, length-take}
+use lib.ListN.{length, take, drop, getD, set, length-append, length-drop, length-take}
 use lib.Seq.{drop-cons, drop-drop, drop-append-seam, take-append-seam, getD-set-same, getD-set-other}
 use lib.Dec.{ltb, eqb}
-use borrow.Author.Tests.{eqb-true, eqb-false, eq-eqb, ne-eqb, ltb-true, ltb-false}
+use borrow.Author.Tests.{eqb-true, eqb-false, eq-eqb, ne-eqb, ltb-false}
 use Rattle.wire.specs.Numbers.{leAt, bytesOf}
-use Rattle.wire.specs.Parts.{splice, Wrote}
+use Rattle.wire.specs.Parts.{Wrote}
 use Rattle.wire.proofs.Numbers.{leAt-append, leAt-drop, leAt-here, length-bytesOf}
 use Rattle.wire.proofs.Parts.{none, wrote-splice, wrote-length}
 use Rattle.format.specs.Format.{Format, read, span, Is}
@@ -25,13 +25,10 @@ use Rattle.entries.specs.declared.Kind.the-variants.{Devices, Disks, Cpus, Mmus
 use Rattle.entries.specs.Kinds.{Description, idKey}
 use Rattle.entries.specs.Code.{describe}
 use Rattle.entries.proofs.Lawful.{lawful}
-use Rattle.tables.specs.Tables.{ROW}
 use Rattle.tables.specs.Named.{NamesFramed, Each}
 use Rattle.aerosnap.specs.File.{idOf}
-use Rattle.aerosnap.specs.Content.{isId}
-use Rattle.ready.specs.declared.Run.{Run}
 use Rattle.ready.specs.Missing.{pairBytes}
-use Rattle.ready.specs.Steps.{runIn, NamesSections, payloadIn, Stands, mark, noted, noteOf, Noted, names, nameOf, pairFor, listed, Put}
+use Rattle.ready.specs.Steps.{runIn, NamesSections, payloadIn, Stands, mark, noted, noteOf, Noted, names, nameOf, pairFor, pairsFor, PutAt}
 
 -- ---- payload_of
 
@@ -203,7 +200,7 @@ pair-most p x = go (eqb x 0)
 -- the pairs of the first i notes are written
 pub record Listing (notes old new : List ℕ) (at i : ℕ) : Type 0 where
   pub part : List ℕ
-  pub split : listed names notes ≡ part ++ listed (drop i names) (drop i notes)
+  pub split : pairsFor names notes ≡ part ++ pairsFor (drop i names) (drop i notes)
   pub wrote : Wrote part old new at
   pub most : at ≤ 8 * i
 
@@ -214,23 +211,23 @@ module _ {notes old new : List ℕ} {at i : ℕ} (v : Listing notes old new at i
   pub listing-length : i ≤ 9 → length new ≡ length old
   listing-length h = wrote-length (v .wrote) (omega (arith, v .wrote .count, v .most))
 
-  pub listing-end : i ≡ 9 → Wrote (listed names notes) old new at
-  unfolding listed
+  pub listing-end : i ≡ 9 → Wrote (pairsFor names notes) old new at
+  unfolding pairsFor
   listing-end h =
-      let q : listed names notes ≡ v .part = v .split ∙ ap (λ (k : ℕ). v .part ++ listed (drop k names) (drop k notes)) h ∙ append-nil (v .part) in
+      let q : pairsFor names notes ≡ v .part = v .split ∙ ap (λ (k : ℕ). v .part ++ pairsFor (drop k names) (drop k notes)) h ∙ append-nil (v .part) in
       rw q (v .wrote)
 
-  pub listing-next : i ≤ 8 → length notes ≡ 9 → {out : List ℕ} {r : ℕ} → Put (pairFor (nameOf i) (getD notes i 0)) at new out r → Listing notes old out r (i + 1)
-  unfolding listed
+  pub listing-next : i ≤ 8 → length notes ≡ 9 → {out : List ℕ} {r : ℕ} → PutAt (pairFor (nameOf i) (getD notes i 0)) at new out r → Listing notes old out r (i + 1)
+  unfolding pairsFor
   listing-next h long {out} {r} p =
       let bs : List ℕ = pairFor (nameOf i) (getD notes i 0) in
       let w : Wrote (v .part ++ bs) old out (at + length bs) = wrote-splice (v .wrote) bs (p .bytes) in
       record {
         part = v .part ++ bs;
-        split = v .split ∙ ap (λ (x : List ℕ). v .part ++ x) (step (omega arith)) ∙ sym (append-assoc (v .part) bs (listed (drop (i + 1) names) (drop (i + 1) notes)));
+        split = v .split ∙ ap (λ (x : List ℕ). v .part ++ x) (step (omega arith)) ∙ sym (append-assoc (v .part) bs (pairsFor (drop (i + 1) names) (drop (i + 1) notes)));
         wrote = rw (p .ends) w;
         most = omega (arith, p .ends, v .most, pair-most (nameOf i) (getD notes i 0));
       }
     where
-      step : i < length names → listed (drop i names) (drop i notes) ≡ pairFor (nameOf i) (getD notes i 0) ++ listed (drop (i + 1) names) (drop (i + 1) notes)
+      step : i < length names → pairsFor (drop i names) (drop i notes) ≡ pairFor (nameOf i) (getD notes i 0) ++ pairsFor (drop (i + 1) names) (drop (i + 1) notes)
       step k = rw (add-one i, drop-cons names i (0, 0) k, drop-cons notes i 0 (omega arith))

@@ -47,23 +47,23 @@ pub record Need : Type 0 where
   pub there : Content → Bool
 
 -- 1 stands for a device, 2 for a disk
-abbrev pub device : ℕ → Need
-device id = record { part = 1; id = id; there = λ c. hasId id (c .devices) }
+abbrev pub wantedDevice : ℕ → Need
+wantedDevice id = record { part = 1; id = id; there = λ c. hasId id (c .devices) }
 
-abbrev pub disk : ℕ → Need
-disk id = record { part = 2; id = id; there = λ c. hasId id (c .disks) }
+abbrev pub wantedDisk : ℕ → Need
+wantedDisk id = record { part = 2; id = id; there = λ c. hasId id (c .disks) }
 
 -- exactly one device with id 6, its payload an accepted wrapper
-abbrev pub storage : Need
-storage = record { part = 1; id = 6; there = λ c. oneWrapper (withId 6 (c .devices)) }
+abbrev pub wantedWrapper : Need
+wantedWrapper = record { part = 1; id = 6; there = λ c. oneWrapper (withId 6 (c .devices)) }
 
 -- an interrupt controller, 2 or 21; 21 stands for both
-abbrev pub controller : Need
-controller = record { part = 1; id = 21; there = λ c. hasId 2 (c .devices) || hasId 21 (c .devices) }
+abbrev pub wantedController : Need
+wantedController = record { part = 1; id = 21; there = λ c. hasId 2 (c .devices) || hasId 21 (c .devices) }
 
 -- PIT 3, RTC 4, the wrapper, i8042 13, ACPI PM 16, HPET 17, an interrupt controller; disks 0 and 1. The pairs ascend
-abbrev pub needs : List Need
-needs = device 3 ∷ device 4 ∷ storage ∷ device 13 ∷ device 16 ∷ device 17 ∷ controller ∷ disk 0 ∷ disk 1 ∷ []
+abbrev pub wanted : List Need
+wanted = wantedDevice 3 ∷ wantedDevice 4 ∷ wantedWrapper ∷ wantedDevice 13 ∷ wantedDevice 16 ∷ wantedDevice 17 ∷ wantedController ∷ wantedDisk 0 ∷ wantedDisk 1 ∷ []
 
 -- ---- what is missing
 
@@ -75,7 +75,7 @@ abbrev pub lacking : Content → Need → List (ℕ × ℕ)
 lacking c n = cond (n .there c) [] (nameIn n ∷ [])
 
 abbrev pub missing : Content → List (ℕ × ℕ)
-missing c = flat (lacking c) needs
+missing c = flat (lacking c) wanted
 
 -- a pair as bytes, two u32
 abbrev pub pairBytes : ℕ × ℕ → List ℕ

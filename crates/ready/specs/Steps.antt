@@ -16,7 +16,7 @@ use Rattle.tables.specs.Named.{NamesFramed, Each}
 use Rattle.aerosnap.specs.Content.{isId}
 use Rattle.dskc.specs.Wrapper.{wrapperOf}
 use Rattle.ready.specs.declared.Run.{Run}
-use Rattle.ready.specs.Missing.{isTaken, nameIn, needs, pairBytes}
+use Rattle.ready.specs.Missing.{isTaken, nameIn, wanted, pairBytes}
 
 -- ---- the payload of a section
 
@@ -91,7 +91,7 @@ notes s m k =
 
 -- the pairs that name them
 abbrev pub names : List (ℕ × ℕ)
-names = map nameIn needs
+names = map nameIn wanted
 
 abbrev pub nameOf : ℕ → ℕ × ℕ
 nameOf i = getD names i (0, 0)
@@ -101,12 +101,12 @@ abbrev pub pairFor : ℕ × ℕ → ℕ → List ℕ
 pairFor p x = cond (eqb x 0) (pairBytes p) []
 
 -- all pairs beside which 0 is noted
-unfoldable pub listed : List (ℕ × ℕ) → List ℕ → List ℕ
-listed [] l = []
-listed (p ∷ ps) [] = []
-listed (p ∷ ps) (x ∷ l) = pairFor p x ++ listed ps l
+unfoldable pub pairsFor : List (ℕ × ℕ) → List ℕ → List ℕ
+pairsFor [] l = []
+pairsFor (p ∷ ps) [] = []
+pairsFor (p ∷ ps) (x ∷ l) = pairFor p x ++ pairsFor ps l
 
 -- bs were written over old from a place on, which ends at r
-pub record Put (bs : List ℕ) (at : ℕ) (old new : List ℕ) (r : ℕ) : Type 0 where
+pub record PutAt (bs : List ℕ) (at : ℕ) (old new : List ℕ) (r : ℕ) : Type 0 where
   pub ends : r ≡ at + length bs
   pub bytes : new ≡ splice at bs old

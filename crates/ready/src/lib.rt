@@ -4,6 +4,7 @@
 use answer::ROOM;
 use answer::TAKEN;
 use entries::Kind;
+use tables::ROW;
 ghost use mathlib.Core.Path.{_≡_};
 ghost use mathlib.Core.List.{List};
 ghost use Prim.Native.Nat.{ℕ, _+_, _≤_};
@@ -13,7 +14,7 @@ ghost use Rattle.wire.specs.Parts.{Wrote};
 ghost use Rattle.entries.specs.Kinds as kinds;
 ghost use Rattle.entries.specs.Code.{describe};
 ghost use Rattle.aerosnap.specs.File.{fileOf};
-ghost use Rattle.ready.specs.Missing.{readyCall, asReadiness, Tells};
+ghost use Rattle.ready.specs.Missing.{readyCall, Tells};
 ghost use Rattle.ready.specs.Steps as steps;
 
 // The answer: number and place; 1 for a yes, 0 for a no and beside a refusal.
@@ -73,15 +74,15 @@ fn payload_of(table: &[u8], id: u32) -> Run
                 len: wire::u64_at(table, at + 16) as usize,
             };
         }
-        at += 32;
+        at += ROW;
     }
     Run { at: 0, len: 0 }
 }
 
 // ---- what is there
 
-// An entry with an id starts at a place: the first of its id, or one more.
-fn note(notes: &mut [usize], id: usize, at: usize)
+// What is noted when an entry with an id starts at a place: the place, or 1 if another had the id before. Ids past the last note are passed over.
+fn note(id: usize, at: usize, notes: &mut [usize])
     ensures { λ _. ⌜ now (notes .exit) ≡ steps.noted (now (notes .entry)) id at ⌝ }
 {
     if id < notes.len() {
@@ -93,7 +94,7 @@ fn note(notes: &mut [usize], id: usize, at: usize)
     }
 }
 
-// The entries of a list, one after another by their lengths.
+// The ids of a list's entries noted, one entry after another by their lengths.
 fn note_all(kind: Kind, list: &[u8], notes: &mut [usize])
     ensures { λ _. ⌜ ((m : List (List ℕ)) → steps.Stands (describe kind) (now (list .entry)) m → steps.Noted m (now (notes .entry)) (now (notes .exit))) ⌝ }
 {
@@ -101,7 +102,7 @@ fn note_all(kind: Kind, list: &[u8], notes: &mut [usize])
     let mut at = 4;
     let mut i = 0;
     while i < n {
-        note(notes, wire::u32_at(list, at) as usize, at);
+        note(wire::u32_at(list, at) as usize, at, notes);
         at += entries::length_at(kind, list, at);
         i += 1;
     }
@@ -133,7 +134,8 @@ fn either(a: usize, b: usize) -> usize
     a
 }
 
-// What is noted of each thing that is needed, in the order of NAMES: 0 if it is missing.
+// What is noted of each thing that is needed, in the order of NAMES: 0 if it is missing. The notes of the ids 0 to 21 are those of devices, then those of
+// the disks 0 and 1.
 fn look(devices: &[u8], disks: &[u8]) -> [usize; 9]
     ensures { λ r. ⌜ ((m k : List (List ℕ)) → steps.Stands kinds.devices (now (devices .entry)) m → steps.Stands kinds.disks (now (disks .entry)) k → r ≡ steps.notes (now (devices .entry)) m k) ⌝ }
 {
@@ -160,7 +162,7 @@ fn look(devices: &[u8], disks: &[u8]) -> [usize; 9]
 // The pair with the number i where 0 is noted beside it; and where the next one goes.
 fn put_noted(note: usize, i: usize, at: usize, out: &mut [u8]) -> usize
     requires { ⌜ (i ≤ 8) × (at + 8 ≤ length (now out)) ⌝ }
-    ensures { λ r. ⌜ steps.Put (steps.pairFor (steps.nameOf i) note) at (now (out .entry)) (now (out .exit)) r ⌝ }
+    ensures { λ r. ⌜ steps.PutAt (steps.pairFor (steps.nameOf i) note) at (now (out .entry)) (now (out .exit)) r ⌝ }
 {
     if note != 0 {
         return at;
@@ -174,7 +176,7 @@ fn put_noted(note: usize, i: usize, at: usize, out: &mut [u8]) -> usize
 // The pairs beside which 0 is noted.
 fn put_missing(notes: [usize; 9], out: &mut [u8]) -> usize
     requires { ⌜ 72 ≤ length (now out) ⌝ }
-    ensures { λ r. ⌜ Wrote (steps.listed steps.names notes) (now (out .entry)) (now (out .exit)) r ⌝ }
+    ensures { λ r. ⌜ Wrote (steps.pairsFor steps.names notes) (now (out .entry)) (now (out .exit)) r ⌝ }
 {
     let mut at = 0;
     let mut i = 0;
@@ -185,9 +187,9 @@ fn put_missing(notes: [usize; 9], out: &mut [u8]) -> usize
     at
 }
 
-// The list for the notes, where there is room for it.
-fn hand_out(notes: [usize; 9], list: &mut [u8]) -> Readiness
-    ensures { λ r. ⌜ Tells (fitting (length (now (list .entry))) (steps.listed steps.names notes)) (now (list .entry)) r (now (list .exit)) ⌝ }
+// The answer for the notes: a yes if nothing is missing, else the list, where there is room for it.
+fn hand_list(notes: [usize; 9], list: &mut [u8]) -> Readiness
+    ensures { λ r. ⌜ Tells (fitting (length (now (list .entry))) (steps.pairsFor steps.names notes)) (now (list .entry)) r (now (list .exit)) ⌝ }
 {
     let mut pairs = [0u8; 72];
     let n = put_missing(notes, &mut pairs);
@@ -213,8 +215,8 @@ fn hand_out(notes: [usize; 9], list: &mut [u8]) -> Readiness
     }
 }
 
-// The same for a file that is taken, by the table of its sections.
-fn judge(file: &[u8], table: &[u8], list: &mut [u8]) -> Readiness
+// The answer for a file that is taken, by the table of its sections.
+fn by_table(file: &[u8], table: &[u8], list: &mut [u8]) -> Readiness
     requires { ⌜ ((l : List (List ℕ)) × (fileOf (now file) ≡ taken l) × steps.NamesSections (now file) l (now table)) ⌝ }
     ensures { λ r. ⌜ Tells (readyCall (length (now (list .entry))) (now (file .entry))) (now (list .entry)) r (now (list .exit)) ⌝ }
 {
@@ -224,13 +226,14 @@ fn judge(file: &[u8], table: &[u8], list: &mut [u8]) -> Readiness
         bytes_in(file, devices.at, devices.len),
         bytes_in(file, disks.at, disks.len),
     );
-    hand_out(notes, list)
+    hand_list(notes, list)
 }
 
 // Whether a file is ready to restore; if it is not, what is missing, as pairs in `list`.
 pub fn ready(file: &[u8], list: &mut [u8]) -> Readiness
     ensures { λ r. ⌜ Tells (readyCall (length (now (list .entry))) (now (file .entry))) (now (list .entry)) r (now (list .exit)) ⌝ }
 {
+    // 64 records, as many as a file has sections at most.
     let mut table = [0u8; 2048];
     let sections = snapshot::sections(file, &mut table);
     if sections.number != TAKEN {
@@ -241,5 +244,5 @@ pub fn ready(file: &[u8], list: &mut [u8]) -> Readiness
         };
     }
     let n = sections.place as usize;
-    judge(file, &table[..n], list)
+    by_table(file, &table[..n], list)
 }

@@ -35,9 +35,9 @@ loop-again c =
     let u = c .before .before .before .before in
     let l = u .before .before .before in
     let a = l .before .before .before .before .args in (
-      c .before .before .before .note .kept .0 ∙ l .loop .inv .0,
+      c .before .before .before .note .kept .1 .1 .0 ∙ l .loop .inv .0,
       room c,
-      λ m v. rw (c .before .before .before .note .ensures) (passing-next (a .kind) (l .loop .inv .2 m v) (u .before .before .loop-test .taken) (l .loop .inv .0) (u .u32-at2 .ensures) (c .length-at .ensures)),
+      λ m v. rw (c .before .before .before .note .ensures) (passing-next (a .kind) (l .loop .inv .2 m v) (u .before .before .loop-test .taken) (l .loop .inv .0) (u .before .u32-at2 .ensures) (c .length-at .ensures)),
     )
 
 same-length : tie.Need-same-length Inv-loop μ-loop

@@ -1,9 +1,8 @@
 use borrow.Kind.Array.{good-length, eInt}
 use mir.Syntax.{w64}
 use Rattle.ready.proofs.Walks.{Listing, listing-start, listing-length, listing-next, listing-end}
-use Prim.Native.Nat.{ℕ, _-_, _≤_}
+use Prim.Native.Nat.{_-_, _≤_}
 use native.Mathlib.Omega.{arith}
-use borrow.Author.Needs.{needs}
 use Rattle.ready.proofs.put_missing.Statement.{statement}
 use Rattle.ready.proofs.put_missing.Tie as tie
 

@@ -19,11 +19,11 @@ returns c = let k = c .before .before .before in let a = k .before .before .befo
 array-share-prefix-table : tie.Need-array-share-prefix-table
 array-share-prefix-table c = tabled c .inside
 
-slice-aggregate-judge : tie.Need-slice-aggregate-judge
-slice-aggregate-judge c = sym (length-take-le _ _ (tabled (c .before) .inside))
+slice-aggregate-by-table : tie.Need-slice-aggregate-by-table
+slice-aggregate-by-table c = sym (length-take-le _ _ (tabled (c .before) .inside))
 
-judge-requires : tie.Need-judge-requires
-judge-requires c κs = let v = tabled (c .before .before) in (v .sections, v .read, v .names)
+by-table-requires : tie.Need-by-table-requires
+by-table-requires c κs = let v = tabled (c .before .before) in (v .sections, v .read, v .names)
 
 pub ready-spec : {M : Type 1} → statement M
 ready-spec =
@@ -33,7 +33,7 @@ ready-spec =
     (λ c κs. search needs)
     returns
     array-share-prefix-table
-    slice-aggregate-judge
-    judge-requires
+    slice-aggregate-by-table
+    by-table-requires
     (λ c. search needs)
     (λ c. search needs))

@@ -3,8 +3,8 @@ use mathlib.Core.List.{[]}
 use lib.Seq.{length-take-le}
 use Rattle.ready.proofs.Exits.{all-inside, tells-yes, tells-room, tells-no}
 use borrow.Author.Needs.{needs}
-use Rattle.ready.proofs.hand_out.Statement.{statement}
-use Rattle.ready.proofs.hand_out.Tie as tie
+use Rattle.ready.proofs.hand_list.Statement.{statement}
+use Rattle.ready.proofs.hand_list.Tie as tie
 
 returns : tie.Need-returns
 returns c = let m = c .before .before in tells-yes _ _ (m .put-missing .ensures) (c .if1 .taken)
@@ -23,8 +23,8 @@ returns-3 c =
     let m = c .before .before .before .before .before .before .before .before in
     tells-no _ _ (m .put-missing .ensures) (c .before .before .before .before .before .before .if1 .left) (c .before .before .before .before .before .if2 .left) refl (c .before .before .copy .ensures)
 
-pub hand-out-spec : {M : Type 1} → statement M
-hand-out-spec =
+pub hand-list-spec : {M : Type 1} → statement M
+hand-list-spec =
     tie.close
     (tie.spec
     (λ c. search needs)
