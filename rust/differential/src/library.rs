@@ -1,7 +1,7 @@
 //! The library's calls, with the reference's signatures. No other module names the library.
 
 use cimbrolau::raw;
-use reference::{Access, Answer, Cursors, Pair, Reading, Record};
+use reference::{Access, Answer, Cursors, Pair, Readiness, Reading, Record};
 
 use crate::rings::RingCalls;
 
@@ -65,6 +65,11 @@ pub fn replace_device(
     out: &mut [u8],
 ) -> Answer {
     answer!(raw::replace_device(file, id, version, flags, payload, out))
+}
+
+pub fn ready(file: &[u8], list: &mut [u8]) -> Readiness {
+    let given = raw::ready(file, list);
+    Readiness { number: given.number, yes: given.yes, place: given.place }
 }
 
 pub fn wrapper_check(wrapper: &[u8]) -> Answer {
