@@ -1,7 +1,8 @@
 /*
  * Cimbrolau: AEROSNAP version 1 snapshots, DSKC disk-controller wrappers and AIPC messages.
  *
- * Link with target/staticlib/libcimbrolau.a, which `tools/library` makes. Of other libraries it wants memcpy, memmove and memset.
+ * Link with target/staticlib/libcimbrolau.a, which `tools/library` makes; `tools/install PREFIX` puts it, this header and a file for
+ * pkg-config below PREFIX. examples/list.c is a whole program. Of other libraries it wants memcpy, memmove and memset.
  * It keeps no state and allocates nothing, so several threads may call it at once. A call takes at most 108 KiB of stack.
  *
  * Every call takes every input, ends, and answers with a number and a place:
@@ -15,7 +16,7 @@
  *
  * What a caller owes, and nothing can check:
  *   - each length is the number of bytes that the pointer before it points to; for a length of 0 any pointer will do, also a null one;
- *   - a lent buffer (`table`, `out`) overlaps no input of the same call, and nothing else touches either while the call runs.
+ *   - a lent buffer (`table`, `list`, `out`) overlaps no input of the same call, and nothing else touches either while the call runs.
  * All else is checked by the call.
  */
 #ifndef CIMBROLAU_H
@@ -27,6 +28,9 @@
 #ifdef __cplusplus
 extern "C" {
 #endif
+
+/* The version of the library that this header is of. (CIMBROLAU_VERSION is a refusal.) */
+#define CIMBROLAU_LIBRARY_VERSION "0.1.0"
 
 /* ---- the refusals */
 
@@ -55,8 +59,42 @@ enum {
     CIMBROLAU_FULL = 22,     /* bytes in use and those needed exceed the capacity; at 0 */
     CIMBROLAU_EMPTY = 23,    /* nothing is committed; at 0 */
     CIMBROLAU_RECORD = 24,   /* committed record runs past commit or the ring's end, or a skip reaches commit; at 0 */
+    CIMBROLAU_ABSENT = 25,   /* entry to be removed or replaced isn't there; at 0 */
     CIMBROLAU_TURN = 29      /* cursors given out of turn; at 0 */
 };
+
+/* The name of a number as the card of refusals has it, "TAKEN" for 0; null for a number that no call answers. */
+static inline const char *cimbrolau_name(uint32_t number) {
+    switch (number) {
+    case CIMBROLAU_TAKEN: return "TAKEN";
+    case CIMBROLAU_SHORT: return "SHORT";
+    case CIMBROLAU_MAGIC: return "MAGIC";
+    case CIMBROLAU_VERSION: return "VERSION";
+    case CIMBROLAU_ENDIAN: return "ENDIAN";
+    case CIMBROLAU_RESERVED: return "RESERVED";
+    case CIMBROLAU_SIZE: return "SIZE";
+    case CIMBROLAU_CUT: return "CUT";
+    case CIMBROLAU_MANY: return "MANY";
+    case CIMBROLAU_TWICE: return "TWICE";
+    case CIMBROLAU_SECVER: return "SECVER";
+    case CIMBROLAU_SHAPE: return "SHAPE";
+    case CIMBROLAU_LIMIT: return "LIMIT";
+    case CIMBROLAU_KEY: return "KEY";
+    case CIMBROLAU_TEXT: return "TEXT";
+    case CIMBROLAU_VALUE: return "VALUE";
+    case CIMBROLAU_ROOM: return "ROOM";
+    case CIMBROLAU_HAVE: return "HAVE";
+    case CIMBROLAU_TAG: return "TAG";
+    case CIMBROLAU_REGION: return "REGION";
+    case CIMBROLAU_BIG: return "BIG";
+    case CIMBROLAU_FULL: return "FULL";
+    case CIMBROLAU_EMPTY: return "EMPTY";
+    case CIMBROLAU_RECORD: return "RECORD";
+    case CIMBROLAU_ABSENT: return "ABSENT";
+    case CIMBROLAU_TURN: return "TURN";
+    default: return NULL;
+    }
+}
 
 /* ---- what a call answers */
 
@@ -79,7 +117,32 @@ struct cimbrolau_answer cimbrolau_check(const uint8_t *file, size_t file_length)
  *   disks, in key order       u32 id, u32 base length, u64 base offset, u32 overlay length, u32 0
  *
  * and behind these 24 bytes, in each: u32 position, the number of the section in the file or of the entry in the file's own list, from 0; u32 0.
+ * The structs have that layout: an array of them may be lent as a table.
  */
+struct cimbrolau_section {
+    uint32_t id;
+    uint16_t version, flags;
+    uint64_t offset, length;
+    uint32_t position, zero;
+};
+
+struct cimbrolau_device {
+    uint32_t id;
+    uint16_t version, flags;
+    uint64_t offset, length;
+    uint32_t position, zero;
+};
+
+struct cimbrolau_disk {
+    uint32_t id, base_length;
+    uint64_t base_offset; /* the overlay's name starts 4 bytes behind the base's */
+    uint32_t overlay_length, zero;
+    uint32_t position, zero_too;
+};
+
+/* The most records that a table has. */
+enum { CIMBROLAU_MOST_SECTIONS = 64, CIMBROLAU_MOST_DEVICES = 4096, CIMBROLAU_MOST_DISKS = 256, CIMBROLAU_MOST_CONTROLLERS = 256 };
+
 struct cimbrolau_answer cimbrolau_sections(const uint8_t *file, size_t file_length, uint8_t *table, size_t table_length);
 
 struct cimbrolau_answer cimbrolau_devices(const uint8_t *file, size_t file_length, uint8_t *table, size_t table_length);
@@ -97,6 +160,17 @@ struct cimbrolau_answer cimbrolau_add_device(const uint8_t *file, size_t file_le
 
 struct cimbrolau_answer cimbrolau_add_disk(const uint8_t *file, size_t file_length, uint32_t id, const uint8_t *base, size_t base_length, const uint8_t *overlay, size_t overlay_length, uint8_t *out, size_t out_length);
 
+/*
+ * The canonical form of a file's content without one of its devices or disks; the last entry's removal removes its section. What is wrong with the
+ * file comes first; an entry that isn't there is CIMBROLAU_ABSENT at 0.
+ */
+struct cimbrolau_answer cimbrolau_remove_device(const uint8_t *file, size_t file_length, uint32_t id, uint16_t version, uint16_t flags, uint8_t *out, size_t out_length);
+
+struct cimbrolau_answer cimbrolau_remove_disk(const uint8_t *file, size_t file_length, uint32_t id, uint8_t *out, size_t out_length);
+
+/* The same with another payload in one of its devices, under the same key: CIMBROLAU_LIMIT, CIMBROLAU_ABSENT, CIMBROLAU_LIMIT, CIMBROLAU_SIZE, all at 0. */
+struct cimbrolau_answer cimbrolau_replace_device(const uint8_t *file, size_t file_length, uint32_t id, uint16_t version, uint16_t flags, const uint8_t *payload, size_t payload_length, uint8_t *out, size_t out_length);
+
 /* ---- disk-controller wrappers */
 
 /* Whether a wrapper follows the rules. */
@@ -104,12 +178,36 @@ struct cimbrolau_answer cimbrolau_wrapper_check(const uint8_t *wrapper, size_t w
 
 /*
  * The controllers in address order, 32 bytes each: u16 address, u16 0, four tag bytes, u64 payload offset, u64 length, u32 position in the
- * wrapper's own list, from 0, u32 0; offsets count from the wrapper's start.
+ * wrapper's own list, from 0, u32 0; offsets count from the wrapper's start. The struct has that layout.
  */
+struct cimbrolau_controller {
+    uint16_t address, zero;
+    uint8_t tag[4];
+    uint64_t offset, length;
+    uint32_t position, zero_too;
+};
+
 struct cimbrolau_answer cimbrolau_controllers(const uint8_t *wrapper, size_t wrapper_length, uint8_t *table, size_t table_length);
 
 /* The canonical form of a wrapper, in address order. It is as long as the wrapper. */
 struct cimbrolau_answer cimbrolau_wrapper_canonical(const uint8_t *wrapper, size_t wrapper_length, uint8_t *out, size_t out_length);
+
+/* ---- readiness */
+
+/* Whether a file is ready to restore. */
+struct cimbrolau_readiness {
+    uint32_t number;
+    uint32_t yes;    /* 1 for a yes; 0 for a no, and beside a refusal */
+    uint64_t place;  /* the bytes written to the list: 0 for a yes */
+};
+
+/*
+ * A yes exactly if the file is taken, its devices include an interrupt controller (2 or 21), PIT 3, RTC 4, i8042 13, ACPI PM 16, HPET 17 and exactly
+ * one entry with id 6, whose payload is an accepted wrapper, and the disks 0 and 1 are there. For a no the list says what is missing, 8 bytes for each
+ * thing, two u32: 1 and the id of a device, in the order 3, 4, 6, 13, 16, 17, 21, where 21 stands for either controller; then 2 and the id of a disk.
+ * 72 bytes are enough for every list.
+ */
+struct cimbrolau_readiness cimbrolau_ready(const uint8_t *file, size_t file_length, uint8_t *list, size_t list_length);
 
 /* ---- messages */
 
@@ -272,6 +370,36 @@ struct cimbrolau_access {
 };
 
 struct cimbrolau_access cimbrolau_access(uint32_t word);
+
+/* ---- the layout of the records, which a compiler that lays them out otherwise refuses here */
+
+#if defined(__BYTE_ORDER__) && __BYTE_ORDER__ != __ORDER_LITTLE_ENDIAN__
+#error "the records of tables have their low bytes first"
+#endif
+
+#define CIMBROLAU_LAYOUT(record, member, place) \
+    typedef char cimbrolau_layout_##record##_##member[offsetof(struct cimbrolau_##record, member) == (place) && sizeof(struct cimbrolau_##record) == 32 ? 1 : -1]
+
+CIMBROLAU_LAYOUT(section, version, 4);
+CIMBROLAU_LAYOUT(section, flags, 6);
+CIMBROLAU_LAYOUT(section, offset, 8);
+CIMBROLAU_LAYOUT(section, length, 16);
+CIMBROLAU_LAYOUT(section, position, 24);
+CIMBROLAU_LAYOUT(device, version, 4);
+CIMBROLAU_LAYOUT(device, flags, 6);
+CIMBROLAU_LAYOUT(device, offset, 8);
+CIMBROLAU_LAYOUT(device, length, 16);
+CIMBROLAU_LAYOUT(device, position, 24);
+CIMBROLAU_LAYOUT(disk, base_length, 4);
+CIMBROLAU_LAYOUT(disk, base_offset, 8);
+CIMBROLAU_LAYOUT(disk, overlay_length, 16);
+CIMBROLAU_LAYOUT(disk, position, 24);
+CIMBROLAU_LAYOUT(controller, tag, 4);
+CIMBROLAU_LAYOUT(controller, offset, 8);
+CIMBROLAU_LAYOUT(controller, length, 16);
+CIMBROLAU_LAYOUT(controller, position, 24);
+
+#undef CIMBROLAU_LAYOUT
 
 #ifdef __cplusplus
 }

@@ -2,9 +2,9 @@
 -- Assumes nothing.
 use mathlib.Core.Path.{_≡_, refl, sym, _∙_, ap}
 use mathlib.Core.Logic.{_≢_}
-use mathlib.Core.Bool.{Bool, true, false}
+use mathlib.Core.Bool.{true}
 use mathlib.Core.List.{List, [], _∷_}
-use Prim.Native.Nat.{ℕ, _≤_, _<_}
+use Prim.Native.Nat.{ℕ, _<_}
 use native.Mathlib.Omega.{arith}
 use lib.ListN.{length}
 use borrow.Author.Tests.{le-leb}
@@ -28,6 +28,7 @@ use Rattle.fields.specs.declared.State.{State}
 use Rattle.fields.specs.Layout.{rowAt}
 use Rattle.fields.specs.Fields.{listed, valueChecks, bytesAt, fieldChecks, fieldCall, setCall, stored, Changes}
 use Rattle.demands.proofs.Rings.{rings}
+use Rattle.demands.proofs.Ready.{ready}
 use Rattle.demands.proofs.Sheet.{sheet}
 
 -- ---- addresses
@@ -109,12 +110,16 @@ card = record {
   canonical = λ file. fills-not (demand1 .canonical file);
   add-device = λ file id version flags payload. fills-not (demand1 .add-device file id version flags payload);
   add-disk = λ file id base overlay. fills-not (demand1 .add-disk file id base overlay);
+  remove-device = λ file id version flags. fills-not (demand1 .remove-device file id version flags);
+  remove-disk = λ file id. fills-not (demand1 .remove-disk file id);
+  replace-device = λ file id version flags payload. fills-not (demand1 .replace-device file id version flags payload);
   wrapper-check = λ wrapper. verdict-not (wrapped.wrapperOf wrapper) (demand1 .wrapper-check wrapper .faults);
   controllers = λ wrapper. fills-not (demand1 .controllers wrapper);
   wrapper-canonical = λ wrapper. fills-not (demand1 .wrapper-canonical wrapper);
   message-read = λ message. reading-not (messages.readMessage message) (demand1 .message-read message .faults);
   message-write = λ message bytes. fills-not (demand1 .message-write message bytes);
   numbers-write = λ n bytes. fills-not (demand1 .numbers-write n bytes);
+  ready = λ file old new r w k. number-not (r .number) (ready .numbers file old new r w (λ i. omega arith)) k;
   region-check = λ b r e k. let z = rings .calls .check b r e .else (λ i. omega arith) in omega arith;
   report = λ b q r e k. let z = rings .calls .report b q r e .else (λ i. omega arith) in omega arith;
   reserve = λ b q n new r w k. let z = rw k at (rings .calls .reserve q n .stays b new r w (λ i. omega arith) .0) in let y : _≡_ {A = ℕ} 0 1 = cc in omega arith;

@@ -26,8 +26,8 @@ use Rattle.tables.specs.Tables.{rowsAt}
 use Rattle.aerosnap.specs.File.{fileOf}
 use Rattle.aerosnap.specs.Content.{Content, contentAt, render, canonical}
 use Rattle.aerosnap.specs.Tables.{placed, listRows, sectionRows, table}
-use Rattle.aerosnap.specs.Adding.{Item, device, disk, ownChecks, addChecks, withItem}
-use Rattle.aerosnap.specs.Edits.{addTo, addItem, editFile, editTo}
+use Rattle.aerosnap.specs.Adding.{Item, device, disk, deviceNamed, diskNamed, ownChecks, addChecks}
+use Rattle.aerosnap.specs.Edits.{Edit, add, remove, replace, apply, editChecks, editTo, editFile}
 use Rattle.aerosnap.proofs.Refusals.{Refuses, checked-refuses, after-refuses, refuses-more}
 use Rattle.aerosnap.proofs.Named.{checked-faulty, after-faulty, file-faulty, content-faulty}
 use Rattle.dskc.specs.Wrapper as wrapped
@@ -201,23 +201,25 @@ own-rows : (x : Item) → Rows (ownChecks x)
 own-rows (device id v f p) = (plain 12 refl, tt)
 own-rows (disk id x y) = (plain 12 refl, (plain 14 refl, tt))
 
-add-rows : (x : Item) (c : Content) → Rows (ownChecks x ++ addChecks x c (withItem x c))
-add-rows x c = every-append _ (ownChecks x) (addChecks x c (withItem x c)) (own-rows x) ((refl, λ e. omega arith), (plain 12 refl, (plain 12 refl, (plain 8 refl, (plain 6 refl, tt)))))
+edit-rows : (e : Edit) (c u : Content) → Rows (editChecks e c u)
+edit-rows (add x) c u = every-append _ (ownChecks x) (addChecks x c u) (own-rows x) ((refl, λ e. omega arith), (plain 12 refl, (plain 12 refl, (plain 8 refl, (plain 6 refl, tt)))))
+edit-rows (remove n) c u = ((refl, λ e. omega arith), tt)
+edit-rows (replace id v f p) c u = (plain 12 refl, ((refl, λ e. omega arith), (plain 12 refl, (plain 6 refl, tt))))
 
-add-core : (s : List ℕ) (x : Item) → Core (λ have. addItem have s x)
+edit-core : (s : List ℕ) (e : Edit) → Core (λ have. editFile have s e)
 unfolding editFile editTo
-add-core s x =
-    let rows : Content → Checks = λ c. ownChecks x ++ addChecks x c (withItem x c) in
-    let all : Content → Outcome (List ℕ) = λ c. checked (rows c) (taken (render (withItem x c))) in
+edit-core s e =
+    let rows : Content → Checks = λ c. editChecks e c (apply e c) in
+    let all : Content → Outcome (List ℕ) = λ c. checked (rows c) (taken (render (apply e c))) in
     record {
       core = after (contentAt s) all;
-      apart = after-refuses Plain (contentAt s) all (faulty-unroomed (contentAt s) (content-faulty s)) (λ c. checked-refuses Plain (rows c) (taken (render (withItem x c))) (add-rows x c) tt);
+      apart = after-refuses Plain (contentAt s) all (faulty-unroomed (contentAt s) (content-faulty s)) (λ c. checked-refuses Plain (rows c) (taken (render (apply e c))) (edit-rows e c (apply e c)) tt);
       same = λ have. by have (contentAt s);
     }
   where
     by : (have : ℕ) (r : Outcome Content)
-        → after r (λ c. checked (ownChecks x ++ addChecks x c (withItem x c)) (fitting have (render (withItem x c)))) ≡ after (after r (λ c. checked (ownChecks x ++ addChecks x c (withItem x c)) (taken (render (withItem x c))))) (fitting have)
-    by have (taken c) = sym (checked-after (ownChecks x ++ addChecks x c (withItem x c)) (taken (render (withItem x c))) (fitting have))
+        → after r (λ c. checked (editChecks e c (apply e c)) (fitting have (render (apply e c)))) ≡ after (after r (λ c. checked (editChecks e c (apply e c)) (taken (render (apply e c))))) (fitting have)
+    by have (taken c) = sym (checked-after (editChecks e c (apply e c)) (taken (render (apply e c))) (fitting have))
     by have (refused n p) = refl
 
 value-rows : (ok : ℕ) (cs : List Cell) → Rows (valueChecks ok cs)
@@ -278,8 +280,11 @@ demand1 = record {
   devices = λ file. fills _ (table-core (λ l. flat (listRows Devices DEVICES) (placed 16 l)) file);
   disks = λ file. fills _ (table-core (λ l. flat (listRows Disks DISKS) (placed 16 l)) file);
   canonical = λ file. fills _ (canonical-core file);
-  add-device = λ file id version flags payload. fills _ (add-core file (device id version flags payload));
-  add-disk = λ file id base overlay. fills _ (add-core file (disk id base overlay));
+  add-device = λ file id version flags payload. fills _ (edit-core file (add (device id version flags payload)));
+  add-disk = λ file id base overlay. fills _ (edit-core file (add (disk id base overlay)));
+  remove-device = λ file id version flags. fills _ (edit-core file (remove (deviceNamed id version flags)));
+  remove-disk = λ file id. fills _ (edit-core file (remove (diskNamed id)));
+  replace-device = λ file id version flags payload. fills _ (edit-core file (replace id version flags payload));
   wrapper-check = λ wrapper. answers (wrapped.wrapperOf wrapper) (wrapper-faulty wrapper);
   controllers = λ wrapper. fills _ (read-core (wrapped.wrapperOf wrapper) (rowsAt Controllers 16 (drop 16 wrapper)) (wrapper-faulty wrapper));
   wrapper-canonical = λ wrapper. fills _ (read-core (wrapped.wrapperOf wrapper) (λ _. wrapped.wrapperBytes (sort (controllers .key) (wrapped.controllersOf wrapper))) (wrapper-faulty wrapper));

@@ -11,7 +11,7 @@ use borrow.Author.Tests.{leb-true, leb-false, lt-leb}
 use lib.Dec.{leb}
 use lib.ListN.{length, drop}
 use Rattle.answer.specs.Numbers.{ROOM}
-use Rattle.answer.specs.Outcome.{Outcome, taken, refused, checked, after, fitting}
+use Rattle.answer.specs.Outcome.{Outcome, taken, refused, checked, Pass, after, fitting}
 use Rattle.answer.proofs.Outcomes.{after-taken}
 use Rattle.wire.specs.Numbers.{Bytes, leAt}
 use Rattle.wire.proofs.Numbers.{leAt-bound, leAt-bytesOf}
@@ -27,14 +27,13 @@ use Rattle.aerosnap.specs.File.{fileMost, fileOf}
 use Rattle.aerosnap.specs.Rules.{IsSection}
 use Rattle.aerosnap.specs.Content.{Content, contentOf, contentAt, render, entriesIn, canonical}
 use Rattle.aerosnap.specs.Tables.{placed, listRows, sectionRows, table}
-use Rattle.aerosnap.specs.Adding.{Item, withItem}
-use Rattle.aerosnap.specs.Edits.{addItem}
+use Rattle.aerosnap.specs.Edits.{Edit, apply, editChecks, editFile}
 use Rattle.aerosnap.proofs.Slots.{Once}
 use Rattle.aerosnap.proofs.Taken.{file-sound, taken-exactly, file-unique}
 use Rattle.aerosnap.proofs.Records.{SectionRows, section-rows, list-rows}
 use Rattle.aerosnap.proofs.Canonical.{fits-taken, taken-fits, canonical-is, same-canonical, same-content, any-saver}
-use Rattle.aerosnap.proofs.Added.{add-exactly}
-use Rattle.aerosnap.proofs.AnyOrder.{call-gives}
+use Rattle.aerosnap.proofs.Passing.{edit-exactly}
+use Rattle.aerosnap.proofs.Edited.{edit-gives}
 use Rattle.dskc.specs.Wrapper as wrapped
 use Rattle.dskc.proofs.Taken.{wrapper-sound, wrapper-complete, controllers-back, wrapper-one, ordered-length, ordered-valid, ordered-again, address-parts, parts-address}
 use Rattle.dskc.proofs.Reading.{whole}
@@ -44,7 +43,7 @@ use Rattle.messages.proofs.Back.{told, read-written}
 use Rattle.messages.proofs.Exactly.{taken-writing, writing-unique, read-write}
 use Rattle.numbers.proofs.Back.{numbers-write}
 use Rattle.demands.specs.Demand1.{Taken}
-use Rattle.demands.specs.Demand2.{Writing, Canonical, Files, Tables, Keys, Addresses, Passed, Additions, ordered, Wrappers, Says, dataOf, Messages, Demand2}
+use Rattle.demands.specs.Demand2.{Writing, Canonical, Files, Tables, Keys, Addresses, Editing, ordered, Wrappers, Says, dataOf, Messages, Demand2}
 use Rattle.answer.proofs.Firsts.{after-refused}
 use Rattle.demands.proofs.FirstFaults.{faults}
 
@@ -191,16 +190,16 @@ addresses = record {
   apart = parts-address;
 }
 
--- ---- adds
+-- ---- edits
 
-adds-exactly : (have : ℕ) (s : List ℕ) (x : Item) (b : List ℕ) → (addItem have s x ≡ taken b) ↔ ((c : Content) × (contentAt s ≡ taken c) × Passed have x c × (render (withItem x c) ≡ b))
-adds-exactly have s x b = (
-  λ h. let (c, e, p, q) = add-exactly have s x b .0 h in (c, e, record { own = p .own; others = p .others; fits = p .room-is }, q),
-  λ (c, e, p, q). add-exactly have s x b .1 (c, e, record { own = p .own; others = p .others; room-is = p .fits }, q),
+editing-exactly : (have : ℕ) (s : List ℕ) (e : Edit) (b : List ℕ) → (editFile have s e ≡ taken b) ↔ ((c : Content) × (contentAt s ≡ taken c) × Pass (editChecks e c (apply e c)) × (length b ≤ have) × (render (apply e c) ≡ b))
+editing-exactly have s e b = (
+  λ h. let (c, r, p, q) = edit-exactly have s e b .0 h in (c, r, p .rows, omega (arith, p .room-is, ap length q), q),
+  λ (c, r, p, n, q). edit-exactly have s e b .1 (c, r, record { rows = p; room-is = omega (arith, ap length q) }, q),
 )
 
-adds : Additions
-adds = record { exactly = adds-exactly; gives = λ have s x b k. let g = call-gives have s x b k in (g .old, g .read, g .content-is, g .canonical-is) }
+editing : Editing
+editing = record { exactly = editing-exactly; gives = λ have s e b k. let g = edit-gives have s e b k in (g .old, g .read, g .content-is, g .canonical-is) }
 
 -- ---- wrappers
 
@@ -241,4 +240,4 @@ messages-are : Messages
 messages-are = record { exactly = message-exactly; unique = message-unique; reads = said; writes = read-write; by-numbers = numbers-write }
 
 pub demand2 : Demand2
-demand2 = record { files = files; tables = tables; keys = keys; addresses = addresses; adds = adds; wrappers = wrappers; messages-are = messages-are; faults = faults }
+demand2 = record { files = files; tables = tables; keys = keys; addresses = addresses; editing = editing; wrappers = wrappers; messages-are = messages-are; faults = faults }

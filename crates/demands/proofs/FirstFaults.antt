@@ -1,4 +1,4 @@
--- The fault that is named is the first in its order: of a file, a wrapper, a list, an add, and a message that is read or written.
+-- The fault that is named is the first in its order: of a file, a wrapper, a list, an edit, and a message that is read or written.
 -- Assumes nothing.
 use mathlib.Core.Path.{_≡_, refl, sym, ap, _∙_}
 use mathlib.Core.Logic.{_↔_, _⊎_, inl, inr}
@@ -28,8 +28,7 @@ use Rattle.aerosnap.specs.Payloads.{bodyOf, payload}
 use Rattle.aerosnap.specs.File.{fileMost, sectionsMost, header, headerChecks, idOf, versionOf, flagsOf, lengthOf, payloadOf, frameChecks, knownChecks, ruled, sectionOf, sections, fileOf}
 use Rattle.aerosnap.specs.Rules.{IsFile}
 use Rattle.aerosnap.specs.Content.{Content, contentAt, render}
-use Rattle.aerosnap.specs.Adding.{Item, ownChecks, addChecks, withItem}
-use Rattle.aerosnap.specs.Edits.{addTo, addItem, editFile, editTo}
+use Rattle.aerosnap.specs.Edits.{Edit, apply, editChecks, editTo, editFile}
 use Rattle.aerosnap.proofs.Taken.{header-sound}
 use Rattle.aerosnap.proofs.Faults.{Stops, sections-stop, stop-sections}
 use Rattle.dskc.specs.Wrapper as wrapped
@@ -210,27 +209,27 @@ module _ (v : Numbers) (d : List ℕ) (have n p : ℕ) where
       back (inl e) = whole ∙ ap (λ (o : Outcome MessageKind). after o (λ k. checked (rows k) (taken (written (made k) d)))) e
       back (inr (k, e, h)) = whole ∙ ap (λ (o : Outcome MessageKind). after o (λ k. checked (rows k) (taken (written (made k) d)))) e ∙ checked-first (rows k) (written (made k) d) n p .1 h
 
--- ---- adds
+-- ---- edits
 
-add-first : (have : ℕ) (s : List ℕ) (x : Item) (n p : ℕ)
-    → (addItem have s x ≡ refused n p)
-    ↔ ((contentAt s ≡ refused n p) ⊎ ((c : Content) × (contentAt s ≡ taken c) × First ((ownChecks x ++ addChecks x c (withItem x c)) ++ room have (length (render (withItem x c)))) n p))
+edit-first : (have : ℕ) (s : List ℕ) (e : Edit) (n p : ℕ)
+    → (editFile have s e ≡ refused n p)
+    ↔ ((contentAt s ≡ refused n p) ⊎ ((c : Content) × (contentAt s ≡ taken c) × First (editChecks e c (apply e c) ++ room have (length (render (apply e c)))) n p))
 unfolding editFile editTo
-add-first have s x n p = ((λ e. there (after-refused (contentAt s) (λ c. addTo have c x) n p e)), back)
+edit-first have s e n p = ((λ q. there (after-refused (contentAt s) (λ c. editTo have c e) n p q)), back)
   where
     rows : Content → Checks
-    rows c = (ownChecks x ++ addChecks x c (withItem x c)) ++ room have (length (render (withItem x c)))
+    rows c = editChecks e c (apply e c) ++ room have (length (render (apply e c)))
 
-    joined : (c : Content) → addTo have c x ≡ checked (rows c) (taken (render (withItem x c)))
-    joined c = sym (checked-append (ownChecks x ++ addChecks x c (withItem x c)) (room have (length (render (withItem x c)))) (taken (render (withItem x c))))
+    joined : (c : Content) → editTo have c e ≡ checked (rows c) (taken (render (apply e c)))
+    joined c = sym (checked-append (editChecks e c (apply e c)) (room have (length (render (apply e c)))) (taken (render (apply e c))))
 
-    there : ((contentAt s ≡ refused n p) ⊎ ((c : Content) × (contentAt s ≡ taken c) × (addTo have c x ≡ refused n p))) → (contentAt s ≡ refused n p) ⊎ ((c : Content) × (contentAt s ≡ taken c) × First (rows c) n p)
-    there (inl e) = inl e
-    there (inr (c, e, h)) = inr (c, e, checked-first (rows c) (render (withItem x c)) n p .0 (sym (joined c) ∙ h))
+    there : ((contentAt s ≡ refused n p) ⊎ ((c : Content) × (contentAt s ≡ taken c) × (editTo have c e ≡ refused n p))) → (contentAt s ≡ refused n p) ⊎ ((c : Content) × (contentAt s ≡ taken c) × First (rows c) n p)
+    there (inl q) = inl q
+    there (inr (c, q, h)) = inr (c, q, checked-first (rows c) (render (apply e c)) n p .0 (sym (joined c) ∙ h))
 
-    back : ((contentAt s ≡ refused n p) ⊎ ((c : Content) × (contentAt s ≡ taken c) × First (rows c) n p)) → after (contentAt s) (λ c. addTo have c x) ≡ refused n p
-    back (inl e) = ap (λ (r : Outcome Content). after r (λ c. addTo have c x)) e
-    back (inr (c, e, h)) = ap (λ (r : Outcome Content). after r (λ c. addTo have c x)) e ∙ joined c ∙ checked-first (rows c) (render (withItem x c)) n p .1 h
+    back : ((contentAt s ≡ refused n p) ⊎ ((c : Content) × (contentAt s ≡ taken c) × First (rows c) n p)) → after (contentAt s) (λ c. editTo have c e) ≡ refused n p
+    back (inl q) = ap (λ (r : Outcome Content). after r (λ c. editTo have c e)) q
+    back (inr (c, q, h)) = ap (λ (r : Outcome Content). after r (λ c. editTo have c e)) q ∙ joined c ∙ checked-first (rows c) (render (apply e c)) n p .1 h
 
 pub faults : Faults
 faults = record {
@@ -240,5 +239,5 @@ faults = record {
   reading = reading-first;
   writing = writing-first;
   by-numbers = numbers-first;
-  add = add-first;
+  edit = edit-first;
 }

@@ -1,6 +1,6 @@
 -- TEXT of a whole file points at the byte at which one of its texts breaks: through formats, lists, payloads and sections, as the place is counted on the way.
 -- Assumes nothing.
-use mathlib.Core.Path.{_≡_, refl, sym, _∙_, ap}
+use mathlib.Core.Path.{_≡_, refl, _∙_, ap}
 use mathlib.Core.Logic.{_≢_, _⊎_, inl, inr}
 use mathlib.Core.Bool.{Bool, true, false, not, _&&_}
 use mathlib.Core.List.{List, [], _∷_, _++_}
@@ -29,7 +29,7 @@ use Rattle.lists.specs.Lists.{keyAt, entryChecks, entryAt, endChecks, walk, cou
 use Rattle.aerosnap.specs.Known.{known, META, CPU, MMU, DEVICES, DISKS, CPUS, MMUS}
 use Rattle.aerosnap.specs.Payloads.{metaForm, Body, meta, cpu, mmu, list, opaque, bodyBy, bodyOf, payload}
 use Rattle.aerosnap.specs.File.{sectionsMost, headerChecks, idOf, versionOf, flagsOf, lengthOf, payloadOf, frameChecks, knownChecks, ruled, sectionOf, sections, fileOf}
-use Rattle.demands.specs.Text.{Points, Pointer}
+use Rattle.demands.specs.Text.{Pointer}
 
 -- ---- outcomes
 -- no row is TEXT; what is refused is not TEXT; what is refused as TEXT is refused where a text of s breaks

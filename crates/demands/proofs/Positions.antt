@@ -1,9 +1,9 @@
 -- Request 9: positions, from what each table is (crates/tables/proofs/Named.antt, crates/aerosnap/proofs/Records.antt).
 -- Assumes nothing.
-use mathlib.Core.Path.{_≡_, refl, sym, _∙_, ap, subst}
-use mathlib.Core.List.{List, [], _∷_, _++_, map, List·Permᴰ, Permᴰ·refl, Permᴰ·symm}
+use mathlib.Core.Path.{_≡_, refl, sym, _∙_, ap}
+use mathlib.Core.List.{List, [], _∷_, map, List·Permᴰ, Permᴰ·symm}
 use mathlib.Core.Logic.{_⊎_, inl, inr}
-use Prim.Native.Nat.{ℕ, zero, suc, _+_, _*_, _≤_, _<_}
+use Prim.Native.Nat.{ℕ, zero, suc, _+_, _*_, _<_}
 use native.Mathlib.Omega.{arith}
 use mathlib.Core.Bool.{true}
 use lib.ListN.{length, drop, getD, length-append}
@@ -11,7 +11,7 @@ use Rattle.answer.specs.Numbers.{ROOM}
 use Rattle.answer.specs.Outcome.{Outcome, taken, refused, after, fitting}
 use Rattle.answer.proofs.Outcomes.{taken-is}
 use Rattle.wire.specs.Numbers.{Bytes}
-use Rattle.order.specs.Keyed.{Every, flat, sort}
+use Rattle.order.specs.Keyed.{flat}
 use Rattle.order.specs.Entries.{join}
 use Rattle.order.proofs.Folds.{flat-one}
 use Rattle.order.proofs.Perms.{perm-length, perm-flat}
@@ -32,7 +32,7 @@ use Rattle.aerosnap.proofs.Rows.{sections-length}
 use Rattle.dskc.specs.Wrapper as wrapped
 use Rattle.demands.specs.Demand2.{Writing}
 use Rattle.demands.specs.Positions.{byPosition, SaysOrder, Positions}
-use Rattle.demands.proofs.Demand2.{Read, file-read, table-rows, sections-named, demand2}
+use Rattle.demands.proofs.Demand2.{file-read, table-rows, sections-named, demand2}
 
 -- ---- one by one
 

@@ -4,7 +4,7 @@ use mathlib.Core.Path.{_≡_, refl, ap, sym, _∙_}
 use mathlib.Core.Logic.{_≢_, _↔_}
 use mathlib.Core.Bool.{Bool, true, false, _||_}
 use mathlib.Core.List.{List, [], _∷_, _++_}
-use Prim.Native.Nat.{ℕ, zero, suc, _+_, _%_, _≤_, _<_}
+use Prim.Native.Nat.{ℕ, zero, suc, _+_, _%_, _<_}
 use native.Mathlib.Omega.{arith}
 use lib.Dec.{eqb}
 use lib.ListN.{length, take, drop}
@@ -39,7 +39,7 @@ use Rattle.kinds.specs.Kinds.{paper, cells}
 use Rattle.messages.specs.Reading as messages
 use Rattle.messages.specs.Writing.{writeChecks, written, writeMessage}
 use Rattle.demands.specs.Demand2.{Within, dataOf, Says}
-use Rattle.demands.specs.Rings.{Changes, Looks, RegionCalls, Exactly, ring, RegionRules, NoneOrAll, Handing, OtherQueues, takenBytes, Through, Rings}
+use Rattle.demands.specs.Rings.{Changes, Looks, RegionCalls, Exactly, ring, RegionRules, takenBytes, Rings}
 use Rattle.demands.proofs.Demand1.{demand1}
 use Rattle.demands.proofs.Demand2.{demand2}
 

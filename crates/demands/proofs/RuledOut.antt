@@ -20,11 +20,12 @@ use Rattle.aerosnap.specs.Payloads.{payload}
 use Rattle.aerosnap.specs.File.{ruled, sectionOf, sections, fileOf}
 use Rattle.aerosnap.specs.Content.{Content, contentAt, render, IsCanonical}
 use Rattle.aerosnap.specs.Adding.{Item, device, disk, Wide, listIn, entryOf, withItem}
-use Rattle.aerosnap.specs.Edits.{addTo, addItem, Call, editFile, editTo}
+use Rattle.aerosnap.specs.Edits.{add, Call, editFile, editTo}
 use Rattle.aerosnap.specs.Calls.{canonicalCall}
 use Rattle.aerosnap.proofs.Canonical.{canonical-exactly}
 use Rattle.aerosnap.proofs.Added.{add-exactly, grows}
-use Rattle.aerosnap.proofs.AnyOrder.{call-gives, call-made}
+use Rattle.aerosnap.proofs.AnyOrder.{call-gives}
+use Rattle.aerosnap.proofs.Made.{call-made}
 use Rattle.dskc.specs.Wrapper as wrapped
 use Rattle.dskc.proofs.Examples as wrapper
 use Rattle.kinds.specs.declared.Message.{Message}
@@ -154,7 +155,7 @@ call-longer have s x b o k =
 module _ (P : Program addCall) where
   -- what the program does is a call
   called : (s : List ℕ) (x : Item) (old : List ℕ) → Wide x → Takes P (s, x) old → Call (length old) s x (output P (s, x) old)
-  called s x old w h = call-made s x old (P .leaves (s, x) old) (P .answers (s, x) old) w (P .meets (s, x) old) h
+  called s x old w h = call-made s (add x) old (P .leaves (s, x) old) (P .answers (s, x) old) w (P .meets (s, x) old) h
 
   -- along a chain files only grow
   runs-longer : (s b : List ℕ) (l : List (List ℕ × Item)) → IsCanonical s → Runs P s l b → length s ≤ length b

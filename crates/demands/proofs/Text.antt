@@ -4,7 +4,7 @@ use mathlib.Core.Path.{_≡_, refl, sym, _∙_, ap}
 use mathlib.Core.Logic.{_≢_, _⊎_, inl, inr}
 use mathlib.Core.Bool.{Bool, true, false}
 use mathlib.Core.List.{List, [], _∷_, _++_}
-use Prim.Native.Nat.{ℕ, _+_, _≤_, _<_}
+use Prim.Native.Nat.{ℕ, _+_}
 use native.Mathlib.Omega.{arith}
 use lib.ListN.{length, take, drop}
 use lib.Seq.{drop-drop}
@@ -19,7 +19,7 @@ use Rattle.wire.specs.Parts.{leftOver}
 use Rattle.wire.proofs.Numbers.{leAt-here}
 use Rattle.format.specs.Format.{atMost, sizedChecks, utf8, text, read}
 use Rattle.format.specs.Places.{readAt}
-use Rattle.utf8.specs.Grammar.{Text, Begins, Longest, Breaks, Reads, whole, broken}
+use Rattle.utf8.specs.Grammar.{Text, Breaks, Reads, whole, broken}
 use Rattle.utf8.specs.Scan.{isText, breakAt}
 use Rattle.utf8.proofs.Broken.{stops-longest, longest-stops, longest-once}
 use Rattle.utf8.proofs.Reading.{text-is, is-text, breaks-at}

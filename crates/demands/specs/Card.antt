@@ -12,7 +12,7 @@ use Rattle.answer.specs.Numbers.{isNumber}
 use Rattle.answer.specs.Outcome.{Outcome, Checks, checked, Pass}
 use Rattle.answer.specs.Calls.{asked, verdict, Writes}
 use Rattle.entries.specs.Kinds.{deviceOf, functionOf}
-use Rattle.aerosnap.specs.Calls.{checkCall, sectionsCall, devicesCall, disksCall, canonicalCall, addDeviceCall, addDiskCall}
+use Rattle.aerosnap.specs.Calls.{checkCall, sectionsCall, devicesCall, disksCall, canonicalCall, addDeviceCall, addDiskCall, removeDeviceCall, removeDiskCall, replaceDeviceCall}
 use Rattle.dskc.specs.Wrapper as wrapped
 use Rattle.kinds.specs.declared.Message.{Message}
 use Rattle.messages.specs.declared.Reading.{Reading}
@@ -25,6 +25,8 @@ use Rattle.fields.specs.Fields.{fieldCall, setCall, Changes}
 use Rattle.region.specs.declared.Cursors.{Cursors}
 use Rattle.region.specs.Region.{regionChecks}
 use Rattle.region.specs.Report.{asCursors, reportCall}
+use Rattle.ready.specs.declared.Readiness.{Readiness}
+use Rattle.ready.specs.Missing.{readyCall, Tells}
 use Rattle.rings.specs.declared.Pair.{Pair}
 use Rattle.rings.specs.declared.Record.{Record}
 use Rattle.rings.specs.Calls.{asAnswer, asPair, asRecord, Leaves, reserveCall, fillCall, commitCall, takeCall}
@@ -57,12 +59,16 @@ pub record Card : Type 0 where
   pub canonical : (file : List ℕ) → WritesNever (λ have. canonicalCall have file)
   pub add-device : (file : List ℕ) (id version flags : ℕ) (payload : List ℕ) → WritesNever (λ have. addDeviceCall have file id version flags payload)
   pub add-disk : (file : List ℕ) (id : ℕ) (base overlay : List ℕ) → WritesNever (λ have. addDiskCall have file id base overlay)
+  pub remove-device : (file : List ℕ) (id version flags : ℕ) → WritesNever (λ have. removeDeviceCall have file id version flags)
+  pub remove-disk : (file : List ℕ) (id : ℕ) → WritesNever (λ have. removeDiskCall have file id)
+  pub replace-device : (file : List ℕ) (id version flags : ℕ) (payload : List ℕ) → WritesNever (λ have. replaceDeviceCall have file id version flags payload)
   pub wrapper-check : (wrapper : List ℕ) (r : Answer) → r ≡ verdict (wrapped.wrapperOf wrapper) → r .number ≢ withdrawn
   pub controllers : (wrapper : List ℕ) → WritesNever (λ have. wrapped.controllersCall have wrapper)
   pub wrapper-canonical : (wrapper : List ℕ) → WritesNever (λ have. wrapped.canonicalCall have wrapper)
   pub message-read : (message : List ℕ) (r : Reading) → r ≡ messages.reading (messages.readMessage message) → r .number ≢ withdrawn
   pub message-write : (message : Message) (bytes : List ℕ) → WritesNever (writeMessage message bytes)
   pub numbers-write : (n : Numbers) (bytes : List ℕ) → WritesNever (writeNumbers n bytes)
+  pub ready : (file old new : List ℕ) (r : Readiness) → Tells (readyCall (length old) file) old r new → r .number ≢ withdrawn
   pub region-check : (b : List ℕ) (r : Answer) → r ≡ verdict (asked (regionChecks b)) → r .number ≢ withdrawn
   pub report : (b : List ℕ) (q : ℕ) (r : Cursors) → r ≡ asCursors (reportCall b q) → r .number ≢ withdrawn
   pub reserve : (b : List ℕ) (q n : ℕ) (new : List ℕ) (r : Pair) → Leaves asPair (reserveCall b q n) b r new → r .number ≢ withdrawn

@@ -12,7 +12,7 @@ use Rattle.answer.specs.declared.Answer.{Answer}
 use Rattle.answer.specs.Numbers.{ROOM, isNumber}
 use Rattle.answer.specs.Outcome.{Outcome, taken, refused, Faulty}
 use Rattle.answer.specs.Calls.{verdict, Writes}
-use Rattle.aerosnap.specs.Calls.{checkCall, sectionsCall, devicesCall, disksCall, canonicalCall, addDeviceCall, addDiskCall}
+use Rattle.aerosnap.specs.Calls.{checkCall, sectionsCall, devicesCall, disksCall, canonicalCall, addDeviceCall, addDiskCall, removeDeviceCall, removeDiskCall, replaceDeviceCall}
 use Rattle.dskc.specs.Wrapper as wrapped
 use Rattle.kinds.specs.declared.Message.{Message}
 use Rattle.kinds.specs.declared.Message.the-variants.{Nothing}
@@ -97,6 +97,12 @@ pub record Demand1 : Type 0 where
   pub add-device : (file : List ℕ) (id version flags : ℕ) (payload : List ℕ) → Fills (λ have. addDeviceCall have file id version flags payload)
   -- snapshot::add_disk, cimbrolau_add_disk
   pub add-disk : (file : List ℕ) (id : ℕ) (base overlay : List ℕ) → Fills (λ have. addDiskCall have file id base overlay)
+  -- snapshot::remove_device, cimbrolau_remove_device
+  pub remove-device : (file : List ℕ) (id version flags : ℕ) → Fills (λ have. removeDeviceCall have file id version flags)
+  -- snapshot::remove_disk, cimbrolau_remove_disk
+  pub remove-disk : (file : List ℕ) (id : ℕ) → Fills (λ have. removeDiskCall have file id)
+  -- snapshot::replace_device, cimbrolau_replace_device
+  pub replace-device : (file : List ℕ) (id version flags : ℕ) (payload : List ℕ) → Fills (λ have. replaceDeviceCall have file id version flags payload)
   -- dskc::check, cimbrolau_wrapper_check
   pub wrapper-check : (wrapper : List ℕ) → Answers (wrapped.wrapperOf wrapper)
   -- dskc::controllers, cimbrolau_controllers

@@ -1,5 +1,5 @@
 -- Demand 2: files, wrappers and messages are read and written as the rules say. A reading is given exactly for inputs that follow them, and writing a reading out
--- gives the canonical bytes. A call refuses exactly if one of its checks fails, and names the first in its order; that covers adds too.
+-- gives the canonical bytes. A call refuses exactly if one of its checks fails, and names the first in its order; that covers adds and the other edits too.
 -- Assumes nothing.
 use mathlib.Core.Path.{_≡_}
 use mathlib.Core.Bool.{true}
@@ -26,8 +26,7 @@ use Rattle.aerosnap.specs.File.{header, headerChecks, idOf, versionOf, flagsOf,
 use Rattle.aerosnap.specs.Rules.{IsFile}
 use Rattle.aerosnap.specs.Content.{Content, contentOf, contentAt, render, tidy, isOther, entriesIn, tailIn, IsCanonical}
 use Rattle.aerosnap.specs.Tables.{table}
-use Rattle.aerosnap.specs.Adding.{Item, ownChecks, addChecks, withItem}
-use Rattle.aerosnap.specs.Edits.{addItem, Call}
+use Rattle.aerosnap.specs.Edits.{Edit, apply, editChecks, editFile, EditCall}
 use Rattle.aerosnap.specs.Calls.{checkCall, sectionsCall, devicesCall, disksCall, canonicalCall}
 use Rattle.dskc.specs.Wrapper as wrapped
 use Rattle.kinds.specs.declared.Message.{Message}
@@ -112,20 +111,14 @@ pub record Addresses : Type 0 where
   pub apart : (bus device function : ℕ) → device < 32 → function < 8
       → (busOf (address bus device function) ≡ bus) × (deviceOf (address bus device function) ≡ device) × (functionOf (address bus device function) ≡ function)
 
--- ---- adds
+-- ---- edits: adds, removals, replacements
 
--- none of the checks of adding x to c fails, and the output holds the result
-pub record Passed (have : ℕ) (x : Item) (c : Content) : Type 0 where
-  pub own : Pass (ownChecks x)
-  pub others : Pass (addChecks x c (withItem x c))
-  pub fits : length (render (withItem x c)) ≤ have
-
--- adding is taken exactly if the file is and none of the add's checks fails; the bytes are the rendering of the old content and the new entry
-pub record Additions : Type 0 where
-  pub exactly : (have : ℕ) (s : List ℕ) (x : Item) (b : List ℕ)
-      → (addItem have s x ≡ taken b) ↔ ((c : Content) × (contentAt s ≡ taken c) × Passed have x c × (render (withItem x c) ≡ b))
+-- an edit is taken exactly if the file is, none of the edit's checks fails and the output holds the result; the bytes are the rendering of the content after it
+pub record Editing : Type 0 where
+  pub exactly : (have : ℕ) (s : List ℕ) (e : Edit) (b : List ℕ)
+      → (editFile have s e ≡ taken b) ↔ ((c : Content) × (contentAt s ≡ taken c) × Pass (editChecks e c (apply e c)) × (length b ≤ have) × (render (apply e c) ≡ b))
   -- the file that is written has that content and is canonical
-  pub gives : (have : ℕ) (s : List ℕ) (x : Item) (b : List ℕ) → Call have s x b → (c : Content) × (contentAt s ≡ taken c) × (contentAt b ≡ taken (withItem x c)) × IsCanonical b
+  pub gives : (have : ℕ) (s : List ℕ) (e : Edit) (b : List ℕ) → EditCall have s e b → (c : Content) × (contentAt s ≡ taken c) × (contentAt b ≡ taken (apply e c)) × IsCanonical b
 
 -- ---- wrappers
 
@@ -209,17 +202,17 @@ pub record Faults : Type 0 where
       ↔ ((kindIn kinds (v .tag) ≡ refused n p)
       ⊎ ((k : MessageKind) × (kindIn kinds (v .tag) ≡ taken k)
       × First ((allWithin (blank k) v, VALUE, 0) ∷ (writeChecks (paper (k (v .a) (v .b) (v .c) (v .d))) d ++ room have (length (written (k (v .a) (v .b) (v .c) (v .d)) d)))) n p))
-  -- an add: the file's fault, or else the first check of the add that fails
-  pub add : (have : ℕ) (s : List ℕ) (x : Item) (n p : ℕ)
-      → (addItem have s x ≡ refused n p)
-      ↔ ((contentAt s ≡ refused n p) ⊎ ((c : Content) × (contentAt s ≡ taken c) × First ((ownChecks x ++ addChecks x c (withItem x c)) ++ room have (length (render (withItem x c)))) n p))
+  -- an edit: the file's fault, or else the first check of the edit that fails, room last
+  pub edit : (have : ℕ) (s : List ℕ) (e : Edit) (n p : ℕ)
+      → (editFile have s e ≡ refused n p)
+      ↔ ((contentAt s ≡ refused n p) ⊎ ((c : Content) × (contentAt s ≡ taken c) × First (editChecks e c (apply e c) ++ room have (length (render (apply e c)))) n p))
 
 pub record Demand2 : Type 0 where
   pub files : Files
   pub tables : Tables
   pub keys : Keys
   pub addresses : Addresses
-  pub adds : Additions
+  pub editing : Editing
   pub wrappers : Wrappers
   pub messages-are : Messages
   pub faults : Faults

@@ -12,7 +12,6 @@ use Rattle.order.specs.Keyed.{Every, sort}
 use Rattle.order.specs.Entries.{join}
 use Rattle.entries.specs.Kinds.{devices, disks}
 use Rattle.tables.specs.declared.Table.the-variants.{Devices, Disks, Controllers}
-use Rattle.tables.specs.Tables.{ROW}
 use Rattle.tables.specs.Named.{NamesFramed, Names, Each, positionOf, numbersFrom}
 use Rattle.aerosnap.specs.Known.{DEVICES, DISKS}
 use Rattle.aerosnap.specs.Content.{entriesIn}

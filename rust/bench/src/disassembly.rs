@@ -11,9 +11,12 @@ use std::process::Command;
 const ARCHIVE: &str = concat!(env!("CARGO_MANIFEST_DIR"), "/../../target/staticlib/libcimbrolau.a");
 
 /// The calls that copy bytes of any number, in parts.
-const WRITERS: [&str; 5] = [
+const WRITERS: [&str; 8] = [
     "cimbrolau_canonical",
     "cimbrolau_add_device",
+    "cimbrolau_remove_device",
+    "cimbrolau_remove_disk",
+    "cimbrolau_replace_device",
     "cimbrolau_add_disk",
     "cimbrolau_wrapper_canonical",
     "cimbrolau_message_write",

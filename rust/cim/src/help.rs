@@ -1,122 +1,100 @@
-//! What `--help` prints.
+//! What `--help` prints, made from the table of commands.
+
+use crate::command::{Choice, Command};
+use crate::commands;
 
 pub const VERSION: &str = concat!("cim ", env!("CARGO_PKG_VERSION"), "\n");
 
+/// What the command is, in a line.
+pub const ABOUT: &str =
+    "checks, lists and writes AEROSNAP snapshots, and reads DSKC wrappers, AIPC messages and rings";
+
+/// What holds for all commands.
 pub const ALL: &str = "\
-cim: checks, lists and writes AEROSNAP snapshots, and reads DSKC wrappers, AIPC messages and rings
+`-` is standard input or standard output; behind `--` words that begin with a dash are files. An output
+is written beside its target and renamed once it is on the disk: the target is the old file or the new
+one, whole. Commands that write to one file wait for each other, up to a minute.
 
-  cim check FILE                      whether a snapshot follows the rules
-  cim list FILE                       its sections, devices and disks
-  cim canon FILE OUT                  write its canonical form
-  cim add-device FILE OUT --id N --version N --flags N --payload FILE
-                                      write it with one device more
-  cim add-disk FILE OUT --id N --base TEXT --overlay TEXT
-                                      write it with one disk more
-  cim wrapper FILE                    the controllers of a disk-controller wrapper
-  cim message FILE|HEX                what a message says
-  cim region FILE                     the queues of a region of rings, and what waits in them
-  cim COMMAND --help                  more about a command
-  cim --version
-
-`-` is standard input or standard output. An output is written beside its target and renamed once it
-is on the disk: the target is the old file or the new one, whole.
-
-Status: 0 done; 1 refused, with the refusal on standard error as `refused NUMBER NAME at PLACE: WHY`;
-2 a command line that is not understood; 3 a file that cannot be read or written.
+Status: 0 done; 1 refused, with the refusal on standard error as `refused NUMBER NAME at PLACE: WHY`, or
+different, not there or not ready; 2 a command line that is not understood; 3 a file that cannot be read or
+written, or too little memory.
 ";
 
-pub const CHECK: &str = "\
-cim check FILE
+/// The column at which what a command does is said.
+const COLUMN: usize = 38;
 
-Prints `taken` if the snapshot follows the rules. Else it is refused with its first fault: the number
-and the name of the refusal, and the byte at which it stands.
+/// Two words side by side, or, where the first is too long, one below the other.
+fn row(left: &str, right: &str) -> String {
+    match left.len() + 4 > COLUMN {
+        true => format!("  {left}\n{:COLUMN$}{right}\n", ""),
+        false => format!("  {left:<width$}{right}\n", width = COLUMN - 2),
+    }
+}
 
-  refused 13 KEY at 53: key again
+/// The ways to call a command.
+pub fn usages(command: &Command) -> impl Iterator<Item = String> + '_ {
+    command.usage.iter().map(|words| format!("cim {} {words}", command.name).trim_end().to_string())
+}
 
-Of a text that is no UTF-8 the byte at which it breaks is named, and shown among those around it:
+/// An option as it is given.
+pub fn given(choice: &Choice) -> String {
+    match choice.value {
+        Some(value) => format!("{} {value}", choice.name),
+        None => choice.name.to_string(),
+    }
+}
 
-  refused 14 TEXT at 57: not UTF-8
-  bytes from 49: 01 05 00 00 00 69 6D 67 [FC] 2F
-";
+/// The help about everything.
+pub fn overview() -> String {
+    let mut text = format!("cim: {ABOUT}\n\n");
+    for command in commands::ALL {
+        let usage = usages(command).next().unwrap_or_default();
+        text += &row(&usage, command.about);
+    }
+    text += &row("cim COMMAND --help", "more about a command");
+    text += &row("cim --version", "its version");
+    format!("{text}\n{ALL}")
+}
 
-pub const LIST: &str = "\
-cim list FILE
+/// The help about a command.
+pub fn about(command: &Command) -> String {
+    let mut text = String::new();
+    for usage in usages(command) {
+        text += &usage;
+        text.push('\n');
+    }
+    text.push('\n');
+    text += command.help;
+    if !command.options.is_empty() {
+        text += "\nOptions:\n\n";
+        for choice in command.options {
+            text += &row(&given(choice), choice.about);
+        }
+    }
+    text
+}
 
-Prints a heading and a line for each section, in the order of the file; then a line for each device,
-in the order of their keys, and for each disk, in the order of their ids. Numbers are decimal, offsets
-count from the start of the file.
+#[cfg(test)]
+mod tests {
+    use super::*;
 
-  id version flags offset length
-  device ID VERSION FLAGS OFFSET LENGTH POSITION
-  disk ID BASE-OFFSET BASE-LENGTH OVERLAY-LENGTH POSITION
+    #[test]
+    fn each_option_of_a_usage_is_in_the_table() {
+        for command in commands::ALL {
+            for word in command.usage.iter().flat_map(|usage| usage.split_whitespace()) {
+                let known = command.options.iter().any(|choice| choice.name == word);
+                assert!(!word.starts_with('-') || known, "{}: {word}", command.name);
+            }
+        }
+    }
 
-A position is the entry's number in the file's own list, from 0.
-
-The whole file is checked first; a refused file prints no line.
-";
-
-pub const CANON: &str = "\
-cim canon FILE OUT
-
-Writes the canonical form of the snapshot FILE to OUT: the known sections in ascending id, then the
-others as found; devices, disks, CPUs and MMUs in the order of their keys; lists with no entry left
-out. OUT may be FILE. A refused file writes nothing.
-";
-
-pub const ADD_DEVICE: &str = "\
-cim add-device FILE OUT --id N --version N --flags N --payload FILE
-
-Writes the canonical form of the snapshot with one device more to OUT, which may be FILE. The key of a
-device is its id, version and flags; one that is there already is refused as HAVE. Numbers are decimal,
-or hexadecimal behind 0x: the id up to 4294967295, version and flags up to 65535.
-";
-
-pub const ADD_DISK: &str = "\
-cim add-disk FILE OUT --id N --base TEXT --overlay TEXT
-
-Writes the canonical form of the snapshot with one disk more to OUT, which may be FILE. The texts name
-the base and the overlay image; either may be empty (''). A disk that is there already is refused as
-HAVE. The id is decimal, or hexadecimal behind 0x, up to 4294967295.
-";
-
-pub const WRAPPER: &str = "\
-cim wrapper FILE
-
-Checks a disk-controller wrapper and prints a heading and a line for each controller, in the order of
-their addresses. Offsets count from the start of the wrapper. Bytes of a tag that are no letters are
-shown as \\x20.
-
-  address bus device function tag offset length position
-
-A position is the controller's number in the wrapper's own list, from 0.
-";
-
-pub const MESSAGE: &str = "\
-cim message FILE|HEX
-cim message --hex HEX
-
-Prints the kind of the message and its numbers by name. HEX is the message itself, two digits for each
-byte, where no file has that name; behind --hex it is so whatever files there are. Data is named by its
-place and its length; the text of Log and Panic is shown behind that.
-
-  cim message '01 11 07 00 00 00 0F 00 00 00'
-  PortReadResp id 7 value 15
-";
-
-pub const REGION: &str = "\
-cim region FILE
-
-Checks a region of shared memory that was saved to a file, and prints a heading and a line for each
-queue: its number and kind, the offset of its ring, its capacity, its cursors, signed as hosts show
-them, and the bytes in use, from head to reserve. Then a line for each record that waits, in the order
-in which it would be taken: its queue, the offset and the length of its payload, and the message that
-it reads as, or why it is none and its bytes. Places behind the message's name count from its start.
-
-  queue kind offset capacity head reserve commit used
-  record QUEUE OFFSET LENGTH MESSAGE
-  record QUEUE OFFSET LENGTH refused NUMBER NAME at PLACE: WHY; bytes HEX
-  record QUEUE refused 24 RECORD at 0: WHY
-
-The last of these ends its queue: what is committed there is no record. The file stays as it is. The
-whole region is checked first; a refused one prints no line.
-";
+    #[test]
+    fn lines_fit_a_screen_but_for_examples() {
+        for command in commands::ALL {
+            for line in about(command).lines().filter(|line| !line.starts_with("  ")) {
+                assert!(line.chars().count() <= 108, "{}: {line}", command.name);
+            }
+            assert!(command.help.ends_with('\n') && !command.help.contains("\n\n\n"));
+        }
+    }
+}

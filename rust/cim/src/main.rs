@@ -4,13 +4,46 @@
 //! status 0; 1 where the library refuses; 2 for a command line that it does not understand; 3 where a file cannot be
 //! read or written.
 
-#![forbid(unsafe_code)]
+#![deny(unsafe_code)]
 
-mod commands;
+// What commands share.
+mod calls;
+mod command;
 mod failure;
 mod files;
 mod help;
+mod hex;
+mod json;
+mod lines;
+mod names;
+mod place;
+mod progress;
+mod select;
+mod shown;
+#[allow(unsafe_code)]
+mod system;
 mod words;
+
+// The commands, and their table.
+mod add_device;
+mod add_disk;
+mod canon;
+mod check;
+mod commands;
+mod completions;
+mod diff;
+mod explain;
+mod extract;
+mod list;
+mod manual;
+mod message;
+mod ready;
+mod region;
+mod remove_device;
+mod remove_disk;
+mod replace_device;
+mod show;
+mod wrapper;
 
 use failure::Failure;
 use std::ffi::OsString;
@@ -18,31 +51,34 @@ use std::process::ExitCode;
 
 fn main() -> ExitCode {
     let words: Vec<OsString> = std::env::args_os().skip(1).collect();
-    match run(&words) {
+    let mut json = false;
+    match run(&words, &mut json) {
         Ok(()) => ExitCode::SUCCESS,
-        Err(failure) => failure.told(),
+        Err(failure) => failure.told(json),
     }
 }
 
-/// Finds the command by its name and gives it the words behind it.
-fn run(words: &[OsString]) -> Result<(), Failure> {
+/// Finds the command by its name and gives it the words behind it; says whether refusals are to be told as JSON.
+fn run(words: &[OsString], json: &mut bool) -> Result<(), Failure> {
     let Some((first, rest)) = words.split_first() else {
         return Err(Failure::Usage("no command is given; see `cim --help`".into()));
     };
     let name = first.to_str().unwrap_or("");
     match name {
-        "--help" | "-h" | "help" => return files::print(help::ALL),
+        "--help" | "-h" | "help" => return files::print(&help::overview()),
         "--version" | "-V" => return files::print(help::VERSION),
         _ => (),
     }
     let Some(command) = commands::ALL.iter().find(|command| command.name == name) else {
-        let word = first.to_string_lossy();
+        let word = shown::name_of(first);
         return Err(Failure::Usage(format!("there is no command `{word}`; see `cim --help`")));
     };
-    if rest.iter().any(|word| word == "--help" || word == "-h") {
-        return files::print(command.help);
+    let split = words::split(rest, command.options);
+    if split.as_ref().is_ok_and(|words| words.asks_for_help) {
+        return files::print(&help::about(command));
     }
-    let words = words::split(rest, command.options)
+    let words = split
         .map_err(|fault| Failure::Usage(format!("{name}: {fault}; see `cim {name} --help`")))?;
+    *json = words.has(&command::JSON);
     (command.run)(&words).map_err(|failure| failure.of_command(name))
 }

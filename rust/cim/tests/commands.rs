@@ -1,4 +1,6 @@
-//! Runs `cim` as a person would: every command, its refusals and statuses, and what is left of files when it fails.
+//! Runs `cim` as a person would: every command, its refusals and statuses.
+
+mod common;
 
 #[allow(dead_code)]
 #[path = "../examples/panel.rs"]
@@ -7,117 +9,11 @@ mod panel;
 #[path = "../examples/panel_region.rs"]
 mod panel_region;
 
+use common::*;
 use std::fs;
-use std::io::Write;
-use std::path::{Path, PathBuf};
-use std::process::{Command, Output, Stdio};
-
-/// Document 01's example P4: two devices, saved in descending order of their keys.
-const TWO_DEVICES: &[u8] = b"AEROSNAP\x01\x00\x01\x00\x00\x00\x00\x00\
-    \x04\x00\x00\x00\x01\x00\x00\x00\x27\x00\x00\x00\x00\x00\x00\x00\
-    \x02\x00\x00\x00\
-    \x0E\x00\x00\x00\x01\x00\x00\x00\x01\x00\x00\x00\x00\x00\x00\x00\x11\
-    \x03\x00\x00\x00\x01\x00\x00\x00\x02\x00\x00\x00\x00\x00\x00\x00\xAB\xCD";
-
-/// P6: P4 with both keys (3, 1, 0).
-fn key_again() -> Vec<u8> {
-    let mut file = TWO_DEVICES.to_vec();
-    file[36] = 3;
-    file
-}
-
-/// A folder of its own for one test, empty.
-fn folder(test: &str) -> PathBuf {
-    let folder = Path::new(env!("CARGO_TARGET_TMPDIR")).join(test);
-    let _ = fs::remove_dir_all(&folder);
-    fs::create_dir_all(&folder).unwrap();
-    folder
-}
-
-fn put(folder: &Path, name: &str, bytes: &[u8]) -> PathBuf {
-    let path = folder.join(name);
-    fs::write(&path, bytes).unwrap();
-    path
-}
-
-/// The names of what stands in a folder, sorted.
-fn names(folder: &Path) -> Vec<String> {
-    let name =
-        |entry: std::io::Result<fs::DirEntry>| entry.unwrap().file_name().into_string().unwrap();
-    let mut names: Vec<String> = fs::read_dir(folder).unwrap().map(name).collect();
-    names.sort();
-    names
-}
-
-fn cim(folder: &Path) -> Command {
-    let mut command = Command::new(env!("CARGO_BIN_EXE_cim"));
-    command.current_dir(folder);
-    command
-}
-
-fn run(folder: &Path, words: &[&str]) -> Output {
-    cim(folder).args(words).output().unwrap()
-}
-
-/// Runs with `input` on standard input.
-fn fed(folder: &Path, words: &[&str], input: &[u8]) -> Output {
-    let mut child = cim(folder)
-        .args(words)
-        .stdin(Stdio::piped())
-        .stdout(Stdio::piped())
-        .stderr(Stdio::piped())
-        .spawn()
-        .unwrap();
-    child.stdin.take().unwrap().write_all(input).unwrap();
-    child.wait_with_output().unwrap()
-}
-
-#[track_caller]
-fn prints(output: Output, expected: &str) {
-    assert_eq!(String::from_utf8_lossy(&output.stderr), "");
-    assert_eq!(String::from_utf8_lossy(&output.stdout), expected);
-    assert_eq!(output.status.code(), Some(0));
-}
-
-/// Nothing on standard output, the text on standard error, the status.
-#[track_caller]
-fn fails(output: Output, expected: &str, status: i32) {
-    assert_eq!(String::from_utf8_lossy(&output.stderr), expected);
-    assert_eq!(String::from_utf8_lossy(&output.stdout), "");
-    assert_eq!(output.status.code(), Some(status));
-}
+use std::path::Path;
 
 // ---- check and list
-
-#[test]
-fn check_takes_or_refuses() {
-    let at = folder("check");
-    put(&at, "good", TWO_DEVICES);
-    put(&at, "bad", &key_again());
-    put(&at, "short", &TWO_DEVICES[..15]);
-    prints(run(&at, &["check", "good"]), "taken\n");
-    fails(run(&at, &["check", "bad"]), "refused 13 KEY at 53: key again\n", 1);
-    fails(run(&at, &["check", "short"]), "refused 1 SHORT at 0: under 16 bytes\n", 1);
-    prints(fed(&at, &["check", "-"], TWO_DEVICES), "taken\n");
-}
-
-/// A disk whose base image is `/b\xFCro`, which is no UTF-8 from its third byte on.
-const BROKEN_TEXT: &[u8] = b"AEROSNAP\x01\x00\x01\x00\x00\x00\x00\x00\
-    \x05\x00\x00\x00\x01\x00\x00\x00\x15\x00\x00\x00\x00\x00\x00\x00\
-    \x01\x00\x00\x00\x07\x00\x00\x00\x05\x00\x00\x00/b\xFCro\x00\x00\x00\x00";
-
-#[test]
-fn a_broken_text_is_shown_at_the_byte_at_which_it_breaks() {
-    let at = folder("broken_text");
-    put(&at, "broken", BROKEN_TEXT);
-    let told = "refused 14 TEXT at 46: not UTF-8\n\
-        bytes from 38: 00 00 05 00 00 00 2F 62 [FC] 72 6F 00 00 00 00\n";
-    for words in [&["check", "broken"][..], &["list", "broken"], &["canon", "broken", "out"]] {
-        fails(run(&at, words), told, 1);
-    }
-    let told = "refused 14 TEXT at 8: not UTF-8\nbytes from 0: FE 1F 02 00 00 00 E2 82 [end]\n";
-    fails(run(&at, &["message", "--hex", "FE1F 02000000 E282"]), told, 1);
-}
 
 #[test]
 fn list_prints_the_listing_of_document_01() {
@@ -128,7 +24,7 @@ fn list_prints_the_listing_of_document_01() {
         "id version flags offset length\n4 1 0 32 39\ndevice 3 1 0 69 2 1\ndevice 14 1 0 52 1 0\n";
     prints(run(&at, &["list", "good"]), listing);
     prints(fed(&at, &["list", "-"], TWO_DEVICES), listing);
-    fails(run(&at, &["list", "bad"]), "refused 13 KEY at 53: key again\n", 1);
+    fails(run(&at, &["list", "bad"]), KEY_AGAIN, 1);
 }
 
 #[test]
@@ -259,7 +155,7 @@ fn adds_are_refused_as_the_library_refuses() {
         run(&at, &words)
     };
     fails(device("in", "3"), have, 1);
-    fails(device("bad", "9"), "refused 13 KEY at 53: key again\n", 1);
+    fails(device("bad", "9"), KEY_AGAIN, 1);
     let disk = |base: &std::ffi::OsStr| {
         cim(&at)
             .args(["add-disk", "in", "out", "--id", "1", "--overlay", "", "--base"])
@@ -304,141 +200,6 @@ fn an_add_can_take_its_file_or_its_payload_from_standard_input() {
     fails(both, told, 2);
 }
 
-// ---- what is left of files
-
-#[test]
-fn a_refusal_keeps_the_target() {
-    let at = folder("kept");
-    put(&at, "bad", &key_again());
-    put(&at, "out", b"old");
-    fails(run(&at, &["canon", "bad", "out"]), "refused 13 KEY at 53: key again\n", 1);
-    assert_eq!(fs::read(at.join("out")).unwrap(), b"old");
-    assert_eq!(names(&at), ["bad", "out"]);
-}
-
-#[test]
-fn a_folder_that_is_not_there_is_told() {
-    let at = folder("nowhere");
-    put(&at, "in", TWO_DEVICES);
-    let told = "cim: cannot write nowhere/out: No such file or directory (os error 2)\n";
-    fails(run(&at, &["canon", "in", "nowhere/out"]), told, 3);
-    let told = "cim: cannot write in/out: Not a directory (os error 20)\n";
-    fails(run(&at, &["canon", "in", "in/out"]), told, 3);
-    assert_eq!(names(&at), ["in"]);
-}
-
-#[test]
-fn what_is_no_file_or_is_read_only_is_not_replaced() {
-    let at = folder("no_file");
-    put(&at, "in", TWO_DEVICES);
-    fs::create_dir(at.join("folder")).unwrap();
-    let told = "cim: cannot write folder: it is there, and not a file (`-` is standard output)\n";
-    fails(run(&at, &["canon", "in", "folder"]), told, 3);
-
-    let kept = put(&at, "kept", b"old");
-    let mut permissions = fs::metadata(&kept).unwrap().permissions();
-    permissions.set_readonly(true);
-    fs::set_permissions(&kept, permissions).unwrap();
-    fails(
-        run(&at, &["canon", "in", "kept"]),
-        "cim: cannot write kept: it is there, and read-only\n",
-        3,
-    );
-    assert_eq!(fs::read(&kept).unwrap(), b"old");
-    assert_eq!(names(&at), ["folder", "in", "kept"]);
-}
-
-#[test]
-fn a_link_stays_and_permissions_too() {
-    use std::os::unix::fs::{symlink, PermissionsExt};
-    let at = folder("link");
-    put(&at, "in", TWO_DEVICES);
-    fs::create_dir(at.join("store")).unwrap();
-    let real = put(&at, "store/real", b"old");
-    fs::set_permissions(&real, fs::Permissions::from_mode(0o640)).unwrap();
-    symlink("store/real", at.join("link")).unwrap();
-    prints(run(&at, &["canon", "in", "link"]), "71 bytes written to link\n");
-    assert!(fs::symlink_metadata(at.join("link")).unwrap().is_symlink());
-    assert_eq!(fs::read(&real).unwrap().len(), 71);
-    assert_eq!(fs::metadata(&real).unwrap().permissions().mode() & 0o777, 0o640);
-    assert_eq!(names(&at.join("store")), ["real"]);
-}
-
-/// Runs `cim canon in out` where no file can grow past a few KiB, so that writing fails half-way. `guard` is what the
-/// shell does first.
-fn cut_short(at: &Path, guard: &str) -> Output {
-    let mut file = TWO_DEVICES[..16].to_vec();
-    file.extend(b"\x06\x00\x00\x00\x01\x00\x00\x00\x00\x00\x10\x00\x00\x00\x00\x00"); // RAM, 1 MiB
-    file.resize(32 + (1 << 20), 7);
-    put(at, "in", &file);
-    put(at, "out", b"old");
-    Command::new("sh")
-        .args([
-            "-c",
-            &format!("{guard} ulimit -f 8; exec \"$0\" canon in out"),
-            env!("CARGO_BIN_EXE_cim"),
-        ])
-        .current_dir(at)
-        .output()
-        .unwrap()
-}
-
-#[test]
-fn a_write_that_fails_half_way_leaves_the_old_file_and_nothing_else() {
-    let at = folder("half");
-    // With the signal ignored, the system reports the fault to the program.
-    let output = cut_short(&at, "trap '' XFSZ;");
-    fails(output, "cim: cannot write out: File too large (os error 27)\n", 3);
-    assert_eq!(fs::read(at.join("out")).unwrap(), b"old");
-    assert_eq!(names(&at), ["in", "out"]);
-}
-
-#[test]
-fn a_kill_half_way_leaves_the_old_file() {
-    let at = folder("killed");
-    // Without, the system kills the program in the middle of its write.
-    let output = cut_short(&at, "");
-    assert_eq!(output.status.code(), None);
-    assert_eq!(fs::read(at.join("out")).unwrap(), b"old");
-}
-
-#[test]
-fn an_output_that_nobody_reads_ends_quietly() {
-    let at = folder("closed");
-    let mut child = cim(&at)
-        .args(["list", "-"])
-        .stdin(Stdio::piped())
-        .stdout(Stdio::piped())
-        .stderr(Stdio::piped())
-        .spawn()
-        .unwrap();
-    drop(child.stdout.take());
-    child.stdin.take().unwrap().write_all(TWO_DEVICES).unwrap();
-    fails(child.wait_with_output().unwrap(), "", 3);
-}
-
-#[test]
-fn a_refusal_that_nobody_reads_keeps_its_status() {
-    let at = folder("unheard");
-    put(&at, "in", &key_again());
-    let full = fs::OpenOptions::new().write(true).open("/dev/full").unwrap();
-    let output = cim(&at).args(["check", "in"]).stderr(full).output().unwrap();
-    assert_eq!(output.status.code(), Some(1));
-}
-
-#[test]
-fn an_output_with_no_room_is_told() {
-    let at = folder("full");
-    put(&at, "in", TWO_DEVICES);
-    let full = fs::OpenOptions::new().write(true).open("/dev/full").unwrap();
-    let output = cim(&at).args(["list", "in"]).stdout(full).output().unwrap();
-    fails(
-        output,
-        "cim: cannot write to standard output: No space left on device (os error 28)\n",
-        3,
-    );
-}
-
 // ---- wrappers and messages
 
 #[test]
@@ -455,7 +216,17 @@ fn wrapper_lists_controllers_in_address_order() {
         250 0 31 2 S\\x20T\\xff 45 0 1\n256 1 0 0 NVME 32 1 0\n";
     prints(run(&at, &["wrapper", "good"]), listing);
     prints(fed(&at, &["wrapper", "-"], wrapper), listing);
-    fails(run(&at, &["wrapper", "bad"]), "refused 2 MAGIC at 8: letters wrong\n", 1);
+    let told = "refused 2 MAGIC at 8: letters wrong: the wrapper's header\n\
+        bytes from 0: 41 45 52 4F 01 00 00 00 [58] 53 4B 43 01 00 00 00 02\n";
+    fails(run(&at, &["wrapper", "bad"]), told, 1);
+    let mut twice = *wrapper;
+    (twice[33], twice[34]) = (0, 1);
+    put(&at, "twice", &twice);
+    let told = "refused 13 KEY at 33 (0x21): key again: entry 1\n\
+        bytes from 25: 4D 45 01 00 00 00 07 [00] 01 00 00 53 20 54 FF 00\n";
+    let output = run(&at, &["wrapper", "twice"]);
+    assert_eq!(output.status.code(), Some(1));
+    assert!(String::from_utf8_lossy(&output.stderr).starts_with(told.lines().next().unwrap()));
 }
 
 #[test]
@@ -468,19 +239,34 @@ fn message_tells_kind_numbers_and_data() {
     prints(run(&at, &["message", "01110700 00000f000000"]), "PortReadResp id 7 value 15\n");
     fs::write(at.join("0200"), [0xff, 0x1f]).unwrap();
     prints(run(&at, &["message", "0200"]), "TripleFault\n");
-    fails(hex("0200"), "refused 18 TAG at 0: unknown tag\n", 1);
+    fails(hex("0200"), "refused 18 TAG at 0: unknown tag\nbytes from 0: [02] 00\n", 1);
     prints(
         hex("04 11 09 00 00 00 00 00 00 00 00 02 00 00 00"),
         "DiskReadResp id 9 ok 0 bytes 0 error_code 2\n",
     );
     prints(hex("04 11 09 00 00 00 01 00 02 00 00"), "DiskReadResp id 9 ok 1 bytes 512\n");
     prints(hex("00 14 03 03 00 00 00 61 0A 62"), "Log level 3 data 7 3 \"a\\nb\"\n");
-    prints(hex("00 15 F8 03 02 00 00 00 68 69"), "SerialOutput port 1016 data 8 2\n");
+    let serial = "SerialOutput port 1016 data 8 2";
+    prints(hex("00 15 F8 03 02 00 00 00 68 69"), &format!("{serial} \"hi\"\n"));
+    prints(hex("00 15 F8 03 02 00 00 00 02 69"), &format!("{serial} hex 02 69\n"));
+    prints(hex("00 15 F8 03 00 00 00 00"), "SerialOutput port 1016 data 8 0 \"\"\n");
+    // As people paste it.
+    for bytes in ["0x01 0x11 0x07 0 0 0", "1 11 7", "01 11 x"] {
+        assert_eq!(hex(bytes).status.code(), Some(2), "{bytes}");
+    }
+    let pasted =
+        ["0x01,0x11,0x07,0x00,0x00,0x00,0x0F,0x00,0x00,0x00", "01:11:07:00:00:00:0f:00:00:00"];
+    for bytes in pasted {
+        prints(hex(bytes), "PortReadResp id 7 value 15\n");
+        prints(run(&at, &["message", bytes]), "PortReadResp id 7 value 15\n");
+    }
     prints(hex("ff 1f"), "TripleFault\n");
-    fails(hex("02 00"), "refused 18 TAG at 0: unknown tag\n", 1);
+    fails(hex("02 00"), "refused 18 TAG at 0: unknown tag\nbytes from 0: [02] 00\n", 1);
     fails(hex(""), "refused 11 SHAPE at 0: field doesn't fit, or bytes left over\n", 1);
     let two = "04 11 09 00 00 00 02 00 00 00 00 02 00 00 00";
-    fails(hex(two), "refused 15 VALUE at 6: byte or number outside its values\n", 1);
+    let told = "refused 15 VALUE at 6: byte or number outside its values\n\
+        bytes from 0: 04 11 09 00 00 00 [02] 00 00 00 00 02 00 00 00\n";
+    fails(hex(two), told, 1);
     let file = b"\x00\x10\x0F\x00\x00\x00";
     put(&at, "ack", file);
     prints(run(&at, &["message", "ack"]), "Ack seq 15\n");
@@ -507,7 +293,7 @@ fn region_lists_queues_and_what_waits() {
         "0 0 48 128 -40 64 32 104\n",
         "1 1 192 64 -24 28 28 52\n",
         "record 0 156 12 PortRead id 7 port 1016 size 1\n",
-        "record 0 68 25 MmioWrite id 8 addr 4096 data 18 7\n",
+        "record 0 68 25 MmioWrite id 8 addr 4096 data 18 7 \"valve 7\"\n",
         "record 1 252 10 PortReadResp id 7 value 15\n",
         "record 1 212 14 Log level 3 data 7 7 \"tank 15\"\n",
         "record 1 232 2 refused 18 TAG at 0: unknown tag; bytes 02 00\n",
@@ -551,13 +337,20 @@ fn region_refuses_what_is_broken() {
         bytes[place] = byte;
         fed(&at, &["region", "-"], &bytes)
     };
-    let told = |place: usize| format!("refused 20 REGION at {place}: broken region\n");
-    fails(broken(0, b'B'), &told(0), 1);
-    fails(broken(12, 65), &told(12), 1);
-    fails(broken(36, 44), &told(36), 1);
-    fails(broken(192, 1), &told(192), 1);
-    fails(fed(&at, &["region", "-"], &bytes[..271]), &told(8), 1);
-    fails(fed(&at, &["region", "-"], TWO_DEVICES), &told(0), 1);
+    let is_told = |output: std::process::Output, place: &str, lies: &str| {
+        let told = String::from_utf8(output.stderr).unwrap();
+        let (line, bytes) = told.split_once('\n').unwrap();
+        assert_eq!(line, format!("refused 20 REGION at {place}: broken region: {lies}"));
+        assert!(bytes.starts_with("bytes from ") && bytes.contains('['), "{bytes}");
+        assert_eq!(output.status.code(), Some(1));
+    };
+    let header = "the region's header";
+    is_told(broken(0, b'B'), "0", header);
+    is_told(broken(12, 65), "12 (0xC)", header);
+    is_told(broken(36, 44), "36 (0x24)", "queue 1: its offset");
+    is_told(broken(192, 1), "192 (0xC0)", "queue 1: the header of its ring");
+    is_told(fed(&at, &["region", "-"], &bytes[..271]), "8", header);
+    is_told(fed(&at, &["region", "-"], TWO_DEVICES), "0", header);
 }
 
 // ---- the command line
@@ -570,12 +363,14 @@ fn help_and_version_are_printed() {
         assert_eq!(output.status.code(), Some(0));
         assert!(String::from_utf8(output.stdout).unwrap().contains("cim add-disk FILE OUT"));
     }
-    let names =
-        ["check", "list", "canon", "add-device", "add-disk", "wrapper", "message", "region"];
-    for name in names {
+    let help = String::from_utf8(run(&at, &["--help"]).stdout).unwrap();
+    let names: Vec<&str> =
+        help.lines().filter_map(|line| line.strip_prefix("  cim ")?.split(' ').next()).collect();
+    assert!(names.len() > 10);
+    for name in names.into_iter().filter(|name| *name != "COMMAND" && *name != "--version") {
         let output = run(&at, &[name, "--help"]);
         assert_eq!(output.status.code(), Some(0));
-        assert!(String::from_utf8(output.stdout).unwrap().starts_with(&format!("cim {name} ")));
+        assert!(String::from_utf8(output.stdout).unwrap().starts_with(&format!("cim {name}")));
     }
     prints(run(&at, &["--version"]), concat!("cim ", env!("CARGO_PKG_VERSION"), "\n"));
 }
@@ -586,8 +381,12 @@ fn a_command_line_that_is_not_understood_is_told() {
     let usage = |words: &[&str], told: &str| fails(run(&at, words), &format!("cim: {told}\n"), 2);
     usage(&[], "no command is given; see `cim --help`");
     usage(&["chek", "f"], "there is no command `chek`; see `cim --help`");
-    usage(&["check"], "check: takes one FILE, and 0 are given; see `cim check --help`");
-    usage(&["check", "a", "b"], "check: takes one FILE, and 2 are given; see `cim check --help`");
+    usage(&["check"], "check: takes one FILE or more, and 0 are given; see `cim check --help`");
+    usage(&["list", "a", "b"], "list: takes one FILE, and 2 are given; see `cim list --help`");
+    usage(
+        &["check", "-", "-"],
+        "check: only one input can be standard input; see `cim check --help`",
+    );
     usage(&["check", "--fast", "a"], "check: there is no option `--fast`; see `cim check --help`");
     usage(&["canon", "a"], "canon: takes FILE and OUT, and 1 are given; see `cim canon --help`");
     let see = "see `cim add-disk --help`";
@@ -616,8 +415,12 @@ fn a_command_line_that_is_not_understood_is_told() {
         "add-device: `--version 65536` is no number from 0 to 65535; see `cim add-device --help`",
     );
     usage(
-        &["message", "--hex", "0x11"],
-        "message: `--hex 0x11` is not made of two hexadecimal digits for each byte; see `cim message --help`",
+        &["message", "--hex", "0x1"],
+        "message: `--hex 0x1`: `0x1` has 1 digit; each byte is two, as 07; see `cim message --help`",
+    );
+    usage(
+        &["message", "1 11 7"],
+        "message: there is no file `1 11 7`, and as hexadecimal `1` has 1 digit; each byte is two, as 07; see `cim message --help`",
     );
     usage(
         &["message", "--hex", "02 00", "f"],

@@ -70,9 +70,10 @@ fn follow(path: &Path) -> usize {
 #[test]
 fn commands_print_what_the_documents_show() {
     let mut documents = vec![Path::new(ROOT).join("README.md")];
-    documents.extend(
-        fs::read_dir(Path::new(ROOT).join("docs")).unwrap().map(|entry| entry.unwrap().path()),
-    );
+    for folder in ["docs", "docs/landings"] {
+        let entries = fs::read_dir(Path::new(ROOT).join(folder)).unwrap();
+        documents.extend(entries.map(|entry| entry.unwrap().path()));
+    }
     documents.retain(|path| path.extension().is_some_and(|extension| extension == "md"));
     let commands: usize = documents.iter().map(|path| follow(path)).sum();
     assert!(commands > 10, "only {commands} commands are shown");

@@ -3,7 +3,8 @@
 //!
 //! The work is done by `libcimbrolau.a`, every function of which is proved to meet its contract: each call takes every
 //! input, ends, and gives a reading exactly for inputs that follow the rules; a refused call leaves all lent memory as it
-//! was. This crate gives it Rust's types. A caller owes nothing: no length to check first, no buffer to size.
+//! was. This crate gives it Rust's types. A caller owes nothing: no length to check first, no buffer to size. Where there is
+//! no memory for an output, a call does not abort: it is refused as ROOM, with the length that the output would have.
 //!
 //! ```
 //! use cimbrolau::{snapshot, Kind};
@@ -22,6 +23,7 @@
 //!
 //! - [`snapshot`][]: snapshot files
 //! - [`wrapper`][]: disk-controller wrappers
+//! - [`ready`][]: whether a snapshot is ready to restore
 //! - [`Message`][]: messages
 //! - [`region`][]: regions of shared memory, and the rings in them
 //! - [`sheet`][]: the fields of CPU and MMU states
@@ -30,9 +32,11 @@
 #![deny(missing_docs)]
 #![deny(unsafe_code)]
 
+mod memory;
 mod message;
 #[allow(unsafe_code)]
 pub mod raw;
+pub mod ready;
 mod records;
 mod refusal;
 pub mod region;

@@ -1,5 +1,7 @@
 //! The records of tables, 32 bytes each, and the parts of an input that they name.
 
+use crate::refusal::{room_for, Result};
+
 /// Bytes in a record.
 pub(crate) const RECORD: usize = 32;
 
@@ -13,8 +15,10 @@ pub(crate) fn table_most(input: &[u8], least: usize, entries: usize) -> usize {
 const POSITION: usize = 24;
 
 /// The records of a table, each read by `read`.
-pub(crate) fn all<T>(table: &[u8], read: impl Fn(&[u8]) -> T) -> Vec<T> {
-    table.chunks_exact(RECORD).map(read).collect()
+pub(crate) fn all<T>(table: &[u8], read: impl Fn(&[u8]) -> T) -> Result<Vec<T>> {
+    let mut records = room_for(table.len() / RECORD)?;
+    records.extend(table.chunks_exact(RECORD).map(read));
+    Ok(records)
 }
 
 /// The `N` bytes at `at` of a record.
@@ -70,6 +74,7 @@ mod tests {
         ]);
         let numbers =
             |r: &[u8]| (u32_at(r, 0), u16_at(r, 4), u64_at(r, 8), u64_at(r, 16), position(r));
-        assert_eq!(all(&table, numbers), [(0, 0, 0, 0, 0), (15, 256, 1 << 32, (1 << 63) + 9, 256)]);
+        let expected = vec![(0, 0, 0, 0, 0), (15, 256, 1 << 32, (1 << 63) + 9, 256)];
+        assert_eq!(all(&table, numbers), Ok(expected));
     }
 }

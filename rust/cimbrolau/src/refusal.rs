@@ -1,5 +1,6 @@
 //! The refusals by name, and answers as `Result`.
 
+use crate::memory::zeros;
 use crate::raw::Answer;
 use std::fmt;
 
@@ -39,7 +40,8 @@ pub enum Kind {
     Text = 14,
     /// A byte or a number is outside its values.
     Value = 15,
-    /// The output is shorter than needed; the place is the length needed.
+    /// The output is shorter than needed; the place is the length needed. From a call that makes its own output: there is
+    /// no memory for it.
     Room = 16,
     /// The added key is there already.
     Have = 17,
@@ -55,6 +57,8 @@ pub enum Kind {
     Empty = 23,
     /// A committed record runs past the commit cursor or the ring's end, or a skip reaches the commit cursor.
     Record = 24,
+    /// The entry to be changed isn't there.
+    Absent = 25,
     /// Cursors are given out of turn.
     Turn = 29,
 }
@@ -84,6 +88,7 @@ const TABLE: &[(Kind, &str, &str)] = &[
     (Kind::Full, "FULL", "bytes in use and those needed exceed the capacity"),
     (Kind::Empty, "EMPTY", "nothing is committed"),
     (Kind::Record, "RECORD", "committed record or skip runs too far"),
+    (Kind::Absent, "ABSENT", "entry to be changed isn't there"),
     (Kind::Turn, "TURN", "cursors given out of turn"),
 ];
 
@@ -184,13 +189,23 @@ pub(crate) fn outcome(number: u32, place: u64) -> Result<u64> {
     }
 }
 
-/// The whole output of a call that fills a lent buffer, which never needs more than `most` bytes: the call runs once.
+/// The whole output of a call that fills a lent buffer, which never needs more than `most` bytes: the call runs once. Where
+/// there is no memory for so many, the call is lent nothing, and answers by itself: ROOM with the length that it needs, or
+/// a fault of its input.
 pub(crate) fn filled(most: usize, call: impl FnOnce(&mut [u8]) -> Answer) -> Result<Vec<u8>> {
-    let mut out = vec![0; most];
+    let mut out = zeros(most).unwrap_or_default();
     let written = call(&mut out);
     let length = outcome(written.number, written.place)?;
     out.truncate(length as usize);
     Ok(out)
+}
+
+/// Room for so many items, or ROOM with the bytes that they take.
+pub(crate) fn room_for<T>(items: usize) -> Result<Vec<T>> {
+    let mut room = Vec::new();
+    let bytes = (items as u64).saturating_mul(std::mem::size_of::<T>() as u64);
+    room.try_reserve_exact(items).map_err(|_| Refusal { kind: Kind::Room, place: bytes })?;
+    Ok(room)
 }
 
 #[cfg(test)]
@@ -204,7 +219,7 @@ mod tests {
             assert_eq!(Kind::of(kind.number()), Some(kind));
             assert!(!kind.name().is_empty() && !kind.meaning().is_empty());
         }
-        for number in [0, 25, 28, 30, u32::MAX] {
+        for number in [0, 19, 27, 30, u32::MAX] {
             assert_eq!(Kind::of(number), None);
         }
     }
@@ -213,6 +228,19 @@ mod tests {
     fn a_refusal_reads_as_the_card_has_it() {
         let refusal = Refusal { kind: Kind::Key, place: 53 };
         assert_eq!(refusal.to_string(), "13 KEY at 53: key again");
+    }
+
+    #[test]
+    fn where_there_is_no_memory_the_call_says_what_it_needs() {
+        let call = |out: &mut [u8]| match out.len() {
+            5.. => Answer { number: 0, place: 5 },
+            _ => Answer { number: 16, place: 5 },
+        };
+        assert_eq!(filled(7, call), Ok(vec![0; 5]));
+        assert_eq!(filled(usize::MAX, call), Err(Refusal { kind: Kind::Room, place: 5 }));
+        assert_eq!(filled(usize::MAX, |_| Answer { number: 0, place: 0 }), Ok(vec![]));
+        let room = room_for::<u64>(usize::MAX);
+        assert_eq!(room, Err(Refusal { kind: Kind::Room, place: u64::MAX }));
     }
 
     #[test]

@@ -24,7 +24,7 @@
 
 use crate::raw;
 use crate::records::u32_at;
-use crate::refusal::{outcome, Kind, Refusal, Result};
+use crate::refusal::{outcome, room_for, Kind, Refusal, Result};
 use std::fmt;
 use std::ops::Range;
 
@@ -90,7 +90,7 @@ pub fn layout(plans: &[Plan]) -> Result<Vec<u8>> {
     let behind = descriptor_place(plans.len());
     let rings = plans.iter().map(|plan| FOUR + plan.capacity as usize);
     let total = behind + rings.clone().sum::<usize>();
-    let mut bytes = Vec::with_capacity(total);
+    let mut bytes = room_for(total)?;
     put(&mut bytes, [MAGIC, VERSION, total as u32, plans.len() as u32]);
     let mut offset = behind;
     for (plan, ring) in plans.iter().zip(rings) {

@@ -241,7 +241,7 @@ pub fn check(file: &[u8]) -> Result<()> {
 /// ```
 pub fn sections(file: &[u8]) -> Result<Vec<Section>> {
     let table = filled(RECORD * SECTIONS, |table| raw::sections(file, table))?;
-    Ok(records::all(&table, Section::of))
+    records::all(&table, Section::of)
 }
 
 /// Every device of the file, in the order of their keys.
@@ -256,7 +256,7 @@ pub fn sections(file: &[u8]) -> Result<Vec<Section>> {
 /// ```
 pub fn devices(file: &[u8]) -> Result<Vec<Device>> {
     let table = filled(table_most(file, 16, DEVICES), |table| raw::devices(file, table))?;
-    Ok(records::all(&table, Device::of))
+    records::all(&table, Device::of)
 }
 
 /// Every disk of the file, in the order of their ids.
@@ -271,7 +271,7 @@ pub fn devices(file: &[u8]) -> Result<Vec<Device>> {
 /// ```
 pub fn disks(file: &[u8]) -> Result<Vec<Disk>> {
     let table = filled(table_most(file, 12, DISKS), |table| raw::disks(file, table))?;
-    Ok(records::all(&table, Disk::of))
+    records::all(&table, Disk::of)
 }
 
 /// The file's canonical form: the known sections in ascending id, then the others as found; lists in the order of their
@@ -323,4 +323,50 @@ pub fn add_device(file: &[u8], key: impl Into<DeviceKey>, payload: &[u8]) -> Res
 pub fn add_disk(file: &[u8], id: u32, base: &[u8], overlay: &[u8]) -> Result<Vec<u8>> {
     let most = file_most(file.len() + 20 + 12 + base.len() + overlay.len());
     filled(most, |out| raw::add_disk(file, id, base, overlay, out))
+}
+
+/// The canonical form of the file without one of its devices. A key that is not there is ABSENT; with its last device a
+/// file loses its section of devices.
+///
+/// ```
+/// use cimbrolau::{snapshot, Kind};
+/// let file = snapshot::add_device(&snapshot::EMPTY, (18, 1, 0), &[0x11])?;
+/// assert_eq!(snapshot::remove_device(&file, (18, 1, 0))?, snapshot::EMPTY);
+///
+/// let refusal = snapshot::remove_device(&file, (18, 2, 0)).unwrap_err();
+/// assert_eq!(refusal.kind, Kind::Absent);
+/// # Ok::<(), cimbrolau::Refusal>(())
+/// ```
+pub fn remove_device(file: &[u8], key: impl Into<DeviceKey>) -> Result<Vec<u8>> {
+    let DeviceKey { id, version, flags } = key.into();
+    // It is never longer than the file.
+    filled(file_most(file.len()), |out| raw::remove_device(file, id, version, flags, out))
+}
+
+/// The canonical form of the file without one of its disks. A disk that is not there is ABSENT.
+///
+/// ```
+/// use cimbrolau::snapshot;
+/// let file = snapshot::add_disk(&snapshot::EMPTY, 1, b"base.img", b"")?;
+/// assert_eq!(snapshot::remove_disk(&file, 1)?, snapshot::EMPTY);
+/// # Ok::<(), cimbrolau::Refusal>(())
+/// ```
+pub fn remove_disk(file: &[u8], id: u32) -> Result<Vec<u8>> {
+    filled(file_most(file.len()), |out| raw::remove_disk(file, id, out))
+}
+
+/// The canonical form of the file with another payload in one of its devices. A key that is not there is ABSENT.
+///
+/// ```
+/// use cimbrolau::snapshot;
+/// let file = snapshot::add_device(&snapshot::EMPTY, (3, 1, 0), &[15, 0])?;
+/// let file = snapshot::replace_device(&file, (3, 1, 0), &[16, 0])?;
+/// assert_eq!(snapshot::devices(&file)?[0].payload(&file), Some(&[16, 0][..]));
+/// # Ok::<(), cimbrolau::Refusal>(())
+/// ```
+pub fn replace_device(file: &[u8], key: impl Into<DeviceKey>, payload: &[u8]) -> Result<Vec<u8>> {
+    let DeviceKey { id, version, flags } = key.into();
+    // It grows by no more than the new payload.
+    let most = file_most(file.len() + payload.len());
+    filled(most, |out| raw::replace_device(file, id, version, flags, payload, out))
 }

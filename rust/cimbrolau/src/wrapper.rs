@@ -107,7 +107,7 @@ pub fn check(wrapper: &[u8]) -> Result<()> {
 pub fn controllers(wrapper: &[u8]) -> Result<Vec<Controller>> {
     let table =
         filled(table_most(wrapper, 12, CONTROLLERS), |table| raw::controllers(wrapper, table))?;
-    Ok(records::all(&table, Controller::of))
+    records::all(&table, Controller::of)
 }
 
 /// The wrapper's canonical form: its controllers in the order of their addresses, a count of 0 kept.

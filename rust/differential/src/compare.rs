@@ -6,7 +6,7 @@
 
 use std::fmt::Debug;
 
-use reference::{Answer, Reading};
+use reference::{Answer, Readiness, Reading};
 
 use crate::counts::Counts;
 use crate::library;
@@ -40,7 +40,7 @@ pub struct Comparison {
 type Call = fn(&[u8], &mut [u8]) -> Answer;
 
 /// The calls on a file with an output: the library's and the reference's.
-const FILE_CALLS: [(&str, Call, Call); 6] = [
+const FILE_CALLS: [(&str, Call, Call); 9] = [
     ("sections", library::sections, reference::sections),
     ("devices", library::devices, reference::devices),
     ("disks", library::disks, reference::disks),
@@ -54,6 +54,21 @@ const FILE_CALLS: [(&str, Call, Call); 6] = [
         "add_disk of 256",
         |file, out| library::add_disk(file, 256, b"base", b"", out),
         |file, out| reference::add_disk(file, 256, b"base", b"", out),
+    ),
+    (
+        "remove_device of (3, 1, 0)",
+        |file, out| library::remove_device(file, 3, 1, 0, out),
+        |file, out| reference::remove_device(file, 3, 1, 0, out),
+    ),
+    (
+        "remove_disk of 256",
+        |file, out| library::remove_disk(file, 256, out),
+        |file, out| reference::remove_disk(file, 256, out),
+    ),
+    (
+        "replace_device of (3, 1, 0)",
+        |file, out| library::replace_device(file, 3, 1, 0, b"another", out),
+        |file, out| reference::replace_device(file, 3, 1, 0, b"another", out),
     ),
 ];
 
@@ -86,8 +101,46 @@ impl Comparison {
         let (ours, theirs) = (library::check(file), reference::check(file));
         let answer = self.answer("check", &[file], ours, theirs);
         self.outputs(&FILE_CALLS, file);
+        self.ready_somewhere(file);
         self.unchanged(before, file);
         answer
+    }
+
+    /// Readiness of a file, with a list whose length is chosen about what the reference needs; and with room for all nine
+    /// pairs what the reference answers and lists.
+    pub fn ready(&mut self, file: &[u8]) -> (Readiness, Vec<u8>) {
+        self.inputs += 1;
+        let before = fingerprint(file);
+        self.ready_somewhere(file);
+        let mut list = vec![0; 72];
+        let readiness = reference::ready(file, &mut list);
+        list.truncate(if readiness.number == 0 { readiness.place as usize } else { 0 });
+        self.unchanged(before, file);
+        (readiness, list)
+    }
+
+    fn ready_somewhere(&mut self, file: &[u8]) {
+        let probe = reference::ready(file, &mut []);
+        let probe = Answer { number: probe.number, place: probe.place };
+        let room = self.lent_length(probe, file.len().min(72));
+        self.ready_in(file, room);
+    }
+
+    /// Readiness with a list of `room` bytes: the answer, and all of those bytes.
+    pub fn ready_in(&mut self, file: &[u8], room: usize) -> Readiness {
+        let salt = self.random.u8();
+        lay_pattern(&mut self.ours, room, salt);
+        lay_pattern(&mut self.theirs, room, salt);
+        let ours = library::ready(file, &mut self.ours[MARGIN..MARGIN + room]);
+        let theirs = reference::ready(file, &mut self.theirs[MARGIN..MARGIN + room]);
+        let written = if theirs.number == 0 { theirs.place as usize } else { 0 };
+        if self.ours != self.theirs || !pattern_stands(&self.theirs, written, salt) {
+            let what =
+                format!("library {ours:?}\nreference {theirs:?}\nlent {room} bytes, which differ");
+            self.fail("ready", &[file], &what);
+        }
+        self.answers.add(theirs.number);
+        self.same("ready", &[file], ours, theirs)
     }
 
     /// Every call that takes a wrapper; the answer to `wrapper_check`.
@@ -134,6 +187,58 @@ impl Comparison {
             &inputs,
             |out| library::add_disk(file, id, base, overlay, out),
             |out| reference::add_disk(file, id, base, overlay, out),
+        );
+        for (before, input) in before.into_iter().zip(inputs) {
+            self.unchanged(before, input);
+        }
+        (answer, self.lent())
+    }
+
+    /// Removes a device from a file; the answer, and what the output then holds.
+    pub fn remove_device(&mut self, file: &[u8], key: DeviceKey) -> (Answer, &[u8]) {
+        self.inputs += 1;
+        let (id, version, flags) = key;
+        let before = fingerprint(file);
+        let answer = self.output(
+            &format!("remove_device of {key:?}"),
+            &[file],
+            |out| library::remove_device(file, id, version, flags, out),
+            |out| reference::remove_device(file, id, version, flags, out),
+        );
+        self.unchanged(before, file);
+        (answer, self.lent())
+    }
+
+    /// Removes a disk from a file; the answer, and what the output then holds.
+    pub fn remove_disk(&mut self, file: &[u8], id: u32) -> (Answer, &[u8]) {
+        self.inputs += 1;
+        let before = fingerprint(file);
+        let answer = self.output(
+            &format!("remove_disk of {id}"),
+            &[file],
+            |out| library::remove_disk(file, id, out),
+            |out| reference::remove_disk(file, id, out),
+        );
+        self.unchanged(before, file);
+        (answer, self.lent())
+    }
+
+    /// Replaces a device's payload; the answer, and what the output then holds.
+    pub fn replace_device(
+        &mut self,
+        file: &[u8],
+        key: DeviceKey,
+        payload: &[u8],
+    ) -> (Answer, &[u8]) {
+        self.inputs += 1;
+        let (id, version, flags) = key;
+        let inputs = [file, payload];
+        let before = inputs.map(fingerprint);
+        let answer = self.output(
+            &format!("replace_device of {key:?}"),
+            &inputs,
+            |out| library::replace_device(file, id, version, flags, payload, out),
+            |out| reference::replace_device(file, id, version, flags, payload, out),
         );
         for (before, input) in before.into_iter().zip(inputs) {
             self.unchanged(before, input);

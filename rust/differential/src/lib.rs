@@ -9,7 +9,8 @@
 //! - [`make`]: valid files and wrappers, [`regions`]: valid regions, [`text`]: valid and broken UTF-8,
 //!   [`damage`]: faults in them;
 //! - [`compare`]: one input given to both, and what is compared; [`rings`]: the same for calls that change a
-//!   region in place, [`sheets`]: for fields of states; [`counts`]: how often each number was answered.
+//!   region in place, [`sheets`]: for fields of states; [`counts`]: how often each number was answered;
+//! - [`planted`]: errors that have to be found.
 //!
 //! The inputs themselves stand in `tests/differential`, a module for each format.
 
@@ -18,6 +19,7 @@ pub mod counts;
 pub mod damage;
 pub mod library;
 pub mod make;
+pub mod planted;
 pub mod random;
 pub mod regions;
 pub mod rings;

@@ -1,7 +1,7 @@
 //! The library's calls, with the reference's signatures. No other module names the library.
 
 use cimbrolau::raw;
-use reference::{Access, Answer, Cursors, Pair, Reading, Record};
+use reference::{Access, Answer, Cursors, Pair, Readiness, Reading, Record};
 
 use crate::rings::RingCalls;
 
@@ -46,6 +46,30 @@ pub fn add_device(
 
 pub fn add_disk(file: &[u8], id: u32, base: &[u8], overlay: &[u8], out: &mut [u8]) -> Answer {
     answer!(raw::add_disk(file, id, base, overlay, out))
+}
+
+pub fn remove_device(file: &[u8], id: u32, version: u16, flags: u16, out: &mut [u8]) -> Answer {
+    answer!(raw::remove_device(file, id, version, flags, out))
+}
+
+pub fn remove_disk(file: &[u8], id: u32, out: &mut [u8]) -> Answer {
+    answer!(raw::remove_disk(file, id, out))
+}
+
+pub fn replace_device(
+    file: &[u8],
+    id: u32,
+    version: u16,
+    flags: u16,
+    payload: &[u8],
+    out: &mut [u8],
+) -> Answer {
+    answer!(raw::replace_device(file, id, version, flags, payload, out))
+}
+
+pub fn ready(file: &[u8], list: &mut [u8]) -> Readiness {
+    let given = raw::ready(file, list);
+    Readiness { number: given.number, yes: given.yes, place: given.place }
 }
 
 pub fn wrapper_check(wrapper: &[u8]) -> Answer {

@@ -8,43 +8,8 @@ mod rings;
 use std::panic::{catch_unwind, AssertUnwindSafe};
 
 use differential::compare::Comparison;
+use differential::planted;
 use differential::rings::{RingCalls, REFERENCE};
-use reference::answer::{BIG, FULL, RECORD, REGION, TURN};
-use reference::{Answer, Cursors, Pair, Record};
-
-/// The one ring of a region that has one: where its header stands, and its numbers.
-struct Ring {
-    place: usize,
-    head: u32,
-    reserve: u32,
-    commit: u32,
-    capacity: u32,
-}
-
-fn number_at(region: &[u8], at: usize) -> u32 {
-    u32::from_le_bytes(region[at..at + 4].try_into().unwrap())
-}
-
-fn store(region: &mut [u8], at: usize, number: u32) {
-    region[at..at + 4].copy_from_slice(&number.to_le_bytes());
-}
-
-impl Ring {
-    fn of(region: &[u8], queue: u32) -> Ring {
-        let place = number_at(region, 20 + 16 * queue as usize) as usize;
-        let number = |at: usize| number_at(region, place + 4 * at);
-        let [head, reserve, commit, capacity] = [0, 1, 2, 3].map(number);
-        Ring { place, head, reserve, commit, capacity }
-    }
-
-    fn place_of(&self, cursor: u32) -> usize {
-        self.place + 16 + (cursor % self.capacity) as usize
-    }
-
-    fn left(&self, cursor: u32) -> u32 {
-        self.capacity - cursor % self.capacity
-    }
-}
 
 type Group = fn(&mut Comparison);
 
@@ -70,244 +35,81 @@ fn nothing_is_found_in_the_reference_itself() {
     }
 }
 
-/// Cursors one step too far apart are taken.
 #[test]
 fn cursors_too_far_apart_by_one_step() {
-    let check = |region: &[u8]| {
-        let answer = reference::region_check(region);
-        if answer.number != REGION || answer.place != 32 || region.len() < 48 {
-            return answer;
-        }
-        let ring = Ring::of(region, 0);
-        let apart = u64::from(ring.commit.wrapping_sub(ring.head))
-            + u64::from(ring.reserve.wrapping_sub(ring.commit));
-        match apart == u64::from(ring.capacity) + 4 {
-            true => Answer { number: 0, place: 0 },
-            false => answer,
-        }
-    };
-    found_by(&[rings::distances], RingCalls { check, ..REFERENCE });
+    found_by(&[rings::distances], planted::CURSORS_TOO_FAR_APART_BY_ONE_STEP);
 }
 
-/// The sum of the two distances wraps, so that cursors half way round are taken.
 #[test]
 fn distances_whose_sum_wraps() {
-    let check = |region: &[u8]| {
-        let answer = reference::region_check(region);
-        if answer.number != REGION || answer.place != 32 || region.len() < 48 {
-            return answer;
-        }
-        let ring = Ring::of(region, 0);
-        match ring.reserve.wrapping_sub(ring.head) <= ring.capacity {
-            true => Answer { number: 0, place: 0 },
-            false => answer,
-        }
-    };
-    found_by(&[rings::distances], RingCalls { check, ..REFERENCE });
+    found_by(&[rings::distances], planted::DISTANCES_WHOSE_SUM_WRAPS);
 }
 
-/// A ring that meets another is charged to its capacity.
 #[test]
 fn a_meeting_at_another_field() {
-    let check = |region: &[u8]| match reference::region_check(region) {
-        Answer { number: REGION, place: 36 } => Answer { number: REGION, place: 40 },
-        answer => answer,
-    };
-    found_by(&[rings::meetings, rings::damaged], RingCalls { check, ..REFERENCE });
+    found_by(&[rings::meetings, rings::damaged], planted::A_MEETING_AT_ANOTHER_FIELD);
 }
 
-/// A cursor above 2^31 is shown as the largest signed number.
 #[test]
 fn a_report_that_is_cut() {
-    let report = |region: &[u8], queue| {
-        let cursors = reference::ring_report(region, queue);
-        let head = if cursors.head < 0 { i32::MAX } else { cursors.head };
-        Cursors { head, ..cursors }
-    };
-    found_by(&[rings::valid, rings::lives], RingCalls { report, ..REFERENCE });
+    found_by(&[rings::valid, rings::lives], planted::A_REPORT_THAT_IS_CUT);
 }
 
-/// The last byte of the ring is never given away.
 #[test]
 fn a_ring_that_is_never_quite_full() {
-    let reserve = |region: &mut [u8], queue, length| {
-        let before = region.to_vec();
-        let pair = reference::ring_reserve(region, queue, length);
-        if pair.number == 0 {
-            let ring = Ring::of(region, queue);
-            if ring.reserve.wrapping_sub(ring.head) == ring.capacity {
-                region.copy_from_slice(&before);
-                return Pair { number: FULL, ..Pair::default() };
-            }
-        }
-        pair
-    };
     found_by(
         &[rings::reservations, rings::lives, rings::wild_lives],
-        RingCalls { reserve, ..REFERENCE },
+        planted::A_RING_THAT_IS_NEVER_QUITE_FULL,
     );
 }
 
-/// What a skip takes is not counted.
 #[test]
 fn a_skip_that_is_not_counted() {
-    let reserve = |region: &mut [u8], queue, length: u64| {
-        let pair = reference::ring_reserve(region, queue, length);
-        if pair.number != FULL {
-            return pair;
-        }
-        let ring = Ring::of(region, queue);
-        let record = 4 + length.div_ceil(4) as u32 * 4;
-        if ring.reserve.wrapping_sub(ring.head) + record > ring.capacity {
-            return pair;
-        }
-        let end = ring.reserve.wrapping_add(ring.left(ring.reserve) + record);
-        store(region, ring.place + 4, end);
-        Pair { number: 0, place: 4, start: ring.reserve, end }
-    };
     found_by(
         &[rings::reservations, rings::lives, rings::wild_lives],
-        RingCalls { reserve, ..REFERENCE },
+        planted::A_SKIP_THAT_IS_NOT_COUNTED,
     );
 }
 
-/// Half the capacity is too big.
 #[test]
 fn half_that_is_refused() {
-    let reserve = |region: &mut [u8], queue, length: u64| {
-        let before = region.to_vec();
-        let pair = reference::ring_reserve(region, queue, length);
-        let half = pair.number == 0 && 2 * (length + 4) == Ring::of(region, queue).capacity.into();
-        if half {
-            region.copy_from_slice(&before);
-            return Pair { number: BIG, ..Pair::default() };
-        }
-        pair
-    };
-    found_by(&[rings::reservations, rings::wild_lives], RingCalls { reserve, ..REFERENCE });
+    found_by(&[rings::reservations, rings::wild_lives], planted::HALF_THAT_IS_REFUSED);
 }
 
-/// A fill that does something to the bytes that it has written.
-fn fill_and(
-    region: &mut [u8],
-    (queue, start, end): (u32, u32, u32),
-    payload: &[u8],
-    spoil: impl Fn(&mut [u8], &[u8], &Ring),
-) -> Answer {
-    let before = region.to_vec();
-    let answer = reference::ring_fill(region, queue, start, end, payload);
-    if answer.number == 0 {
-        let ring = Ring::of(region, queue);
-        spoil(region, &before, &ring);
-    }
-    answer
-}
-
-/// A skip has no marker.
 #[test]
 fn a_skip_without_a_marker() {
-    let fill = |region: &mut [u8], queue, start, end, payload: &[u8]| {
-        fill_and(region, (queue, start, end), payload, |region, before, ring| {
-            if end.wrapping_sub(start) > ring.left(start) {
-                let place = ring.place_of(start);
-                region[place..place + 4].copy_from_slice(&before[place..place + 4]);
-            }
-        })
-    };
-    found_by(&[rings::fills, rings::lives], RingCalls { fill, ..REFERENCE });
+    found_by(&[rings::fills, rings::lives], planted::A_SKIP_WITHOUT_A_MARKER);
 }
 
-/// All bytes of a skip are cleared behind its marker.
 #[test]
 fn a_skip_that_is_cleared() {
-    let fill = |region: &mut [u8], queue, start, end, payload: &[u8]| {
-        fill_and(region, (queue, start, end), payload, |region, _, ring| {
-            let left = ring.left(start);
-            if end.wrapping_sub(start) > left {
-                let place = ring.place_of(start);
-                region[place + 4..place + left as usize].fill(0);
-            }
-        })
-    };
-    found_by(&[rings::fills, rings::lives], RingCalls { fill, ..REFERENCE });
+    found_by(&[rings::fills, rings::lives], planted::A_SKIP_THAT_IS_CLEARED);
 }
 
-/// Padding is left as it was.
 #[test]
 fn padding_that_is_not_cleared() {
-    let fill = |region: &mut [u8], queue, start, end, payload: &[u8]| {
-        fill_and(region, (queue, start, end), payload, |region, before, ring| {
-            let padding = payload.len().next_multiple_of(4) - payload.len();
-            let end = ring.place_of(end.wrapping_sub(4)) + 4;
-            region[end - padding..end].copy_from_slice(&before[end - padding..end]);
-        })
-    };
-    found_by(&[rings::fills, rings::lives, rings::wild_lives], RingCalls { fill, ..REFERENCE });
+    found_by(
+        &[rings::fills, rings::lives, rings::wild_lives],
+        planted::PADDING_THAT_IS_NOT_CLEARED,
+    );
 }
 
-/// A pair that is not the next to be committed is taken.
 #[test]
 fn a_commit_before_its_turn() {
-    let commit = |region: &mut [u8], queue, start: u32, end: u32| {
-        let answer = reference::ring_commit(region, queue, start, end);
-        let ring = Ring::of(region, queue);
-        if answer.number != TURN || (start | end) & 3 != 0 {
-            return answer;
-        }
-        if end.wrapping_sub(ring.commit) > ring.reserve.wrapping_sub(ring.commit) {
-            return answer;
-        }
-        store(region, ring.place + 8, end);
-        Answer { number: 0, place: 4 }
-    };
-    found_by(&[rings::commits, rings::lives], RingCalls { commit, ..REFERENCE });
+    found_by(&[rings::commits, rings::lives], planted::A_COMMIT_BEFORE_ITS_TURN);
 }
 
-/// Head is moved past the record alone.
 #[test]
 fn a_head_that_stays_before_the_skip() {
-    let take = |region: &mut [u8], queue| {
-        let head = Ring::of(region, queue).head;
-        let record = reference::ring_take(region, queue);
-        if record.number == 0 {
-            let bytes = 4 + record.payload_length.div_ceil(4) as u32 * 4;
-            let place = Ring::of(region, queue).place;
-            store(region, place, head.wrapping_add(bytes));
-        }
-        record
-    };
-    found_by(&[rings::takes, rings::lives], RingCalls { take, ..REFERENCE });
+    found_by(&[rings::takes, rings::lives], planted::A_HEAD_THAT_STAYS_BEFORE_THE_SKIP);
 }
 
-/// A record that passes commit but not the ring's end is taken.
 #[test]
 fn a_record_past_commit() {
-    let take = |region: &mut [u8], queue| {
-        let record = reference::ring_take(region, queue);
-        if record.number != RECORD {
-            return record;
-        }
-        let ring = Ring::of(region, queue);
-        let place = ring.place_of(ring.head);
-        let length = number_at(region, place);
-        if u64::from(length) + 4 > u64::from(ring.left(ring.head)) {
-            return record;
-        }
-        let end = ring.head.wrapping_add(4 + length.div_ceil(4) * 4);
-        store(region, ring.place, end);
-        let (payload_place, payload_length) = (place as u64 + 4, u64::from(length));
-        Record { number: 0, place: 4, payload_place, payload_length }
-    };
-    found_by(&[rings::takes, rings::wild_lives], RingCalls { take, ..REFERENCE });
+    found_by(&[rings::takes, rings::wild_lives], planted::A_RECORD_PAST_COMMIT);
 }
 
-/// A payload's place that counts from the ring's data.
 #[test]
 fn a_place_that_counts_from_the_ring() {
-    let take = |region: &mut [u8], queue| {
-        let record = reference::ring_take(region, queue);
-        let payload_place = record.payload_place.saturating_sub(48);
-        Record { payload_place, ..record }
-    };
-    found_by(&[rings::takes, rings::lives], RingCalls { take, ..REFERENCE });
+    found_by(&[rings::takes, rings::lives], planted::A_PLACE_THAT_COUNTS_FROM_THE_RING);
 }

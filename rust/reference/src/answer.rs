@@ -31,12 +31,13 @@ pub const BIG: u32 = 21;
 pub const FULL: u32 = 22;
 pub const EMPTY: u32 = 23;
 pub const RECORD: u32 = 24;
+pub const ABSENT: u32 = 25;
 pub const TURN: u32 = 29;
 
 /// Every number that a call answers: 0 for taken, and the refusals. The numbers have gaps.
-pub const NUMBERS: [u32; 25] = [
+pub const NUMBERS: [u32; 26] = [
     0, SHORT, MAGIC, VERSION, ENDIAN, RESERVED, SIZE, CUT, MANY, TWICE, SECVER, SHAPE, LIMIT, KEY,
-    TEXT, VALUE, ROOM, HAVE, TAG, REGION, BIG, FULL, EMPTY, RECORD, TURN,
+    TEXT, VALUE, ROOM, HAVE, TAG, REGION, BIG, FULL, EMPTY, RECORD, ABSENT, TURN,
 ];
 
 /// What was read, or the first check that failed.

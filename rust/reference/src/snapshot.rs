@@ -1,8 +1,8 @@
 //! AEROSNAP files: checked, listed, written in canonical form, and with one entry more.
 
 use crate::answer::{
-    answered, ask, Answer, Taken, CUT, ENDIAN, HAVE, LIMIT, MAGIC, MANY, RESERVED, SECVER, SHAPE,
-    SHORT, SIZE, TEXT, TWICE, VERSION,
+    answered, ask, Answer, Taken, ABSENT, CUT, ENDIAN, HAVE, LIMIT, MAGIC, MANY, RESERVED, SECVER,
+    SHAPE, SHORT, SIZE, TEXT, TWICE, VERSION,
 };
 use crate::cursor::{is_text, u16_at, u32_at, u64_at, Cursor, Output};
 use crate::list::{
@@ -73,12 +73,34 @@ pub fn add_device(
     payload: &[u8],
     out: &mut [u8],
 ) -> Answer {
-    answered(try_add_device(file, (id, version, flags), payload, out))
+    answered(try_device(file, (id, version, flags), payload, |parts| Wish::Add(parts), out))
 }
 
 /// Writes the canonical form of the file's content and one disk more.
 pub fn add_disk(file: &[u8], id: u32, base: &[u8], overlay: &[u8], out: &mut [u8]) -> Answer {
     answered(try_add_disk(file, id, base, overlay, out))
+}
+
+/// Writes the canonical form of the file's content without one of its devices.
+pub fn remove_device(file: &[u8], id: u32, version: u16, flags: u16, out: &mut [u8]) -> Answer {
+    answered(try_remove(file, device(id, version, flags), out))
+}
+
+/// Writes the canonical form of the file's content without one of its disks.
+pub fn remove_disk(file: &[u8], id: u32, out: &mut [u8]) -> Answer {
+    answered(try_remove(file, disk(id), out))
+}
+
+/// Writes the canonical form of the file's content with another payload in one of its devices.
+pub fn replace_device(
+    file: &[u8],
+    id: u32,
+    version: u16,
+    flags: u16,
+    payload: &[u8],
+    out: &mut [u8],
+) -> Answer {
+    answered(try_device(file, (id, version, flags), payload, |parts| Wish::Replace(parts), out))
 }
 
 // Reading.
@@ -270,32 +292,55 @@ fn put_section(section: &Section, output: &mut Output) {
     }
 }
 
-// Adding.
+// Edits: adding, removing, replacing.
 
-/// An entry to add: the section it belongs in, its key, and its bytes in parts.
-struct New<'a> {
+/// One entry of a list that is to be changed: the section it belongs in, its kind and its key.
+struct Target {
     id: u32,
     kind: Kind,
     key: u64,
-    parts: &'a [&'a [u8]],
 }
 
-impl New<'_> {
-    fn length(&self) -> u64 {
-        self.parts.iter().map(|part| part.len() as u64).sum()
+fn device(id: u32, version: u16, flags: u16) -> Target {
+    Target { id: DEVICES, kind: Kind::Devices, key: device_key(id, version, flags) }
+}
+
+fn disk(id: u32) -> Target {
+    Target { id: DISKS, kind: Kind::Disks, key: u64::from(id) }
+}
+
+/// What is to be done there; an entry's bytes come in parts.
+#[derive(Clone, Copy)]
+enum Wish<'a> {
+    Add(&'a [&'a [u8]]),
+    Remove,
+    Replace(&'a [&'a [u8]]),
+}
+
+impl<'a> Wish<'a> {
+    /// The parts of the entry that comes.
+    fn parts(self) -> &'a [&'a [u8]] {
+        match self {
+            Wish::Add(parts) | Wish::Replace(parts) => parts,
+            Wish::Remove => &[],
+        }
+    }
+
+    fn length(self) -> u64 {
+        self.parts().iter().map(|part| part.len() as u64).sum()
     }
 }
 
-fn try_add_device(
+fn try_device(
     file: &[u8],
     (id, version, flags): (u32, u16, u16),
     payload: &[u8],
+    wish: for<'a> fn(&'a [&'a [u8]]) -> Wish<'a>,
     out: &mut [u8],
 ) -> Taken<usize> {
     let sections = read_file(file)?;
     let length = payload.len() as u64;
     ask(length <= MOST_PAYLOAD, LIMIT, 0)?;
-    let key = device_key(id, version, flags);
     let parts: [&[u8]; 5] = [
         &id.to_le_bytes(),
         &version.to_le_bytes(),
@@ -303,7 +348,7 @@ fn try_add_device(
         &length.to_le_bytes(),
         payload,
     ];
-    add(&sections, New { id: DEVICES, kind: Kind::Devices, key, parts: &parts }, out)
+    edit(&sections, device(id, version, flags), wish(&parts), out)
 }
 
 fn try_add_disk(file: &[u8], id: u32, base: &[u8], overlay: &[u8], out: &mut [u8]) -> Taken<usize> {
@@ -318,56 +363,116 @@ fn try_add_disk(file: &[u8], id: u32, base: &[u8], overlay: &[u8], out: &mut [u8
         &(overlay.len() as u32).to_le_bytes(),
         overlay,
     ];
-    add(&sections, New { id: DISKS, kind: Kind::Disks, key: u64::from(id), parts: &parts }, out)
+    edit(&sections, disk(id), Wish::Add(&parts), out)
 }
 
-/// Writes the canonical form of the sections with the new entry in its list.
-fn add(sections: &[Section], new: New, out: &mut [u8]) -> Taken<usize> {
+fn try_remove(file: &[u8], target: Target, out: &mut [u8]) -> Taken<usize> {
+    let sections = read_file(file)?;
+    edit(&sections, target, Wish::Remove, out)
+}
+
+/// Writes the canonical form of the sections with the entry put into its list, taken out or exchanged.
+fn edit(sections: &[Section], target: Target, wish: Wish, out: &mut [u8]) -> Taken<usize> {
     let (others, home): (Vec<&Section>, Vec<&Section>) =
-        canonical_order(sections).into_iter().partition(|section| section.id != new.id);
+        canonical_order(sections).into_iter().partition(|section| section.id != target.id);
     let none = List::new();
     let list = home.first().and_then(|home| home.list.as_ref());
     let list = list.unwrap_or(&none);
+    let (before, rest) = list.split_at(list.partition_point(|entry| entry.key < target.key));
+    let there = rest.first().filter(|entry| entry.key == target.key);
+    match wish {
+        Wish::Add(_) => ask(there.is_none(), HAVE, 0)?,
+        Wish::Remove | Wish::Replace(_) => ask(there.is_some(), ABSENT, 0)?,
+    }
+    let after = &rest[usize::from(there.is_some())..];
     let tail = home.first().map_or(&[][..], |home| home.tail(list));
-    let old_payload = home.first().map_or(4, |home| home.bytes.len() - SECTION_HEADER);
-    let payload = old_payload as u64 + new.length();
-    let needed = length_of(&others) + SECTION_HEADER + payload as usize;
 
-    ask(list.iter().all(|entry| entry.key != new.key), HAVE, 0)?;
-    ask(list.len() < new.kind.most() as usize, LIMIT, 0)?;
-    ask(new.id != DEVICES || payload <= MOST_DEVICES_PAYLOAD, LIMIT, 0)?;
-    ask(others.len() < MOST_SECTIONS, MANY, 0)?;
-    ask(needed <= MOST_FILE, SIZE, 0)?;
+    let old_payload = home.first().map_or(4, |home| home.bytes.len() - SECTION_HEADER) as u64;
+    let gone = there.map_or(0, |entry| entry.bytes.len() as u64);
+    let changed = Changed {
+        id: target.id,
+        before,
+        new: wish.parts(),
+        after,
+        tail,
+        payload: old_payload - gone + wish.length(),
+    };
+    let count = changed.count();
+    let written = count > 0 || !tail.is_empty();
+    let home_length = if written { SECTION_HEADER + changed.payload as usize } else { 0 };
+    let needed = length_of(&others) + home_length;
+
+    if let Wish::Add(_) = wish {
+        ask(count <= target.kind.most() as usize, LIMIT, 0)?;
+    }
+    if !matches!(wish, Wish::Remove) {
+        ask(target.id != DEVICES || changed.payload <= MOST_DEVICES_PAYLOAD, LIMIT, 0)?;
+    }
+    if let Wish::Add(_) = wish {
+        ask(others.len() < MOST_SECTIONS, MANY, 0)?;
+    }
+    if !matches!(wish, Wish::Remove) {
+        ask(needed <= MOST_FILE, SIZE, 0)?;
+    }
 
     let mut output = Output::with_room(out, needed)?;
     output.put(HEADER);
-    let (before, after) = others.split_at(others.partition_point(|other| other.rank() < new.id));
-    for section in before {
+    let (front, back) = others.split_at(others.partition_point(|other| other.rank() < target.id));
+    for section in front {
         put_section(section, &mut output);
     }
-    put_grown_list(list, tail, payload, &new, &mut output);
-    for section in after {
+    if written {
+        changed.put(&mut output);
+    }
+    for section in back {
         put_section(section, &mut output);
     }
     Ok(needed)
 }
 
-/// Writes the section of version 1 that holds the list's entries and the new one, and its tail.
-fn put_grown_list(list: &List, tail: &[u8], payload: u64, new: &New, output: &mut Output) {
-    let count = list.len() as u32 + 1;
-    output.put(&new.id.to_le_bytes());
-    output.put(&[1, 0, 0, 0]);
-    output.put(&payload.to_le_bytes());
-    output.put(&count.to_le_bytes());
-    let (before, after) = list.split_at(list.partition_point(|entry| entry.key < new.key));
-    for entry in before {
-        output.put(entry.bytes);
+/// A list after an edit: the entries before the place, the new one's parts, the entries behind it, its
+/// tail, and how long its payload is.
+struct Changed<'a> {
+    id: u32,
+    before: &'a [Entry<'a>],
+    new: &'a [&'a [u8]],
+    after: &'a [Entry<'a>],
+    tail: &'a [u8],
+    payload: u64,
+}
+
+impl Changed<'_> {
+    fn count(&self) -> usize {
+        self.before.len() + usize::from(!self.new.is_empty()) + self.after.len()
     }
-    for part in new.parts {
-        output.put(part);
+
+    /// Writes its section, of version 1.
+    fn put(&self, output: &mut Output) {
+        output.put(&self.id.to_le_bytes());
+        output.put(&[1, 0, 0, 0]);
+        output.put(&self.payload.to_le_bytes());
+        output.put(&(self.count() as u32).to_le_bytes());
+        for entry in self.before {
+            output.put(entry.bytes);
+        }
+        for part in self.new {
+            output.put(part);
+        }
+        for entry in self.after {
+            output.put(entry.bytes);
+        }
+        output.put(self.tail);
     }
-    for entry in after {
-        output.put(entry.bytes);
-    }
-    output.put(tail);
+}
+
+// What readiness looks at.
+
+/// The devices and the disks of a file that is taken, each in key order.
+pub(crate) fn devices_and_disks(file: &[u8]) -> Taken<(List<'_>, List<'_>)> {
+    let mut sections = read_file(file)?;
+    let mut list_of = |id| {
+        let section = sections.iter_mut().find(|section| section.id == id);
+        section.and_then(|section| section.list.take()).unwrap_or_default()
+    };
+    Ok((list_of(DEVICES), list_of(DISKS)))
 }

@@ -68,8 +68,10 @@ fn cpu_excludes_cpus_and_mmu_mmus() {
 
 #[test]
 fn a_section_is_read_to_its_end_before_the_next() {
-    let left_over = section(4, 1, 0, &[0; 5]);
-    assert_eq!(checked(&[left_over, vec![0; 3]]), (11, 36));
+    let cut = vec![0; 3];
+    assert_eq!(checked(&[section(4, 1, 0, &[1, 0, 0, 0, 0]), cut.clone()]), (11, 36));
+    // A tail is no fault.
+    assert_eq!(checked(&[section(4, 1, 0, &[0; 5]), cut]), (7, 37));
 }
 
 #[test]
@@ -87,14 +89,14 @@ fn meta_fields_in_order() {
     payload.extend([0; 8]);
     assert_eq!(meta(&payload), (11, 57));
     assert_eq!(meta(&[&payload[..], &[0]].concat()), (0, 0));
-    assert_eq!(meta(&[&payload[..], &[0, 0]].concat()), (11, 58));
+    assert_eq!(meta(&[&payload[..], &[0, 0]].concat()), (0, 0));
     payload.push(1);
     assert_eq!(meta(&[&payload[..], &[0; 3]].concat()), (11, 58));
     assert_eq!(meta(&[&payload[..], &[0; 4]].concat()), (0, 0));
     assert_eq!(meta(&[&payload[..], &4097u32.to_le_bytes()].concat()), (12, 58));
     assert_eq!(meta(&[&payload[..], &[2, 0, 0, 0, 0xFF]].concat()), (11, 62));
     assert_eq!(meta(&[&payload[..], &[2, 0, 0, 0, 0xFF, 0, 0]].concat()), (14, 62));
-    assert_eq!(meta(&[&payload[..], &[2, 0, 0, 0, 0x41, 0, 0]].concat()), (11, 64));
+    assert_eq!(meta(&[&payload[..], &[2, 0, 0, 0, 0x41, 0, 0]].concat()), (0, 0));
 }
 
 #[test]
@@ -121,6 +123,15 @@ fn cpu_lengths_and_values() {
     }
     assert_eq!(cpu(2, &state), (0, 0));
     assert_eq!(cpu(2, &state[..1183]), (0, 0));
+    // A longer one says its length, before its values.
+    state.push(9);
+    assert_eq!(cpu(2, &state), (11, 32));
+    state[1183] = 5;
+    assert_eq!(cpu(2, &state), (0, 0));
+    state[1188] = 2;
+    assert_eq!(cpu(2, &state), (15, 32 + 1188));
+    state[144] = 4;
+    assert_eq!(cpu(2, &state), (15, 32 + 144));
 }
 
 #[test]
@@ -143,7 +154,7 @@ fn device_fields_in_order() {
     assert_eq!(list(&[3u64.to_le_bytes(), over].concat()), (13, 52));
     assert_eq!(list(&[4u64.to_le_bytes(), over].concat()), (12, 60));
     assert_eq!(list(&[4u64.to_le_bytes(), 1u64.to_le_bytes()].concat()), (11, 68));
-    assert_eq!(list(&[&4u64.to_le_bytes()[..], &[0; 8], &[9]].concat()), (11, 68));
+    assert_eq!(list(&[&4u64.to_le_bytes()[..], &[0; 8], &[9]].concat()), (0, 0));
 }
 
 #[test]
@@ -161,7 +172,7 @@ fn disk_fields_in_order() {
     assert_eq!(list(&[1, 0, 0, 0, 1, 0, 0, 0, 0x41, 1, 1, 1]), (11, 57));
     assert_eq!(list(&[&[1, 0, 0, 0, 1, 0, 0, 0, 0x41][..], &over].concat()), (12, 57));
     assert_eq!(list(&[1, 0, 0, 0, 1, 0, 0, 0, 0x41, 1, 0, 0, 0, 0xC0, 9]), (14, 61));
-    assert_eq!(list(&[1, 0, 0, 0, 1, 0, 0, 0, 0x41, 1, 0, 0, 0, 0x42, 9]), (11, 62));
+    assert_eq!(list(&[1, 0, 0, 0, 1, 0, 0, 0, 0x41, 1, 0, 0, 0, 0x42, 9]), (0, 0));
 }
 
 #[test]
@@ -178,14 +189,14 @@ fn cpus_and_mmus_fields_in_order() {
     assert_eq!(cpus(&[&state[..], &[0; 7]].concat()), (11, 44 + 1183));
     assert_eq!(cpus(&[&state[..], &over].concat()), (12, 44 + 1183));
     assert_eq!(cpus(&[&state[..], &1u64.to_le_bytes()].concat()), (11, 44 + 1191));
-    assert_eq!(cpus(&[&state[..], &[0; 9]].concat()), (11, 44 + 1191));
+    assert_eq!(cpus(&[&state[..], &[0; 9]].concat()), (0, 0));
 
     let mmus = |count: u32, entries: &[u8]| {
         checked(&[section(8, 1, 0, &[&count.to_le_bytes()[..], entries].concat())])
     };
     assert_eq!(mmus(2, &[0; 143]), (11, 36 + 72));
     assert_eq!(mmus(2, &[0; 144]), (13, 36 + 72));
-    assert_eq!(mmus(1, &[0; 73]), (11, 36 + 72));
+    assert_eq!(mmus(1, &[0; 73]), (0, 0));
 }
 
 #[test]

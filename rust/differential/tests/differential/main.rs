@@ -11,6 +11,8 @@ mod bounds;
 mod breaks;
 mod messages;
 mod orders;
+mod ready;
+mod removals;
 mod rings;
 mod sheets;
 mod snapshots;
@@ -58,7 +60,17 @@ const GROUPS: &[Group] = &[
     ("messages: written at random", messages::written),
     ("adds: chains in several orders", adds::chains),
     ("adds: to any file", adds::to_any_file),
+    ("removals: on any file", removals::on_any_file),
+    ("removals: every entry, to the last", removals::to_the_last),
+    ("removals: what was just added", removals::undone),
+    ("removals: payloads replaced twice", removals::replaced_twice),
     ("texts: every break", breaks::all),
+    ("ready: all subsets of what is needed", ready::subsets),
+    ("ready: two controllers, id 6 twice", ready::twice),
+    ("ready: broken wrappers", ready::wrappers),
+    ("ready: every room", ready::rooms),
+    ("ready: damaged panels", ready::damaged),
+    ("ready: any devices and disks", ready::any),
     ("bounds: counts", bounds::counts::all),
     ("bounds: texts and messages", bounds::texts::all),
     ("bounds: payloads", bounds::payloads::all),

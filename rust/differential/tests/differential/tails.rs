@@ -41,7 +41,7 @@ fn file_of(id: u32, version: u16, payload: &[u8]) -> Vec<u8> {
     made.bytes
 }
 
-/// Tails of every length behind every kind of list, empty ones too, and adds beside them.
+/// Tails of every length behind every kind of list, empty ones too, and edits beside them; the last entry's removal too.
 pub fn behind_lists(run: &mut Comparison) {
     for (id, version) in LISTS {
         for count in 0..3 {
@@ -54,6 +54,10 @@ pub fn behind_lists(run: &mut Comparison) {
                 run.add_device(&file, (1, 1, length as u16), b"new");
                 run.add_device(&file, (0, 1, 0), b"");
                 run.add_disk(&file, 1 + length as u32, b"new", b"");
+                run.remove_device(&file, (0, 1, 0));
+                run.replace_device(&file, (0, 1, 0), &with_tail[..length / 2]);
+                run.remove_disk(&file, 0);
+                run.ready(&file);
             }
         }
     }

@@ -18,6 +18,7 @@ const TWICE: u32 = 9;
 const LIMIT: u32 = 12;
 const TEXT: u32 = 14;
 const HAVE: u32 = 17;
+const ABSENT: u32 = 25;
 
 /// The answer has this number and place.
 #[track_caller]

@@ -3,7 +3,7 @@
 use differential::compare::Comparison;
 use differential::make::{self, Made};
 
-use super::{empty_list, expect, file_of, long_bytes, HAVE, LIMIT, MIB, SIZE, TWICE};
+use super::{empty_list, expect, file_of, long_bytes, ABSENT, HAVE, LIMIT, MIB, SIZE, TWICE};
 
 pub fn all(run: &mut Comparison) {
     run.exact = true;
@@ -11,6 +11,7 @@ pub fn all(run: &mut Comparison) {
     cpu_blob(run);
     devices_payload(run);
     added_payload(run);
+    replaced_payload(run);
     wrapper(run);
     run.exact = false;
 }
@@ -94,6 +95,25 @@ fn added_payload(run: &mut Comparison) {
     let file = of_devices_payload(256 * MIB - 30);
     expect(run.add_device(&file, (3, 1, 0), &over[..14]).0, 0, 32 + 256 * MIB);
     expect(run.add_device(&file, (3, 1, 0), &over[..15]).0, LIMIT, 0);
+}
+
+fn replaced_payload(run: &mut Comparison) {
+    let over = long_bytes(64 * MIB + 1);
+    let file = file_of(4, 1, |made| {
+        made.number(4, 2).device((2, 1, 0), b"second").device((1, 1, 0), b"");
+    });
+    let others = 16 + 16 + 4 + 16 + 16 + 6;
+    expect(run.replace_device(&file, (1, 1, 0), &over[1..]).0, 0, others + 64 * MIB);
+    expect(run.replace_device(&file, (1, 1, 0), &over).0, LIMIT, 0);
+    // The payload's bound comes before the key, and the key before the bound of DEVICES.
+    expect(run.replace_device(&file, (9, 1, 0), &over).0, LIMIT, 0);
+    expect(run.replace_device(&file, (9, 1, 0), b"").0, ABSENT, 0);
+    // A payload that fills DEVICES to its bound, and one byte more; a removal is asked no bound.
+    let file = of_devices_payload(256 * MIB);
+    let old = 256 * MIB - 4 - 5 * 16 - 4 * (64 * MIB - 200);
+    expect(run.replace_device(&file, (1, 1, 0), &over[..old]).0, 0, 32 + 256 * MIB);
+    expect(run.replace_device(&file, (1, 1, 0), &over[..old + 1]).0, LIMIT, 0);
+    expect(run.remove_device(&file, (1, 1, 0)).0, 0, 32 + 256 * MIB - 16 - old);
 }
 
 fn wrapper(run: &mut Comparison) {

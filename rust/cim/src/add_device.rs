@@ -1,0 +1,43 @@
+//! `cim add-device`: a snapshot with one device more.
+
+use crate::command::{with, Command, JSON, KEEP};
+use crate::failure::{of_snapshot, Failure};
+use crate::files;
+use crate::words::Words;
+use cimbrolau::snapshot;
+
+pub const COMMAND: Command = Command {
+    name: "add-device",
+    usage: &["FILE OUT --id N --version N --flags N --payload FILE"],
+    about: "write it with one device more",
+    help: "\
+Writes the canonical form of the snapshot with one device more to OUT, which may be FILE. The key of a
+device is its id, version and flags; one that is there already is refused as HAVE. Numbers are decimal,
+or hexadecimal behind 0x: the id up to 4294967295, version and flags up to 65535.
+",
+    options: &[
+        with("--id", "N", "the device's id"),
+        with("--version", "N", "the version of its payload"),
+        with("--flags", "N", "its flags"),
+        with("--payload", "FILE", "the file with its payload"),
+        KEEP,
+        JSON,
+    ],
+    run,
+};
+
+fn run(words: &Words) -> Result<(), Failure> {
+    let [name, out] = words.plain("FILE and OUT")?;
+    let id = words.number("--id", u32::MAX)?;
+    let version = words.number("--version", u16::MAX.into())? as u16;
+    let flags = words.number("--flags", u16::MAX.into())? as u16;
+    let payload = words.needed("--payload")?;
+    if name == "-" && payload == "-" {
+        return Err(Failure::Usage("only one input can be standard input".into()));
+    }
+    let target = files::claim(words, out)?;
+    let file = files::read(name, snapshot::MOST_BYTES)?;
+    let payload = files::read(payload, snapshot::MOST_PAYLOAD_BYTES)?;
+    let longer = snapshot::add_device(&file, (id, version, flags), &payload);
+    target.put(&longer.map_err(of_snapshot(&file))?)
+}

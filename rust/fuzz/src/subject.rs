@@ -1,0 +1,346 @@
+//! What is compared: the calls on one kind of input, the library's beside the reference's.
+
+use differential::library;
+use differential::random::Random;
+use differential::rings::{RingCalls, REFERENCE};
+use reference::answer::ROOM;
+use reference::{Answer, Reading};
+
+/// A call on an input with lent memory.
+pub type Call = Box<dyn Fn(&[u8], &mut [u8]) -> Answer>;
+
+/// A call of the library and the one of the reference that it has to equal.
+pub struct Pair {
+    pub name: &'static str,
+    pub ours: Call,
+    pub theirs: Call,
+    lends: Lends,
+}
+
+/// How much memory a call is lent.
+enum Lends {
+    /// About as much as the reference needs.
+    Needed,
+    /// As much as the input, and so many bytes more.
+    Input(usize),
+}
+
+/// The calls on one kind of input.
+pub struct Subject {
+    pub name: &'static str,
+    pub pairs: Vec<Pair>,
+}
+
+/// Bytes on both sides of lent memory that belong to nobody.
+const MARGIN: usize = 16;
+
+macro_rules! pair {
+    ($name:literal, $side:ident => $call:expr) => {
+        Pair {
+            name: $name,
+            ours: {
+                use library as $side;
+                Box::new($call)
+            },
+            theirs: {
+                use reference as $side;
+                Box::new($call)
+            },
+            lends: Lends::Needed,
+        }
+    };
+}
+
+/// Snapshot files.
+pub fn files() -> Subject {
+    Subject {
+        name: "files",
+        pairs: vec![
+            pair!("check", side => |file, _| side::check(file)),
+            pair!("sections", side => side::sections),
+            pair!("devices", side => side::devices),
+            pair!("disks", side => side::disks),
+            pair!("canonical", side => side::canonical),
+            pair!("add_device", side => |file, out| side::add_device(file, 3, 1, 0, b"new", out)),
+            pair!("add_disk", side => |file, out| side::add_disk(file, 256, b"base", b"", out)),
+        ],
+    }
+}
+
+/// Disk-controller wrappers.
+pub fn wrappers() -> Subject {
+    Subject {
+        name: "wrappers",
+        pairs: vec![
+            pair!("wrapper_check", side => |wrapper, _| side::wrapper_check(wrapper)),
+            pair!("controllers", side => side::controllers),
+            pair!("wrapper_canonical", side => side::wrapper_canonical),
+        ],
+    }
+}
+
+/// Messages: read, and written again.
+pub fn messages() -> Subject {
+    let read = |read: fn(&[u8]) -> Reading| -> Call {
+        Box::new(move |message, out| {
+            let Reading { number, place, tag, a, b, c, d, data_place, data_length } = read(message);
+            let numbers = [tag.into(), a, b, c, d, data_place, data_length];
+            for (part, number) in out[message.len()..].chunks_exact_mut(8).zip(numbers) {
+                part.copy_from_slice(&number.to_le_bytes());
+            }
+            Answer { number, place }
+        })
+    };
+    type Write = fn(u32, [u64; 4], &[u8], &mut [u8]) -> Answer;
+    let again = |write: Write| -> Call {
+        Box::new(move |message, out| {
+            let read = reference::message_read(message);
+            let data = message.get(read.data_place as usize..).unwrap_or(&[]);
+            let data = &data[..data.len().min(read.data_length as usize)];
+            write(read.tag, [read.a, read.b, read.c, read.d], data, out)
+        })
+    };
+    Subject {
+        name: "messages",
+        pairs: vec![
+            Pair {
+                name: "message_read",
+                ours: read(library::message_read),
+                theirs: read(reference::message_read),
+                lends: Lends::Input(56),
+            },
+            Pair {
+                name: "message_write",
+                ours: again(library::message_write),
+                theirs: again(|tag, [a, b, c, d], data, out| {
+                    reference::message_write(tag, a, b, c, d, data, out)
+                }),
+                lends: Lends::Needed,
+            },
+        ],
+    }
+}
+
+/// CPU and MMU states: a field read, and a field set in a copy of the state.
+pub fn states() -> Subject {
+    type Set = fn(&mut [u8], u32, u32, &[u8]) -> Answer;
+    let set = |set: Set| -> Call {
+        Box::new(move |state, out| {
+            let (field, index) = field_of(state);
+            out.copy_from_slice(state);
+            // A value of one of the widths that fields have.
+            let width =
+                state.get(2).map_or(0, |byte| [1, 2, 4, 8, 16, 512][usize::from(*byte) % 6]);
+            let width = width.min(state.len());
+            set(out, field, index, &state[..width])
+        })
+    };
+    let sets = |name, ours: Set, theirs: Set| Pair {
+        name,
+        ours: set(ours),
+        theirs: set(theirs),
+        lends: Lends::Input(0),
+    };
+    Subject {
+        name: "states",
+        pairs: vec![
+            pair!("cpu_field", side => |state, out| {
+                let (field, index) = field_of(state);
+                side::cpu_field(state, field, index, out)
+            }),
+            pair!("mmu_field", side => |state, out| {
+                let (field, index) = field_of(state);
+                side::mmu_field(state, field, index, out)
+            }),
+            sets("cpu_set", library::cpu_set, reference::cpu_set),
+            sets("mmu_set", library::mmu_set, reference::mmu_set),
+        ],
+    }
+}
+
+/// A field and an index, by the state's first bytes.
+fn field_of(state: &[u8]) -> (u32, u32) {
+    let byte = |at: usize| u32::from(state.get(at).copied().unwrap_or(0));
+    (byte(0) % 28, byte(1) % 18)
+}
+
+/// Regions, with these calls in the library's place.
+pub fn regions(calls: RingCalls) -> Subject {
+    let mut pairs = vec![Pair {
+        name: "region_check",
+        ours: Box::new(move |region, _| (calls.check)(region)),
+        theirs: Box::new(|region, _| (REFERENCE.check)(region)),
+        lends: Lends::Needed,
+    }];
+    for queue in [0, 1, 2] {
+        for (name, make) in RING_CALLS {
+            pairs.push(Pair {
+                name,
+                ours: make(calls, queue),
+                theirs: make(REFERENCE, queue),
+                lends: Lends::Input(24),
+            });
+        }
+    }
+    Subject { name: "regions", pairs }
+}
+
+/// The library's calls on regions.
+pub fn library_regions() -> Subject {
+    regions(library::RINGS)
+}
+
+type MakeCall = fn(RingCalls, u32) -> Call;
+
+/// The calls on one queue. Each works on a copy of the region in the lent memory, and its other numbers stand behind that.
+const RING_CALLS: [(&str, MakeCall); 5] = [
+    ("ring_report", |calls, queue| {
+        Box::new(move |region, out| {
+            let cursors = (calls.report)(region, queue);
+            let numbers = [cursors.head as u64, cursors.reserve as u64, cursors.commit as u64];
+            put(region, out, numbers);
+            Answer { number: cursors.number, place: cursors.place }
+        })
+    }),
+    ("ring_reserve", |calls, queue| {
+        Box::new(move |region, out| {
+            let length = wanted(region, queue);
+            put(region, out, [0; 3]);
+            let pair = (calls.reserve)(&mut out[..region.len()], queue, length);
+            let numbers = [pair.start.into(), pair.end.into(), 0];
+            behind(region, out, numbers);
+            Answer { number: pair.number, place: pair.place }
+        })
+    }),
+    ("ring_fill", |calls, queue| {
+        Box::new(move |region, out| {
+            let (start, end) = pending(region, queue);
+            let payload = vec![0xA5; fitting(region, queue, start, end)];
+            put(region, out, [0; 3]);
+            (calls.fill)(&mut out[..region.len()], queue, start, end, &payload)
+        })
+    }),
+    ("ring_commit", |calls, queue| {
+        Box::new(move |region, out| {
+            let (start, end) = pending(region, queue);
+            // Sometimes a pair that is not the next one.
+            let start = if region.len() & 4 == 0 { start } else { start.wrapping_add(4) };
+            put(region, out, [0; 3]);
+            (calls.commit)(&mut out[..region.len()], queue, start, end)
+        })
+    }),
+    ("ring_take", |calls, queue| {
+        Box::new(move |region, out| {
+            put(region, out, [0; 3]);
+            let record = (calls.take)(&mut out[..region.len()], queue);
+            behind(region, out, [record.payload_place, record.payload_length, 0]);
+            Answer { number: record.number, place: record.place }
+        })
+    }),
+];
+
+/// From commit to reserve, as the reference reports them.
+fn pending(region: &[u8], queue: u32) -> (u32, u32) {
+    let cursors = reference::ring_report(region, queue);
+    (cursors.commit as u32, cursors.reserve as u32)
+}
+
+/// The capacity that the descriptor of a queue says; 0 where there is none.
+fn capacity(region: &[u8], queue: u32) -> u32 {
+    let at = 24 + 16 * queue as usize;
+    match region.get(at..at + 4) {
+        Some(bytes) => u32::from_le_bytes(bytes.try_into().expect("four bytes")),
+        None => 0,
+    }
+}
+
+/// A length to reserve, by the region's last byte: that byte, or about half the ring.
+fn wanted(region: &[u8], queue: u32) -> u64 {
+    let last = u64::from(region.last().copied().unwrap_or(0));
+    match last % 2 {
+        0 => u64::from(capacity(region, queue) / 2).saturating_sub(8) + last / 2 % 8,
+        _ => last,
+    }
+}
+
+/// The length of a payload that a pair has room for, behind the skip if it has one; now and then a few bytes less.
+fn fitting(region: &[u8], queue: u32, start: u32, end: u32) -> usize {
+    let bytes = end.wrapping_sub(start);
+    let left = match capacity(region, queue) {
+        0 => 0,
+        capacity => capacity - start % capacity,
+    };
+    let record = if bytes > left { bytes - left } else { bytes };
+    let less = u32::from(region.last().copied().unwrap_or(0)) & 3;
+    record.saturating_sub(4 + less).min(65_536) as usize
+}
+
+/// A copy of the region, and numbers behind it.
+fn put(region: &[u8], out: &mut [u8], numbers: [u64; 3]) {
+    out[..region.len()].copy_from_slice(region);
+    behind(region, out, numbers);
+}
+
+fn behind(region: &[u8], out: &mut [u8], numbers: [u64; 3]) {
+    for (part, number) in out[region.len()..].chunks_exact_mut(8).zip(numbers) {
+        part.copy_from_slice(&number.to_le_bytes());
+    }
+}
+
+/// What was answered to an input, as a number that is another for answers of another kind.
+pub type Trace = u64;
+
+impl Subject {
+    /// Gives the input to every pair: the trace of the answers, or the first difference.
+    pub fn compare(&self, random: &mut Random, input: &[u8]) -> Result<Trace, String> {
+        let mut trace = 0;
+        for pair in &self.pairs {
+            let answer = pair.compare(random, input)?;
+            trace = mixed(mixed(trace, answer.number.into()), kind_of_place(answer));
+        }
+        Ok(trace)
+    }
+}
+
+/// Places that are near each other count as one, and so do results of nearly one length.
+fn kind_of_place(Answer { number, place }: Answer) -> u64 {
+    match number {
+        0 => u64::from((place + 1).ilog2()),
+        _ => (place / 4).min(512),
+    }
+}
+
+fn mixed(one: u64, other: u64) -> u64 {
+    (one ^ other).wrapping_mul(0x9E37_79B9_7F4A_7C15).rotate_left(29)
+}
+
+impl Pair {
+    fn compare(&self, random: &mut Random, input: &[u8]) -> Result<Answer, String> {
+        let length = match self.lends {
+            Lends::Input(more) => input.len() + more,
+            Lends::Needed => match (self.theirs)(input, &mut []) {
+                Answer { number: ROOM, place } => {
+                    let needed = place as usize;
+                    random.pick(&[needed, needed, needed + 9, needed - 1, 0])
+                }
+                _ => random.pick(&[0, 32, input.len() + 32]),
+            },
+        };
+        let salt = random.u8();
+        let lent = |at: usize| (at as u8).wrapping_mul(31).wrapping_add(salt);
+        let before: Vec<u8> = (0..length + 2 * MARGIN).map(lent).collect();
+        let (mut ours, mut theirs) = (before.clone(), before);
+        let wanted = (self.theirs)(input, &mut theirs[MARGIN..MARGIN + length]);
+        let given = (self.ours)(input, &mut ours[MARGIN..MARGIN + length]);
+        if given != wanted {
+            return Err(format!("{}: {given:?}, and the reference {wanted:?}", self.name));
+        }
+        match (0..ours.len()).find(|at| ours[*at] != theirs[*at]) {
+            None => Ok(wanted),
+            Some(at) => {
+                let place = at as i64 - MARGIN as i64;
+                Err(format!("{}: both {given:?}; lent byte {place} differs", self.name))
+            }
+        }
+    }
+}
