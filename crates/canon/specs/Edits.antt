@@ -189,9 +189,9 @@ abbrev pub fileBytes : Side → List ℕ → Site → Cut → List ℕ → List 
 fileBytes i s w c e = frontBytes i s c ++ (lowBytes i s w c ++ (e ++ backBytes i s w c))
 
 -- so many bytes of the payload come behind the place of an edit
-abbrev pub Left : Side → List ℕ → Site → Cut → ℕ → Type 0
-Left i s w c n = n ≡ length (highBytes i s w c) + length (oldTail i s)
+abbrev pub BytesBehind : Side → List ℕ → Site → Cut → ℕ → Type 0
+BytesBehind i s w c n = n ≡ length (highBytes i s w c) + length (oldTail i s)
 
 -- the payload has room for the count, an entry of n bytes and all else that stays
-abbrev pub Fills : Side → List ℕ → Site → Cut → ℕ → Type 0
-Fills i s w c n = c .bytes ≡ 4 + (length (lowBytes i s w c) + (n + (length (highBytes i s w c) + length (oldTail i s))))
+abbrev pub PayloadWith : Side → List ℕ → Site → Cut → ℕ → Type 0
+PayloadWith i s w c n = c .bytes ≡ 4 + (length (lowBytes i s w c) + (n + (length (highBytes i s w c) + length (oldTail i s))))
