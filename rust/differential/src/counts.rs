@@ -57,8 +57,8 @@ mod tests {
     }
 
     #[test]
-    #[should_panic(expected = "25 is the number of no answer")]
+    #[should_panic(expected = "19 is the number of no answer")]
     fn a_number_in_a_gap_is_no_answer() {
-        Counts::default().add(25);
+        Counts::default().add(19);
     }
 }

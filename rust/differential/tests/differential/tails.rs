@@ -16,7 +16,7 @@ fn section(run: &mut Comparison, id: u32, version: u16, count: u64) -> Made {
             4 => made.device((key, 1, 0), &[7; 3]),
             5 => made.disk(key, b"base", b""),
             7 => {
-                let state = make::cpu_state(&mut run.random, version, key % 2 == 0);
+                let state = make::cpu_state(&mut run.random, version, key == 0);
                 made.cpu(key, &state, &[5; 2])
             }
             _ => {
