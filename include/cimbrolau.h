@@ -16,7 +16,7 @@
  *
  * What a caller owes, and nothing can check:
  *   - each length is the number of bytes that the pointer before it points to; for a length of 0 any pointer will do, also a null one;
- *   - a lent buffer (`table`, `out`) overlaps no input of the same call, and nothing else touches either while the call runs.
+ *   - a lent buffer (`table`, `list`, `out`) overlaps no input of the same call, and nothing else touches either while the call runs.
  * All else is checked by the call.
  */
 #ifndef CIMBROLAU_H
@@ -191,6 +191,23 @@ struct cimbrolau_answer cimbrolau_controllers(const uint8_t *wrapper, size_t wra
 
 /* The canonical form of a wrapper, in address order. It is as long as the wrapper. */
 struct cimbrolau_answer cimbrolau_wrapper_canonical(const uint8_t *wrapper, size_t wrapper_length, uint8_t *out, size_t out_length);
+
+/* ---- readiness */
+
+/* Whether a file is ready to restore. */
+struct cimbrolau_readiness {
+    uint32_t number;
+    uint32_t yes;    /* 1 for a yes; 0 for a no, and beside a refusal */
+    uint64_t place;  /* the bytes written to the list: 0 for a yes */
+};
+
+/*
+ * A yes exactly if the file is taken, its devices include an interrupt controller (2 or 21), PIT 3, RTC 4, i8042 13, ACPI PM 16, HPET 17 and exactly
+ * one entry with id 6, whose payload is an accepted wrapper, and the disks 0 and 1 are there. For a no the list says what is missing, 8 bytes for each
+ * thing, two u32: 1 and the id of a device, in the order 3, 4, 6, 13, 16, 17, 21, where 21 stands for either controller; then 2 and the id of a disk.
+ * 72 bytes are enough for every list.
+ */
+struct cimbrolau_readiness cimbrolau_ready(const uint8_t *file, size_t file_length, uint8_t *list, size_t list_length);
 
 /* ---- messages */
 

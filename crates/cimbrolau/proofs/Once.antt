@@ -18,6 +18,9 @@ use Rattle.numbers.specs.Numbers.{told, writeNumbers}
 use Rattle.region.specs.declared.Cursors.{Cursors}
 use Rattle.region.specs.Region.{regionChecks}
 use Rattle.region.specs.Report.{asCursors, reportCall}
+use Rattle.ready.specs.declared.Readiness.{Readiness}
+use Rattle.ready.specs.Missing.{readyCall, Tells}
+use Rattle.ready.proofs.Once.{tells-once}
 use Rattle.access.specs.declared.Access.{Access}
 use Rattle.access.specs.Access.{accessOf}
 use Rattle.fields.specs.declared.State.the-variants.{Cpu, Mmu}
@@ -114,6 +117,9 @@ module _ (b : List ℕ) (n i : ℕ) {r s : Answer} {new now : List ℕ} where
 
   pub mmu-set-once : (v : List ℕ) → Changes (length v) (setCall Mmu b n i v) b r new → Changes (length v) (setCall Mmu b n i v) b s now → (r ≡ s) × (new ≡ now)
   mmu-set-once v x y = changes-once x y
+
+pub ready-once : (file old : List ℕ) {r s : Readiness} {new now : List ℕ} → Tells (readyCall (length old) file) old r new → Tells (readyCall (length old) file) old s now → (r ≡ s) × (new ≡ now)
+ready-once file old x y = tells-once x y
 
 pub access-once : (w : ℕ) {r s : Access} → r ≡ accessOf w → s ≡ accessOf w → r ≡ s
 access-once w e f = equal-once e f

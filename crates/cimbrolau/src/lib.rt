@@ -4,6 +4,7 @@ use access::Access;
 use answer::Answer;
 use numbers::Numbers;
 use numbers::Told;
+use ready::Readiness;
 use region::Cursors;
 use rings::Pair;
 use rings::Record;
@@ -16,6 +17,7 @@ ghost use Rattle.messages.specs.Reading.{readMessage, reading};
 ghost use Rattle.numbers.specs.Numbers.{told, writeNumbers};
 ghost use Rattle.region.specs.Region.{regionChecks};
 ghost use Rattle.region.specs.Report.{asCursors, reportCall};
+ghost use Rattle.ready.specs.Missing.{readyCall, Tells};
 ghost use Rattle.access.specs.Access.{accessOf};
 ghost use Rattle.fields.specs.declared.State.the-variants.{Cpu, Mmu};
 ghost use Rattle.fields.specs.Fields.{fieldCall, setCall, Changes};
@@ -140,6 +142,15 @@ pub extern "C" fn cimbrolau_wrapper_canonical(wrapper: &[u8], out: &mut [u8]) ->
     ensures { λ r. ⌜ Writes (wrapped.canonicalCall (length (now (out .entry))) (now (wrapper .entry))) (now (out .entry)) r (now (out .exit)) ⌝ }
 {
     dskc::canonical(wrapper, out)
+}
+
+// ---- readiness
+
+#[no_mangle]
+pub extern "C" fn cimbrolau_ready(file: &[u8], list: &mut [u8]) -> Readiness
+    ensures { λ r. ⌜ Tells (readyCall (length (now (list .entry))) (now (file .entry))) (now (list .entry)) r (now (list .exit)) ⌝ }
+{
+    ready::ready(file, list)
 }
 
 // ---- messages

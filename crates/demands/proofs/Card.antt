@@ -28,6 +28,7 @@ use Rattle.fields.specs.declared.State.{State}
 use Rattle.fields.specs.Layout.{rowAt}
 use Rattle.fields.specs.Fields.{listed, valueChecks, bytesAt, fieldChecks, fieldCall, setCall, stored, Changes}
 use Rattle.demands.proofs.Rings.{rings}
+use Rattle.demands.proofs.Ready.{ready}
 use Rattle.demands.proofs.Sheet.{sheet}
 
 -- ---- addresses
@@ -118,6 +119,7 @@ card = record {
   message-read = λ message. reading-not (messages.readMessage message) (demand1 .message-read message .faults);
   message-write = λ message bytes. fills-not (demand1 .message-write message bytes);
   numbers-write = λ n bytes. fills-not (demand1 .numbers-write n bytes);
+  ready = λ file old new r w k. number-not (r .number) (ready .numbers file old new r w (λ i. omega arith)) k;
   region-check = λ b r e k. let z = rings .calls .check b r e .else (λ i. omega arith) in omega arith;
   report = λ b q r e k. let z = rings .calls .report b q r e .else (λ i. omega arith) in omega arith;
   reserve = λ b q n new r w k. let z = rw k at (rings .calls .reserve q n .stays b new r w (λ i. omega arith) .0) in let y : _≡_ {A = ℕ} 0 1 = cc in omega arith;

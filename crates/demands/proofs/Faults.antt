@@ -1,34 +1,18 @@
--- Every fault of a wrapper or a message has a number of document 01's table other than ROOM and HAVE, as those of a file have.
+-- Every fault of a message has a number of document 01's table other than ROOM and HAVE, as those of a file and of a wrapper have.
 -- Assumes nothing.
 use mathlib.Core.Path.{refl}
 use mathlib.Core.List.{List, [], _∷_}
 use Prim.Native.Nat.{ℕ, _+_}
-use lib.ListN.{drop}
-use Rattle.answer.specs.Outcome.{taken, moved, Faulty}
+use Rattle.answer.specs.Outcome.{taken, Faulty}
 use Rattle.order.proofs.Folds.{every-append}
-use Rattle.entries.specs.Kinds.{controllers}
-use Rattle.lists.specs.Lists.{listAt}
-use Rattle.aerosnap.proofs.Named.{Numbered, checked-faulty, moved-faulty, EntryFaults, list-faulty}
-use Rattle.dskc.specs.Wrapper as wrapped
+use Rattle.aerosnap.proofs.Named.{Numbered, checked-faulty}
+pub use Rattle.ready.proofs.Accepted.{wrapper-faulty}
 use Rattle.kinds.specs.declared.Body.{Body as Behind}
 use Rattle.kinds.specs.declared.Body.the-variants.{Empty, Bytes, Text}
 use Rattle.kinds.specs.declared.Cell.{Cell}
 use Rattle.kinds.specs.Kinds.{paper, cells, okOf}
 use Rattle.messages.specs.Fields.{fieldWidth, messageAt}
 use Rattle.messages.specs.Reading.{fieldChecks, bodyChecks, numbersEnd, messageContent, readChecks, readMessage}
-
--- ---- the wrapper
-
-controller-faults : EntryFaults controllers
-controller-faults = record {
-  early = λ b. (refl, tt);
-  form = ((λ e. checked-faulty (controllers .early e) (taken tt) (refl, tt) tt), ((λ n. tt), λ e. tt));
-}
-
-pub wrapper-faulty : (s : List ℕ) → Faulty (wrapped.wrapperOf s)
-unfolding wrapped.wrapperOf
-wrapper-faulty s =
-    checked-faulty (wrapped.headerChecks s) (moved 16 (listAt controllers (drop 16 s))) (refl, (refl, (refl, (refl, (refl, (refl, tt)))))) (moved-faulty 16 (listAt controllers (drop 16 s)) (list-faulty controller-faults (drop 16 s)))
 
 -- ---- the message
 

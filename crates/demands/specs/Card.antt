@@ -25,6 +25,8 @@ use Rattle.fields.specs.Fields.{fieldCall, setCall, Changes}
 use Rattle.region.specs.declared.Cursors.{Cursors}
 use Rattle.region.specs.Region.{regionChecks}
 use Rattle.region.specs.Report.{asCursors, reportCall}
+use Rattle.ready.specs.declared.Readiness.{Readiness}
+use Rattle.ready.specs.Missing.{readyCall, Tells}
 use Rattle.rings.specs.declared.Pair.{Pair}
 use Rattle.rings.specs.declared.Record.{Record}
 use Rattle.rings.specs.Calls.{asAnswer, asPair, asRecord, Leaves, reserveCall, fillCall, commitCall, takeCall}
@@ -66,6 +68,7 @@ pub record Card : Type 0 where
   pub message-read : (message : List ℕ) (r : Reading) → r ≡ messages.reading (messages.readMessage message) → r .number ≢ withdrawn
   pub message-write : (message : Message) (bytes : List ℕ) → WritesNever (writeMessage message bytes)
   pub numbers-write : (n : Numbers) (bytes : List ℕ) → WritesNever (writeNumbers n bytes)
+  pub ready : (file old new : List ℕ) (r : Readiness) → Tells (readyCall (length old) file) old r new → r .number ≢ withdrawn
   pub region-check : (b : List ℕ) (r : Answer) → r ≡ verdict (asked (regionChecks b)) → r .number ≢ withdrawn
   pub report : (b : List ℕ) (q : ℕ) (r : Cursors) → r ≡ asCursors (reportCall b q) → r .number ≢ withdrawn
   pub reserve : (b : List ℕ) (q n : ℕ) (new : List ℕ) (r : Pair) → Leaves asPair (reserveCall b q n) b r new → r .number ≢ withdrawn

@@ -74,6 +74,27 @@ pub fn ram(size: usize) -> Vec<u8> {
     file
 }
 
+/// A panel that is ready to restore: a label, 1 MiB of RAM, eight devices that are needed and `more` others, two disks.
+pub fn panel(more: u32, order: Order) -> Vec<u8> {
+    let needed = [2, 3, 4, 6, 13, 16, 17, 21];
+    let mut ids: Vec<u32> = needed.into_iter().chain(100..100 + more).collect();
+    match order {
+        Order::Ascending => (),
+        Order::Random => shuffle(&mut ids),
+        Order::Descending => ids.reverse(),
+    }
+    let mut devices = (ids.len() as u32).to_le_bytes().to_vec();
+    for id in ids {
+        let payload = if id == 6 { &cimbrolau::wrapper::EMPTY[..] } else { &[0x11; 64] };
+        framed(&mut devices, id, payload);
+    }
+    let mut disks = 2u32.to_le_bytes().to_vec();
+    disk(&mut disks, 0, b"panel.img");
+    disk(&mut disks, 1, b"");
+    let ram = vec![0xA5; 1 << 20];
+    file(&[(META, meta()), (RAM, ram), (DEVICES, devices), (DISKS, disks)])
+}
+
 fn meta() -> Vec<u8> {
     let mut payload = vec![0; 8 + 1 + 8];
     payload.push(1);

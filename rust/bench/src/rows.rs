@@ -46,12 +46,13 @@ const MIB: usize = 1 << 20;
 type Group = (&'static str, fn(Tell));
 
 /// All rows.
-pub const GROUPS: [Group; 5] = [
+pub const GROUPS: [Group; 6] = [
     ("sizes", sizes),
     ("counts", counts),
     ("texts", texts),
     ("messages", messages),
     ("rings", rings),
+    ("ready", ready),
 ];
 
 /// The reference beside itself, on a short call and on a long one: how far a ratio can be trusted in this run.
@@ -361,6 +362,40 @@ fn region_row(queues: u32) -> Row {
     let outcome = contest(&contestants, &mut []);
     let most = (queues == 64).then_some(1000.0);
     Row { most, ..row("region_check", &input, "reference", RINGS, &outcome) }
+}
+
+/// The most that readiness may take beside the reference's.
+const READY: f64 = 1.0;
+
+/// Readiness: of a file with no section, of a panel that has all that is needed and of one that has nothing of it, and of panels with more devices.
+fn ready(tell: Tell) {
+    tell(ready_row(&inputs::ram(16), "16 B, no section", 72));
+    tell(ready_row(&inputs::devices(1, 64, Order::Ascending), "1 device, not needed", 72));
+    tell(ready_row(&inputs::panel(0, Order::Random), "a panel, 1 MiB, ready", 0));
+    for count in [16, 256, 4088] {
+        for order in Order::ALL {
+            let input = format!("a panel, {count} devices more {}", order.name());
+            tell(ready_row(&inputs::panel(count, order), &input, 0));
+        }
+    }
+}
+
+/// One answer, with a list of so many bytes.
+fn ready_row(file: &[u8], input: &str, listed: u64) -> Row {
+    let (mut ours, mut theirs) = ([0xEE; 80], [0xEE; 80]);
+    let answer = raw::ready(file, &mut ours);
+    let expected = reference::ready(file, &mut theirs);
+    assert_eq!((answer.number, answer.place), (0, listed), "{input}: another answer");
+    assert_eq!(
+        (answer.yes, answer.place, ours),
+        (expected.yes, expected.place, theirs),
+        "{input}: they differ"
+    );
+    let contestants = [
+        contestant(|list| raw::ready(black_box(file), list)),
+        contestant(|list| reference::ready(black_box(file), list)),
+    ];
+    row("ready", input, "reference", READY, &contest(&contestants, &mut ours))
 }
 
 fn row(call: &'static str, input: &str, peer: &'static str, target: f64, outcome: &Outcome) -> Row {

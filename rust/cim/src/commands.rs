@@ -3,7 +3,9 @@
 
 use crate::command::Command;
 use crate::{add_device, add_disk, canon, check, completions, diff, explain, extract, list};
-use crate::{manual, message, region, remove_device, remove_disk, replace_device, show, wrapper};
+use crate::{
+    manual, message, ready, region, remove_device, remove_disk, replace_device, show, wrapper,
+};
 
 pub const ALL: &[Command] = &[
     check::COMMAND,
@@ -12,6 +14,7 @@ pub const ALL: &[Command] = &[
     show::COMMAND,
     diff::COMMAND,
     extract::COMMAND,
+    ready::COMMAND,
     canon::COMMAND,
     add_device::COMMAND,
     add_disk::COMMAND,

@@ -16,8 +16,8 @@ is written beside its target and renamed once it is on the disk: the target is t
 one, whole. Commands that write to one file wait for each other, up to a minute.
 
 Status: 0 done; 1 refused, with the refusal on standard error as `refused NUMBER NAME at PLACE: WHY`, or
-different, or not there; 2 a command line that is not understood; 3 a file that cannot be read or written,
-or too little memory.
+different, not there or not ready; 2 a command line that is not understood; 3 a file that cannot be read or
+written, or too little memory.
 ";
 
 /// The column at which what a command does is said.

@@ -37,6 +37,7 @@ mod extract;
 mod list;
 mod manual;
 mod message;
+mod ready;
 mod region;
 mod remove_device;
 mod remove_disk;

@@ -23,6 +23,7 @@
 //!
 //! - [`snapshot`][]: snapshot files
 //! - [`wrapper`][]: disk-controller wrappers
+//! - [`ready`][]: whether a snapshot is ready to restore
 //! - [`Message`][]: messages
 //! - [`region`][]: regions of shared memory, and the rings in them
 //! - [`sheet`][]: the fields of CPU and MMU states
@@ -35,6 +36,7 @@ mod memory;
 mod message;
 #[allow(unsafe_code)]
 pub mod raw;
+pub mod ready;
 mod records;
 mod refusal;
 pub mod region;

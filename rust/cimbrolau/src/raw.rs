@@ -98,6 +98,19 @@ pub struct Pair {
     pub end: u32,
 }
 
+/// What readiness answers: a yes or a no, and how many bytes the list of what is missing has.
+#[repr(C)]
+#[must_use]
+#[derive(Clone, Copy, Debug, PartialEq, Eq)]
+pub struct Readiness {
+    /// 0 where the file is taken and the list has room, else the number of the refusal.
+    pub number: u32,
+    /// 1 for a yes; 0 for a no, and beside a refusal.
+    pub yes: u32,
+    /// The bytes written to the list, 8 for each thing that is missing, or the refusal's place.
+    pub place: u64,
+}
+
 /// What taking answers: where the payload stands in the region.
 #[repr(C)]
 #[must_use]
@@ -116,11 +129,11 @@ pub struct Record {
 // What the library answers with, by value: its sizes, on x86-64 and on Arm alike.
 const _: () = assert!(size_of::<Answer>() == 16 && size_of::<Numbers>() == 72);
 const _: () = assert!(size_of::<Cursors>() == 32 && size_of::<Pair>() == 24);
-const _: () = assert!(size_of::<Record>() == 32);
+const _: () = assert!(size_of::<Record>() == 32 && size_of::<Readiness>() == 16);
 
 /// The library's own functions. A slice is lent as a pointer and a length, for the time of the call.
 mod c {
-    use super::{Access, Answer, Cursors, Numbers, Pair, Record};
+    use super::{Access, Answer, Cursors, Numbers, Pair, Readiness, Record};
 
     extern "C" {
         pub fn cimbrolau_cpu_field(
@@ -243,6 +256,12 @@ mod c {
             out: *mut u8,
             out_length: usize,
         ) -> Answer;
+        pub fn cimbrolau_ready(
+            file: *const u8,
+            file_length: usize,
+            list: *mut u8,
+            list_length: usize,
+        ) -> Readiness;
         pub fn cimbrolau_message_read(message: *const u8, message_length: usize) -> Numbers;
         pub fn cimbrolau_message_write(
             tag: u32,
@@ -527,6 +546,22 @@ pub fn wrapper_canonical(wrapper: &[u8], out: &mut [u8]) -> Answer {
     unsafe {
         c::cimbrolau_wrapper_canonical(wrapper.as_ptr(), wrapper.len(), out.as_mut_ptr(), out.len())
     }
+}
+
+/// Whether a snapshot file is ready to restore; if it is not, writes the pairs of what is missing, two u32 each: 1 and the
+/// id of a device, then 2 and the id of a disk.
+///
+/// ```
+/// let mut list = [0; 80];
+/// let answer = cimbrolau::raw::ready(&cimbrolau::snapshot::EMPTY, &mut list);
+/// assert_eq!((answer.number, answer.yes, answer.place), (0, 0, 72)); // all nine are missing
+/// assert_eq!(list[..8], [1, 0, 0, 0, 3, 0, 0, 0]);
+/// assert_eq!(list[64..72], [2, 0, 0, 0, 1, 0, 0, 0]);
+/// ```
+pub fn ready(file: &[u8], list: &mut [u8]) -> Readiness {
+    // SAFETY: each pointer and length are of one live slice; the library reads `file` and writes within `list`,
+    // which no other reference names, during the call alone.
+    unsafe { c::cimbrolau_ready(file.as_ptr(), file.len(), list.as_mut_ptr(), list.len()) }
 }
 
 /// Reads a message.

@@ -6,7 +6,7 @@
 
 use std::fmt::Debug;
 
-use reference::{Answer, Reading};
+use reference::{Answer, Readiness, Reading};
 
 use crate::counts::Counts;
 use crate::library;
@@ -101,8 +101,46 @@ impl Comparison {
         let (ours, theirs) = (library::check(file), reference::check(file));
         let answer = self.answer("check", &[file], ours, theirs);
         self.outputs(&FILE_CALLS, file);
+        self.ready_somewhere(file);
         self.unchanged(before, file);
         answer
+    }
+
+    /// Readiness of a file, with a list whose length is chosen about what the reference needs; and with room for all nine
+    /// pairs what the reference answers and lists.
+    pub fn ready(&mut self, file: &[u8]) -> (Readiness, Vec<u8>) {
+        self.inputs += 1;
+        let before = fingerprint(file);
+        self.ready_somewhere(file);
+        let mut list = vec![0; 72];
+        let readiness = reference::ready(file, &mut list);
+        list.truncate(if readiness.number == 0 { readiness.place as usize } else { 0 });
+        self.unchanged(before, file);
+        (readiness, list)
+    }
+
+    fn ready_somewhere(&mut self, file: &[u8]) {
+        let probe = reference::ready(file, &mut []);
+        let probe = Answer { number: probe.number, place: probe.place };
+        let room = self.lent_length(probe, file.len().min(72));
+        self.ready_in(file, room);
+    }
+
+    /// Readiness with a list of `room` bytes: the answer, and all of those bytes.
+    pub fn ready_in(&mut self, file: &[u8], room: usize) -> Readiness {
+        let salt = self.random.u8();
+        lay_pattern(&mut self.ours, room, salt);
+        lay_pattern(&mut self.theirs, room, salt);
+        let ours = library::ready(file, &mut self.ours[MARGIN..MARGIN + room]);
+        let theirs = reference::ready(file, &mut self.theirs[MARGIN..MARGIN + room]);
+        let written = if theirs.number == 0 { theirs.place as usize } else { 0 };
+        if self.ours != self.theirs || !pattern_stands(&self.theirs, written, salt) {
+            let what =
+                format!("library {ours:?}\nreference {theirs:?}\nlent {room} bytes, which differ");
+            self.fail("ready", &[file], &what);
+        }
+        self.answers.add(theirs.number);
+        self.same("ready", &[file], ours, theirs)
     }
 
     /// Every call that takes a wrapper; the answer to `wrapper_check`.

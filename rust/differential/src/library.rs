@@ -1,7 +1,7 @@
 //! The library's calls, with the reference's signatures, recorded where a run asks for it. No other module names the library.
 
 use cimbrolau::raw;
-use reference::{Access, Answer, Cursors, Pair, Reading, Record};
+use reference::{Access, Answer, Cursors, Pair, Readiness, Reading, Record};
 
 use crate::record::{changes, looks, number, writes, Bytes};
 use crate::rings::RingCalls;
@@ -85,6 +85,11 @@ pub fn replace_device(
         out,
         |out| answer!(raw::replace_device(file, id, version, flags, payload, out)),
     )
+}
+
+pub fn ready(file: &[u8], list: &mut [u8]) -> Readiness {
+    let given = raw::ready(file, list);
+    Readiness { number: given.number, yes: given.yes, place: given.place }
 }
 
 pub fn wrapper_check(wrapper: &[u8]) -> Answer {

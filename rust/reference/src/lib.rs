@@ -8,6 +8,7 @@
 //! - [`cursor`]: fields read one after the other, and bytes written one after the other;
 //! - [`list`]: the lists of devices, disks, CPUs, MMUs and controllers;
 //! - [`snapshot`], [`wrapper`], [`message`]: the three formats and their calls;
+//! - [`ready`]: what a snapshot lacks to be restored;
 //! - [`ring`]: regions of shared memory and the rings in them;
 //! - [`sheet`]: the fields of CPU and MMU states.
 
@@ -15,6 +16,7 @@ pub mod answer;
 pub mod cursor;
 pub mod list;
 pub mod message;
+pub mod ready;
 pub mod ring;
 pub mod sheet;
 pub mod snapshot;
@@ -22,6 +24,7 @@ pub mod wrapper;
 
 pub use answer::Answer;
 pub use message::{message_read, message_write, Reading};
+pub use ready::{ready, Readiness};
 pub use ring::{
     region_check, ring_commit, ring_fill, ring_report, ring_reserve, ring_take, Cursors, Pair,
     Record,

@@ -450,3 +450,15 @@ impl Changed<'_> {
         }
     }
 }
+
+// What readiness looks at.
+
+/// The devices and the disks of a file that is taken, each in key order.
+pub(crate) fn devices_and_disks(file: &[u8]) -> Taken<(List<'_>, List<'_>)> {
+    let mut sections = read_file(file)?;
+    let mut list_of = |id| {
+        let section = sections.iter_mut().find(|section| section.id == id);
+        section.and_then(|section| section.list.take()).unwrap_or_default()
+    };
+    Ok((list_of(DEVICES), list_of(DISKS)))
+}

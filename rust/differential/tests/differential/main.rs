@@ -12,6 +12,7 @@ mod bounds;
 mod breaks;
 mod messages;
 mod orders;
+mod ready;
 mod removals;
 mod rings;
 mod sheets;
@@ -61,6 +62,12 @@ const GROUPS: &[Group] = &[
     ("removals: what was just added", removals::undone),
     ("removals: payloads replaced twice", removals::replaced_twice),
     ("texts: every break", breaks::all),
+    ("ready: all subsets of what is needed", ready::subsets),
+    ("ready: two controllers, id 6 twice", ready::twice),
+    ("ready: broken wrappers", ready::wrappers),
+    ("ready: every room", ready::rooms),
+    ("ready: damaged panels", ready::damaged),
+    ("ready: any devices and disks", ready::any),
     ("bounds: counts", bounds::counts::all),
     ("bounds: texts and messages", bounds::texts::all),
     ("bounds: payloads", bounds::payloads::all),
