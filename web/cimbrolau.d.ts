@@ -61,6 +61,11 @@ export interface Controller {
   length: number;
   position: number;
 }
+/** Something that a file needs to be restored. */
+export interface Missing {
+  what: 'device' | 'disk';
+  id: number;
+}
 export interface Cursors {
   head: number;
   reserve: number;
@@ -106,6 +111,7 @@ export interface Raw {
   wrapper_check(wrapper: Bytes): Answer;
   controllers(wrapper: Bytes, table: Lent): Answer;
   wrapper_canonical(wrapper: Bytes, out: Lent): Answer;
+  ready(file: Bytes, list: Lent): Answer & { yes: number };
   message_read(message: Bytes): Answer & { tag: number; a: bigint; b: bigint; c: bigint; d: bigint; data_place: number; data_length: number };
   message_write(tag: number, a: number | bigint, b: number | bigint, c: number | bigint, d: number | bigint, data: Bytes, out: Lent): Answer;
   region_check(region: Bytes): Answer;
@@ -142,6 +148,9 @@ export class Cimbrolau {
   wrapperCheck(wrapper: Bytes): void;
   controllers(wrapper: Bytes): Controller[];
   wrapperCanonical(wrapper: Bytes): Bytes;
+
+  /** What a file lacks to be restored; nothing if it is ready. */
+  ready(file: Bytes): Missing[];
 
   messageRead(message: Bytes): Message;
   messageWrite(message: MessageToWrite): Bytes;

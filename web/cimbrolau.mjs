@@ -86,6 +86,7 @@ const CALLS = `
   answer   wrapper_check      wrapper
   answer   controllers        wrapper >table
   answer   wrapper_canonical  wrapper >out
+  ready    ready              file >list
   message  message_read       message
   answer   message_write      tag:u32 a:u64 b:u64 c:u64 d:u64 data >out
   answer   region_check       region
@@ -107,6 +108,7 @@ const CALLS = `
  */
 const ANSWERS = {
   answer: 'number:u32 place:size',
+  ready: 'number:u32 yes:u32 place:size',
   message: 'number:u32 place:size tag:u32 a:u64 b:u64 c:u64 d:u64 data_place:size data_length:size',
   cursors: 'number:u32 place:size head:i32 reserve:i32 commit:i32',
   pair: 'number:u32 place:size start:u32 end:u32',
@@ -361,6 +363,18 @@ export class Cimbrolau {
   /** The canonical form of a wrapper. */
   wrapperCanonical(wrapper) {
     return this.#do('wrapper_canonical', wrapper, Math.min(wrapper.length, 2 ** 26)).written;
+  }
+
+  // ---- readiness
+
+  /** What a file lacks to be restored, devices before disks; nothing if it is ready. Device 21 stands for an interrupt controller, 2 or 21. */
+  ready(file) {
+    const { written } = this.#do('ready', file, 72);
+    const view = new DataView(written.buffer);
+    return Array.from({ length: written.length / 8 }, (_, at) => ({
+      what: view.getUint32(8 * at, true) === 1 ? 'device' : 'disk',
+      id: view.getUint32(8 * at + 4, true),
+    }));
   }
 
   // ---- messages

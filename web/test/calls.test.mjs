@@ -122,6 +122,19 @@ test('wrappers', () => {
   assert.throws(() => cimbrolau.wrapperCheck(wrapper.slice(0, 8)), refused('SHORT', 0));
 });
 
+test('readiness', () => {
+  const all = [3, 4, 6, 13, 16, 17, 21].map((id) => ({ what: 'device', id }));
+  const disks = [0, 1].map((id) => ({ what: 'disk', id }));
+  assert.deepEqual(cimbrolau.ready(EMPTY), [...all, ...disks]);
+  let file = EMPTY;
+  const wrapper = new Uint8Array([...ascii('AERO'), 1, 0, 0, 0, ...ascii('DSKC'), 1, 0, 0, 0, 0, 0, 0, 0]);
+  for (const id of [3, 4, 6, 13, 16, 17, 2]) file = cimbrolau.addDevice(file, { id, version: 1, flags: 0 }, id === 6 ? wrapper : new Uint8Array());
+  assert.deepEqual(cimbrolau.ready(file), disks);
+  for (const { id } of disks) file = cimbrolau.addDisk(file, id, 'base', '');
+  assert.deepEqual(cimbrolau.ready(file), []);
+  assert.throws(() => cimbrolau.ready(file.slice(0, 9)), refused('SHORT', 0));
+});
+
 test('messages of every kind', () => {
   for (const [tag, kind, fields, data] of MESSAGES) {
     const message = { tag, kind };

@@ -118,7 +118,7 @@ function recorded(reader, call, first) {
     const from = reader.u32();
     lent.set(reader.bytes(reader.u32()), from);
   } else if (lent && wanted[0] === 0) {
-    lent.set(reader.bytes(wanted[1]));
+    lent.set(reader.bytes(wanted[call.answer.findIndex(({ name }) => name === 'place')]));
   }
   return { given, wanted, lent };
 }

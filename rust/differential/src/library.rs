@@ -88,8 +88,10 @@ pub fn replace_device(
 }
 
 pub fn ready(file: &[u8], list: &mut [u8]) -> Readiness {
-    let given = raw::ready(file, list);
-    Readiness { number: given.number, yes: given.yes, place: given.place }
+    writes("ready", &[Bytes(file)], list, |list| {
+        let given = raw::ready(file, list);
+        Readiness { number: given.number, yes: given.yes, place: given.place }
+    })
 }
 
 pub fn wrapper_check(wrapper: &[u8]) -> Answer {

@@ -14,7 +14,7 @@ use std::io::{BufWriter, Write};
 use std::path::Path;
 use std::sync::{Mutex, OnceLock};
 
-use reference::{Access, Answer, Cursors, Pair, Reading, Record};
+use reference::{Access, Answer, Cursors, Pair, Readiness, Reading, Record};
 
 /// One input in so many is recorded.
 const EVERY: u64 = 16;
@@ -56,8 +56,27 @@ fields! {
     Cursors: number place head reserve commit;
     Pair: number place start end;
     Record: number place payload_place payload_length;
+    Readiness: number yes place;
     Access: kind level present long_mode size granularity unusable rest;
 }
+
+/// What calls answer that write to lent memory.
+pub trait Written: Fields {
+    /// The bytes written.
+    fn written(&self) -> usize;
+}
+
+macro_rules! written {
+    ($($answered:ty)*) => {
+        $(impl Written for $answered {
+            fn written(&self) -> usize {
+                if self.number == 0 { self.place as usize } else { 0 }
+            }
+        })*
+    };
+}
+
+written!(Answer Readiness);
 
 /// A number of up to 64 bits, or the 32 bits of a signed one.
 fn low_bits(number: impl TryInto<u64> + TryInto<i32> + Copy) -> u64 {
@@ -112,12 +131,12 @@ pub fn looks<T: Fields>(name: &str, given: &[Given], call: impl Fn() -> T) -> T 
 }
 
 /// A call that writes to lent memory, its last argument.
-pub fn writes(
+pub fn writes<T: Written>(
     name: &str,
     given: &[Given],
     out: &mut [u8],
-    call: impl Fn(&mut [u8]) -> Answer,
-) -> Answer {
+    call: impl Fn(&mut [u8]) -> T,
+) -> T {
     if let Some(recorder) = RECORDER.get() {
         let mut recorder = recorder.lock().unwrap();
         let salt = recorder.calls as u8;
@@ -126,7 +145,7 @@ pub fn writes(
         let again = || {
             let mut own = pattern(out.len(), salt);
             let answer = call(&mut own);
-            let written = if answer.number == 0 { answer.place as usize } else { 0 };
+            let written = answer.written();
             assert!(own[written..] == pattern(out.len(), salt)[written..], "{name} wrote too much");
             (answer.fields(), own[..written].to_vec())
         };
@@ -195,7 +214,7 @@ impl Recorder {
             self.met += 1;
             self.last = first.to_vec();
         }
-        if self.met % EVERY != 0 || first.len().max(lent) > LONGEST {
+        if !self.met.is_multiple_of(EVERY) || first.len().max(lent) > LONGEST {
             return;
         }
         let same = self.recorded.as_deref() == Some(first);
