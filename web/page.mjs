@@ -1,6 +1,6 @@
 // The page. tools/page puts it into index.html behind cimbrolau.mjs, with WASM (the library in base64), CARD (the rows of docs/REFUSALS.md) and NAMES
 // (sections and devices as rust/cim/src/names.rs has them) before it.
-import { Refusal, load } from './cimbrolau.mjs';
+import { MOST_LENT, Refusal, load } from './cimbrolau.mjs';
 import { CARD, NAMES, WASM } from './embedded.mjs';
 
 const cimbrolau = load(Uint8Array.from(atob(WASM), (letter) => letter.charCodeAt(0)));
@@ -48,7 +48,10 @@ const missingWords = ({ what, id }) => {
 
 // ---- drawing
 
-/** A strip of parts to scale: each has a start, a length, a class and words. What would be thinner than a hairline is drawn as one. */
+/** The least share of a strip, in thousandths, that has a name in it. */
+const NAMED = 75;
+
+/** A strip of parts to scale: each has a start, a length, a class, a name and words. What would be thinner than a hairline is drawn as one. */
 function strip(parts, length, label, left, right, place) {
   const scale = 1000 / Math.max(length, 1);
   const svg = make('svg', { viewBox: '0 0 1000 46', preserveAspectRatio: 'none', role: 'img', 'aria-label': label });
@@ -61,7 +64,13 @@ function strip(parts, length, label, left, right, place) {
     const x = Math.min(Math.max(place * scale, 1.5), 998.5);
     svg.append(make('line', { x1: x, x2: x, y1: 0, y2: 46, class: 'place' }, make('title', {}, `the place, byte ${whole(place)}`)));
   }
-  return make('figure', {}, svg, make('figcaption', {}, make('span', {}, left), make('span', {}, right)));
+  const names = parts.filter((part) => part.length * scale > NAMED).map((part) => {
+    const name = make('span', { 'aria-hidden': 'true' }, part.name ?? '');
+    name.style.left = `${(part.start * scale) / 10}%`;
+    name.style.width = `${(part.length * scale) / 10}%`;
+    return name;
+  });
+  return make('figure', {}, make('div', { class: 'strip' }, svg, names), make('figcaption', {}, make('span', {}, left), make('span', {}, right)));
 }
 
 function table(label, heads, rows) {
@@ -81,17 +90,21 @@ function table(label, heads, rows) {
 const swatch = (kind, name) => [make('span', { class: `swatch ${kind}`, 'aria-hidden': 'true' }), name];
 const share = (part, all) => (all === 0 ? '0 %' : part / all >= 0.0005 ? `${((100 * part) / all).toFixed(1)} %` : 'under 0.1 %');
 
-/** The sections behind each other, each with its header, in a strip of their own. */
-function sectionStrip(sections, keep, caption, label) {
-  let at = 0;
+/** The sections behind each other, each with its header, behind that of the file; and where they end. */
+function partsOf(sections) {
   const parts = [{ start: 0, length: 16, kind: 'k0', words: 'the header of the file, 16 bytes' }];
-  at = 16;
-  for (const section of sections.filter(keep)) {
+  let at = 16;
+  for (const section of sections) {
     const words = `${sectionName(section.id)}, ${size(section.length)} from byte ${whole(section.offset)}`;
-    parts.push({ start: at, length: 16 + section.length, kind: colour(section.id), words });
+    parts.push({ start: at, length: 16 + section.length, kind: colour(section.id), name: sectionName(section.id), words });
     at += 16 + section.length;
   }
-  return strip(parts, at, label, caption, size(at));
+  return { parts, end: at };
+}
+
+function sectionStrip(sections, caption, label) {
+  const { parts, end } = partsOf(sections);
+  return strip(parts, end, label, caption, size(end));
 }
 
 function drawSections({ bytes, sections }) {
@@ -99,8 +112,8 @@ function drawSections({ bytes, sections }) {
   const words = sections.map(({ id, length }) => `${sectionName(id)} ${size(length)}`).join(', ');
   return [
     make('h3', {}, `${plural(sections.length, 'section')}, to scale`),
-    sectionStrip(sections, () => true, 'the whole file', `The sections in the order of the file: ${words || 'none'}`),
-    ram && ram.length > bytes.length / 2 ? sectionStrip(sections, ({ id }) => id !== 6, 'the same without RAM', 'The sections but for RAM') : null,
+    sectionStrip(sections, 'the whole file', `The sections in the order of the file: ${words || 'none'}`),
+    ram && ram.length > bytes.length / 2 ? sectionStrip(sections.filter(({ id }) => id !== 6), 'the same without RAM', 'The sections but for RAM') : null,
     sections.length === 0
       ? null
       : table(
@@ -115,7 +128,7 @@ function drawDevices({ devices, sections }) {
   const section = sections.find(({ id }) => id === 4);
   if (!section) return [make('h3', {}, 'No devices')];
   const inFile = [...devices].sort((one, next) => one.position - next.position);
-  const parts = inFile.map((device, at) => ({ start: device.offset - 16 - section.offset, length: 16 + device.length, kind: at % 2 ? 'k4' : 'k6', words: `device ${keyWords(device)}, ${size(device.length)}` }));
+  const parts = inFile.map((device, at) => ({ start: device.offset - 16 - section.offset, length: 16 + device.length, kind: at % 2 ? 'k4' : 'k6', name: deviceName(device.id), words: `device ${keyWords(device)}, ${size(device.length)}` }));
   return [
     make('h3', {}, `${plural(devices.length, 'device')}, to scale within their section`),
     strip(parts, section.length, `The devices in the order of the file: ${inFile.map(({ id, length }) => `${deviceName(id)} ${size(length)}`).join(', ')}`, 'the section DEVICES', size(section.length)),
@@ -178,6 +191,7 @@ function looked(library, name, bytes) {
     file.canonical = sameBytes(file.form, bytes);
   } catch (error) {
     file.error = error;
+    if (error instanceof Refusal) file.before = sectionsBefore(library, bytes, error.place);
   }
   return file;
 }
@@ -199,7 +213,35 @@ function readiness({ missing }) {
   );
 }
 
-function drawRefusal({ bytes, error }) {
+/**
+ * The section that a place is charged to, and the sections before it: a file that is cut at the place is refused at the start of that section, and one that is cut
+ * there is taken. Nothing, where the place is in the header.
+ */
+function sectionsBefore(library, bytes, place) {
+  const cut = library.raw.check(bytes.subarray(0, place));
+  const start = cut.number === 0 ? place : cut.number === CUT ? cut.place : 0;
+  if (start < 16 || start > bytes.length || library.raw.check(bytes.subarray(0, start)).number !== 0) return null;
+  const id = start + 4 <= bytes.length ? new DataView(bytes.buffer).getUint32(start, true) : undefined;
+  return { start, id, sections: library.sections(bytes.subarray(0, start)) };
+}
+const CUT = 7;
+
+function drawPlace(bytes, place, before) {
+  const parts = before ? partsOf(before.sections).parts : [];
+  const words = [];
+  if (before) {
+    const name = before.id === undefined ? 'a section that is cut' : `the section ${sectionName(before.id)}`;
+    const count = before.sections.length;
+    words.push(before.start === place ? `There ${name} starts.` : `It lies in ${name}, which starts at byte ${whole(before.start)}.`);
+    words.push(count === 0 ? 'No section stands before it.' : count === 1 ? 'The section before it follows the rules.' : `The ${count} sections before it follow the rules.`);
+  } else if (place < 16) words.push('It lies in the header of the file.');
+  return [
+    make('p', {}, words.join(' ')),
+    strip(parts, bytes.length, `The place, ${share(place, bytes.length)} into the file`, before?.sections.length ? 'in colour: what stands before the section in question' : 'the whole file', size(bytes.length), place),
+  ];
+}
+
+function drawRefusal({ bytes, error, before }) {
   if (!(error instanceof Refusal)) return [verdict('bad', '\u2715', make('p', {}, make('strong', {}, 'Not read')), make('p', { class: 'plain' }, error.message))];
   const { number, name, place } = error;
   const row = CARD[number];
@@ -214,7 +256,7 @@ function drawRefusal({ bytes, error }) {
     make('h3', {}, `The bytes around byte ${whole(place)}`),
     bytesAround(bytes, Math.min(place, bytes.length)),
     make('h3', {}, 'Where that is in the file, to scale'),
-    strip([], bytes.length, `The place is ${share(place, bytes.length)} into the file`, 'the start', size(bytes.length), place),
+    drawPlace(bytes, place, before),
   ];
 }
 
@@ -227,7 +269,7 @@ function save(file) {
 
 function drawFile(file) {
   const remove = make('button', { class: 'quiet', type: 'button', 'aria-label': `Remove ${plain(file.name)} from the page`, onclick: () => put(files.filter((one) => one !== file)) }, 'Remove');
-  const top = make('div', { class: 'top' }, make('h2', {}, plain(file.name)), make('span', { class: 'soft' }, size(file.bytes.length)));
+  const top = make('div', { class: 'top' }, make('h2', {}, plain(file.name)), make('span', { class: 'soft' }, size(file.length ?? file.bytes.length)));
   const card = (...children) => make('article', { class: 'card', 'aria-label': plain(file.name) }, top, children);
   if (file.error) return card(drawRefusal(file), make('div', { class: 'acts' }, remove));
   const order = file.canonical ? 'It is in canonical form.' : 'Its canonical form has other bytes: the order of sections, or of entries, differs.';
@@ -317,9 +359,10 @@ async function take(chosen) {
     // The words are shown before the reading, which may take a second.
     await new Promise((resolve) => setTimeout(resolve, 30));
     try {
+      if (file.size > MOST_LENT) throw new RangeError(`it has ${whole(file.size)} bytes, and a snapshot has at most 1 GiB`);
       read.push(looked(library, file.name, new Uint8Array(await file.arrayBuffer())));
     } catch (error) {
-      read.push({ name: file.name, bytes: new Uint8Array(), error: new Error(`The file cannot be read: ${error.message}`) });
+      read.push({ name: file.name, bytes: new Uint8Array(), length: file.size, error: new Error(`The file cannot be read: ${error.message}`) });
     }
   }
   if (read.length === 0) return;

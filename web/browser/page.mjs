@@ -147,11 +147,34 @@ const tests = {
     const { number, place } = cimbrolau.raw.check(damaged);
     assert.equal(number, 14);
     assert.equal(place, disk.baseOffset + 11);
-    for (const wanted of ['Refused: a text is not UTF-8', '14 TEXT at byte', 'correct the text there']) assert.ok(words.includes(wanted), `${wanted}\n${words}`);
+    for (const wanted of ['Refused: a text is not UTF-8', '14 TEXT at byte', 'correct the text there', `It lies in the section DISKS, which starts at byte 6\u202f961. The 4 sections before it follow the rules.`]) assert.ok(words.includes(wanted), `${wanted}\n${words}`);
     assert.equal(await says('document.querySelector(".here").firstChild.textContent'), 'FC');
     assert.equal(await says('Number(document.querySelector(".here").parentNode.querySelector("th").textContent)'), Math.floor(place / 16) * 16);
     assert.equal(await says('[...document.querySelectorAll("button")].some((button) => button.textContent.startsWith("Save"))'), false);
     if (pictures) await picture(join(root, 'docs/page-damaged.png'), 'dark');
+  },
+  async 'damage in other places'() {
+    const of = (bytes, at, value) => Object.assign(bytes.slice(), { [at]: value });
+    const [meta, cpu] = cimbrolau.sections(good);
+    for (const [name, bytes, wanted] of [
+      ['header', of(good, 10, 7), 'It lies in the header of the file.'],
+      ['first', of(good, meta.offset + 8, 9), 'It lies in the section META, which starts at byte 16. No section stands before it.'],
+      ['second', of(good, cpu.offset + 144, 9), 'It lies in the section CPU, which starts at byte 82. The section before it follows the rules.'],
+      ['cut', good.slice(0, -1), 'There the section RAM starts. The 5 sections before it follow the rules.'],
+      ['stump', new Uint8Array([...good, 1, 2]), 'There a section that is cut starts. The 6 sections before it follow the rules.'],
+    ]) {
+      await open();
+      writeFileSync(path(`${name}.aerosnap`), bytes);
+      await choose(`${name}.aerosnap`);
+      const words = await text();
+      assert.ok(words.includes(wanted), `${wanted}\n${words}`);
+    }
+  },
+  async 'a file that is dropped'() {
+    await open();
+    const data = { items: [], files: [path('panel.aerosnap')], dragOperationsMask: 1 };
+    for (const type of ['dragEnter', 'dragOver', 'drop']) await tab('Input.dispatchDragEvent', { type, x: 300, y: 300, data });
+    await until('document.querySelector("main").innerText.includes("Ready to restore")');
   },
   async 'an empty file'() {
     await open();
