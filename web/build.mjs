@@ -12,9 +12,9 @@ if (!existsSync(wasm)) {
 
 /** The rows of docs/REFUSALS.md, without the marks of its text. */
 function card() {
-  const rows = [...text('docs/REFUSALS.md').matchAll(/^\| (\d+) \| [A-Z]+ \| (.*?) \| (.*?) \| (.*?) \|$/gm)];
+  const rows = [...text('docs/REFUSALS.md').matchAll(/^\| (\d+) \| [A-Z]+ \| (.*?) \| .*? \| (.*?) \|$/gm)];
   const words = (cell) => cell.replaceAll('`', '');
-  return Object.fromEntries(rows.map(([, number, when, place, todo]) => [number, { when: words(when), place: words(place), todo: words(todo) }]));
+  return Object.fromEntries(rows.map(([, number, when, todo]) => [number, { when: words(when), todo: words(todo) }]));
 }
 
 /** Sections and devices as the command names them. */

@@ -221,10 +221,20 @@ function sectionsBefore(library, bytes, place) {
   const cut = library.raw.check(bytes.subarray(0, place));
   const start = cut.number === 0 ? place : cut.number === CUT ? cut.place : 0;
   if (start < 16 || start > bytes.length || library.raw.check(bytes.subarray(0, start)).number !== 0) return null;
-  const id = start + 4 <= bytes.length ? new DataView(bytes.buffer).getUint32(start, true) : undefined;
-  return { start, id, sections: library.sections(bytes.subarray(0, start)) };
+  return { start, id: idAt(library, bytes, start), sections: library.sections(bytes.subarray(0, start)) };
 }
 const CUT = 7;
+
+/** The id of the section that starts there, if its first 8 bytes are there. They have the layout of a device's, and are read as those of the only device of a file. */
+function idAt(library, bytes, start) {
+  if (start + 8 > bytes.length) return undefined;
+  const file = new Uint8Array(52);
+  file.set(bytes.subarray(0, 16));
+  file.set([4, 0, 0, 0, 1, 0, 0, 0, 20], 16);
+  file.set([1], 32);
+  file.set(bytes.subarray(start, start + 8), 36);
+  return library.devices(file)[0].id;
+}
 
 function drawPlace(bytes, place, before) {
   const parts = before ? partsOf(before.sections).parts : [];
@@ -251,7 +261,7 @@ function drawRefusal({ bytes, error, before }) {
       '\u2715',
       make('p', {}, make('strong', {}, `Refused: ${row.when}`)),
       make('p', { class: 'plain' }, row.todo),
-      make('p', { class: 'soft' }, `${number} ${name} at byte ${whole(place)} of ${whole(bytes.length)}. On the card, the place is: ${row.place}.`),
+      make('p', { class: 'soft' }, `${number} ${name} at byte ${whole(place)} of ${whole(bytes.length)}`),
     ),
     make('h3', {}, `The bytes around byte ${whole(place)}`),
     bytesAround(bytes, Math.min(place, bytes.length)),

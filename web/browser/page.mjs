@@ -47,7 +47,7 @@ const path = (name) => join(folder, name);
 
 const browser = spawn(
   process.env.CHROMIUM ?? 'chromium',
-  ['--headless=new', '--no-sandbox', '--disable-gpu', '--no-first-run', '--hide-scrollbars', '--force-device-scale-factor=1', `--user-data-dir=${join(folder, 'profile')}`, '--remote-debugging-pipe', 'about:blank'],
+  ['--headless=new', ...(process.getuid() === 0 ? ['--no-sandbox'] : []), '--disable-gpu', '--no-first-run', '--hide-scrollbars', '--force-device-scale-factor=1', `--user-data-dir=${join(folder, 'profile')}`, '--remote-debugging-pipe', 'about:blank'],
   { stdio: ['ignore', 'ignore', 'ignore', 'pipe', 'pipe'] },
 );
 const waiting = new Map();
