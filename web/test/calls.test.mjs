@@ -2,8 +2,9 @@
 import assert from 'node:assert/strict';
 import { readFileSync } from 'node:fs';
 import test from 'node:test';
+import { Worker } from 'node:worker_threads';
 
-import { Cimbrolau, CPU_FIELDS, MESSAGES, MMU_FIELDS, MOST_LENT, REFUSALS, Refusal, TooLarge, calls, load } from '../cimbrolau.mjs';
+import { Cimbrolau, CPU_FIELDS, MESSAGES, MMU_FIELDS, MOST_LENT, MOST_MEMORY, REFUSALS, Refusal, TooLarge, calls, load } from '../cimbrolau.mjs';
 
 const read = (path) => readFileSync(new URL(`../../${path}`, import.meta.url));
 const text = (path) => read(path).toString();
@@ -174,6 +175,52 @@ test('rings over shared memory', () => {
   assert.equal(taken.at(-1), 'valve');
 });
 
+test('two threads take turns on one region', async () => {
+  const COUNT = 300;
+  // One queue of 256 bytes: the header, its descriptor, its ring.
+  const words = [0x43504941, 1, 32 + 16 + 256, 1, 0, 32, 256, 0, 0, 0, 0, 256];
+  const shared = new SharedArrayBuffer(32 + 16 + 256);
+  new Uint32Array(shared).set(words);
+  const turn = new Int32Array(new SharedArrayBuffer(4));
+  const locked = `(turn, work) => {
+    while (Atomics.compareExchange(turn, 0, 0, 1) !== 0) Atomics.wait(turn, 0, 1);
+    try { return work(); } finally { Atomics.store(turn, 0, 0); Atomics.notify(turn, 0); }
+  }`;
+  const taker = `
+    import { parentPort, workerData } from 'node:worker_threads';
+    import { Cimbrolau } from '${new URL('../cimbrolau.mjs', import.meta.url)}';
+    const { module, shared, turn, count } = workerData;
+    const cimbrolau = new Cimbrolau(module);
+    const region = new Uint8Array(shared);
+    const locked = ${locked};
+    const taken = [];
+    while (taken.length < count) {
+      try { taken.push(new TextDecoder().decode(locked(turn, () => cimbrolau.ringTake(region, 0)))); } catch (error) { if (error.name !== 'EMPTY') throw error; }
+    }
+    parentPort.postMessage(taken);`;
+  const worker = new Worker(new URL(`data:text/javascript,${encodeURIComponent(taker)}`), { workerData: { module, shared, turn, count: COUNT } });
+  const ended = new Promise((resolve, reject) => worker.once('message', resolve).once('error', reject));
+  const producing = eval(locked);
+  const queue = new Uint8Array(shared);
+  const sent = Array.from({ length: COUNT }, (_, at) => `valve ${at}`.repeat(1 + (at % 5)));
+  for (const payload of sent) {
+    for (let done = false; !done; ) {
+      try {
+        producing(turn, () => {
+          const pair = cimbrolau.ringReserve(queue, 0, payload.length);
+          cimbrolau.ringFill(queue, 0, pair, ascii(payload));
+          cimbrolau.ringCommit(queue, 0, pair);
+        });
+        done = true;
+      } catch (error) {
+        if (error.name !== 'FULL') throw error;
+        await new Promise(setImmediate);
+      }
+    }
+  }
+  assert.deepEqual(await ended, sent);
+});
+
 test('states', () => {
   const state = new Uint8Array(1183);
   cimbrolau.cpuSet(state, 'GPR', 3, new Uint8Array([1, 2, 3, 4, 5, 6, 7, 8]));
@@ -220,4 +267,30 @@ test('what 32 bits do not reach is a clear error, and the library stays usable',
   const half = new Uint8Array(MOST_LENT);
   assert.throws(() => own.raw.add_device(half, 1, 1, 1, half, MOST_LENT), said(/at once; addresses of 32 bits have at most 4,294,901,760/));
   own.check(EMPTY);
+});
+
+test('everywhere in the memory, up to its last address', () => {
+  const { exports } = new WebAssembly.Instance(module, {});
+  const end = MOST_MEMORY;
+  exports.memory.grow((end - exports.memory.buffer.byteLength) / 65536);
+  const memory = new Uint8Array(exports.memory.buffer);
+  const view = new DataView(exports.memory.buffer);
+  const answer = Math.ceil(exports.__heap_base.value / 16) * 16;
+  const half = 2 ** 31;
+  const length = panel.length;
+  // Places of the input and of the output: across the middle, where a signed number would turn negative, at the end, and on both sides.
+  const places = [half - 1, half - 16, half - length, half, end - length].flatMap((one) => [half - 2000, half + 2000 - (length >> 1), end - 2 * length - 64, answer + 64].map((two) => [one, two]));
+  for (const [one, two] of [...places, ...places.map(([one, two]) => [two, one])]) {
+    if (Math.abs(one - two) < length) continue;
+    for (const [name, wanted] of ['sections', 'devices', 'disks', 'canonical'].map((call) => [call, cimbrolau.raw[call](panel, 2 ** 12).written])) {
+      const room = Math.min(length, end - two);
+      memory.set(panel, one);
+      memory.fill(0xc5, two, two + room);
+      exports[`cimbrolau_${name}`](answer, one, BigInt(length), two, BigInt(room));
+      assert.deepEqual([view.getUint32(answer, true), view.getBigUint64(answer + 8, true)], [0, BigInt(wanted.length)], `${name} from ${one} to ${two}`);
+      assert.equal(Buffer.compare(memory.subarray(two, two + wanted.length), wanted), 0);
+      assert.ok(memory.subarray(two + wanted.length, two + room).every((byte) => byte === 0xc5));
+      assert.equal(Buffer.compare(memory.subarray(one, one + length), panel), 0);
+    }
+  }
 });
