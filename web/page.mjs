@@ -278,7 +278,7 @@ function save(file) {
 }
 
 function drawFile(file) {
-  const remove = make('button', { class: 'quiet', type: 'button', 'aria-label': `Remove ${plain(file.name)} from the page`, onclick: () => put(files.filter((one) => one !== file)) }, 'Remove');
+  const remove = make('button', { class: 'quiet', type: 'button', 'aria-label': `Remove ${plain(file.name)} from the page`, onclick: () => put(files.filter((one) => one !== file)).then(() => $('choose').focus()) }, 'Remove');
   const top = make('div', { class: 'top' }, make('h2', {}, plain(file.name)), make('span', { class: 'soft' }, size(file.length ?? file.bytes.length)));
   const card = (...children) => make('article', { class: 'card', 'aria-label': plain(file.name) }, top, children);
   if (file.error) return card(drawRefusal(file), make('div', { class: 'acts' }, remove));

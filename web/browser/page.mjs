@@ -239,7 +239,7 @@ const tests = {
     assert.equal(await says('document.activeElement.textContent'), 'Save the canonical form');
     await press('Tab', 'Tab', 9);
     await press('Enter', 'Enter', 13, '\r');
-    await until('document.querySelectorAll("#files article").length === 0');
+    await until('document.querySelectorAll("#files article").length === 0 && document.activeElement.id === "choose"');
     await tab('Accessibility.enable');
     await choose('panel.aerosnap');
     const { nodes } = await tab('Accessibility.getFullAXTree');
