@@ -2,18 +2,30 @@
 //!
 //! It fails if the library's copy is no longer a `memmove`, or if the library and the reference answer differently.
 //! A ratio over its target is told, and is no failure: times depend on the machine. A word as argument measures only the
-//! rows of that name: `sizes`, `counts`, `texts`, `messages` or `rings`.
+//! rows of that name: `sizes`, `counts`, `texts`, `messages` or `rings`. The word `wasm` measures the library in WebAssembly
+//! beside the native one, which nothing else does.
 
 mod contest;
 mod disassembly;
 mod inputs;
 mod rows;
+mod wasm;
 
 use rows::Row;
 use std::process::ExitCode;
 
 fn main() -> ExitCode {
     let wanted = std::env::args().nth(1);
+    if wanted.as_deref() == Some("wasm") {
+        println!("{}\n", machine());
+        return match wasm::measure() {
+            Ok(()) => ExitCode::SUCCESS,
+            Err(fault) => {
+                eprintln!("{fault}");
+                ExitCode::FAILURE
+            }
+        };
+    }
     let chosen = |name: &str| wanted.as_ref().is_none_or(|word| word == name);
     if !rows::GROUPS.iter().any(|(name, _)| chosen(name)) {
         eprintln!("there are no such rows; see the first lines of rust/bench/src/main.rs");

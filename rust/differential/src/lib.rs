@@ -10,7 +10,8 @@
 //!   [`damage`]: faults in them;
 //! - [`compare`]: one input given to both, and what is compared; [`rings`]: the same for calls that change a
 //!   region in place, [`sheets`]: for fields of states; [`counts`]: how often each number was answered;
-//! - [`planted`]: errors that have to be found.
+//! - [`planted`]: errors that have to be found;
+//! - [`record`]: calls and their answers written to a file, for the library in WebAssembly.
 //!
 //! The inputs themselves stand in `tests/differential`, a module for each format.
 
@@ -21,6 +22,7 @@ pub mod library;
 pub mod make;
 pub mod planted;
 pub mod random;
+pub mod record;
 pub mod regions;
 pub mod rings;
 pub mod sheets;

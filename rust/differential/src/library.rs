@@ -1,8 +1,9 @@
-//! The library's calls, with the reference's signatures. No other module names the library.
+//! The library's calls, with the reference's signatures, recorded where a run asks for it. No other module names the library.
 
 use cimbrolau::raw;
 use reference::{Access, Answer, Cursors, Pair, Readiness, Reading, Record};
 
+use crate::record::{changes, looks, number, writes, Bytes};
 use crate::rings::RingCalls;
 
 /// The library's answer as the reference has it: each has a type of its own.
@@ -14,23 +15,23 @@ macro_rules! answer {
 }
 
 pub fn check(file: &[u8]) -> Answer {
-    answer!(raw::check(file))
+    looks("check", &[Bytes(file)], || answer!(raw::check(file)))
 }
 
 pub fn sections(file: &[u8], table: &mut [u8]) -> Answer {
-    answer!(raw::sections(file, table))
+    writes("sections", &[Bytes(file)], table, |table| answer!(raw::sections(file, table)))
 }
 
 pub fn devices(file: &[u8], table: &mut [u8]) -> Answer {
-    answer!(raw::devices(file, table))
+    writes("devices", &[Bytes(file)], table, |table| answer!(raw::devices(file, table)))
 }
 
 pub fn disks(file: &[u8], table: &mut [u8]) -> Answer {
-    answer!(raw::disks(file, table))
+    writes("disks", &[Bytes(file)], table, |table| answer!(raw::disks(file, table)))
 }
 
 pub fn canonical(file: &[u8], out: &mut [u8]) -> Answer {
-    answer!(raw::canonical(file, out))
+    writes("canonical", &[Bytes(file)], out, |out| answer!(raw::canonical(file, out)))
 }
 
 pub fn add_device(
@@ -41,19 +42,33 @@ pub fn add_device(
     payload: &[u8],
     out: &mut [u8],
 ) -> Answer {
-    answer!(raw::add_device(file, id, version, flags, payload, out))
+    writes(
+        "add_device",
+        &[Bytes(file), number(id), number(version), number(flags), Bytes(payload)],
+        out,
+        |out| answer!(raw::add_device(file, id, version, flags, payload, out)),
+    )
 }
 
 pub fn add_disk(file: &[u8], id: u32, base: &[u8], overlay: &[u8], out: &mut [u8]) -> Answer {
-    answer!(raw::add_disk(file, id, base, overlay, out))
+    writes("add_disk", &[Bytes(file), number(id), Bytes(base), Bytes(overlay)], out, |out| {
+        answer!(raw::add_disk(file, id, base, overlay, out))
+    })
 }
 
 pub fn remove_device(file: &[u8], id: u32, version: u16, flags: u16, out: &mut [u8]) -> Answer {
-    answer!(raw::remove_device(file, id, version, flags, out))
+    writes(
+        "remove_device",
+        &[Bytes(file), number(id), number(version), number(flags)],
+        out,
+        |out| answer!(raw::remove_device(file, id, version, flags, out)),
+    )
 }
 
 pub fn remove_disk(file: &[u8], id: u32, out: &mut [u8]) -> Answer {
-    answer!(raw::remove_disk(file, id, out))
+    writes("remove_disk", &[Bytes(file), number(id)], out, |out| {
+        answer!(raw::remove_disk(file, id, out))
+    })
 }
 
 pub fn replace_device(
@@ -64,27 +79,42 @@ pub fn replace_device(
     payload: &[u8],
     out: &mut [u8],
 ) -> Answer {
-    answer!(raw::replace_device(file, id, version, flags, payload, out))
+    writes(
+        "replace_device",
+        &[Bytes(file), number(id), number(version), number(flags), Bytes(payload)],
+        out,
+        |out| answer!(raw::replace_device(file, id, version, flags, payload, out)),
+    )
 }
 
 pub fn ready(file: &[u8], list: &mut [u8]) -> Readiness {
-    let given = raw::ready(file, list);
-    Readiness { number: given.number, yes: given.yes, place: given.place }
+    writes("ready", &[Bytes(file)], list, |list| {
+        let given = raw::ready(file, list);
+        Readiness { number: given.number, yes: given.yes, place: given.place }
+    })
 }
 
 pub fn wrapper_check(wrapper: &[u8]) -> Answer {
-    answer!(raw::wrapper_check(wrapper))
+    looks("wrapper_check", &[Bytes(wrapper)], || answer!(raw::wrapper_check(wrapper)))
 }
 
 pub fn controllers(wrapper: &[u8], table: &mut [u8]) -> Answer {
-    answer!(raw::controllers(wrapper, table))
+    writes("controllers", &[Bytes(wrapper)], table, |table| {
+        answer!(raw::controllers(wrapper, table))
+    })
 }
 
 pub fn wrapper_canonical(wrapper: &[u8], out: &mut [u8]) -> Answer {
-    answer!(raw::wrapper_canonical(wrapper, out))
+    writes("wrapper_canonical", &[Bytes(wrapper)], out, |out| {
+        answer!(raw::wrapper_canonical(wrapper, out))
+    })
 }
 
 pub fn message_read(message: &[u8]) -> Reading {
+    looks("message_read", &[Bytes(message)], || reading(message))
+}
+
+fn reading(message: &[u8]) -> Reading {
     let given = raw::message_read(message);
     Reading {
         number: given.number,
@@ -100,7 +130,12 @@ pub fn message_read(message: &[u8]) -> Reading {
 }
 
 pub fn message_write(tag: u32, [a, b, c, d]: [u64; 4], data: &[u8], out: &mut [u8]) -> Answer {
-    answer!(raw::message_write(tag, a, b, c, d, data, out))
+    writes(
+        "message_write",
+        &[number(tag), number(a), number(b), number(c), number(d), Bytes(data)],
+        out,
+        |out| answer!(raw::message_write(tag, a, b, c, d, data, out)),
+    )
 }
 
 /// The calls on regions.
@@ -114,10 +149,14 @@ pub const RINGS: RingCalls = RingCalls {
 };
 
 fn region_check(region: &[u8]) -> Answer {
-    answer!(raw::region_check(region))
+    looks("region_check", &[Bytes(region)], || answer!(raw::region_check(region)))
 }
 
 fn ring_report(region: &[u8], queue: u32) -> Cursors {
+    looks("ring_report", &[Bytes(region), number(queue)], || cursors(region, queue))
+}
+
+fn cursors(region: &[u8], queue: u32) -> Cursors {
     let given = raw::ring_report(region, queue);
     Cursors {
         number: given.number,
@@ -129,47 +168,70 @@ fn ring_report(region: &[u8], queue: u32) -> Cursors {
 }
 
 fn ring_reserve(region: &mut [u8], queue: u32, length: u64) -> Pair {
-    let given = raw::ring_reserve(region, queue, length);
-    Pair { number: given.number, place: given.place, start: given.start, end: given.end }
+    changes("ring_reserve", region, &[number(queue), number(length)], |region| {
+        let given = raw::ring_reserve(region, queue, length);
+        Pair { number: given.number, place: given.place, start: given.start, end: given.end }
+    })
 }
 
 fn ring_fill(region: &mut [u8], queue: u32, start: u32, end: u32, payload: &[u8]) -> Answer {
-    answer!(raw::ring_fill(region, queue, start, end, payload))
+    changes(
+        "ring_fill",
+        region,
+        &[number(queue), number(start), number(end), Bytes(payload)],
+        |region| answer!(raw::ring_fill(region, queue, start, end, payload)),
+    )
 }
 
 fn ring_commit(region: &mut [u8], queue: u32, start: u32, end: u32) -> Answer {
-    answer!(raw::ring_commit(region, queue, start, end))
+    changes("ring_commit", region, &[number(queue), number(start), number(end)], |region| {
+        answer!(raw::ring_commit(region, queue, start, end))
+    })
 }
 
 fn ring_take(region: &mut [u8], queue: u32) -> Record {
-    let given = raw::ring_take(region, queue);
-    Record {
-        number: given.number,
-        place: given.place,
-        payload_place: given.payload_place,
-        payload_length: given.payload_length,
-    }
+    changes("ring_take", region, &[number(queue)], |region| {
+        let given = raw::ring_take(region, queue);
+        Record {
+            number: given.number,
+            place: given.place,
+            payload_place: given.payload_place,
+            payload_length: given.payload_length,
+        }
+    })
 }
 
 // ---- sheets
 
 pub fn cpu_field(state: &[u8], field: u32, index: u32, out: &mut [u8]) -> Answer {
-    answer!(raw::cpu_field(state, field, index, out))
+    writes("cpu_field", &[Bytes(state), number(field), number(index)], out, |out| {
+        answer!(raw::cpu_field(state, field, index, out))
+    })
 }
 
 pub fn mmu_field(state: &[u8], field: u32, index: u32, out: &mut [u8]) -> Answer {
-    answer!(raw::mmu_field(state, field, index, out))
+    writes("mmu_field", &[Bytes(state), number(field), number(index)], out, |out| {
+        answer!(raw::mmu_field(state, field, index, out))
+    })
 }
 
 pub fn cpu_set(state: &mut [u8], field: u32, index: u32, value: &[u8]) -> Answer {
-    answer!(raw::cpu_set(state, field, index, value))
+    changes("cpu_set", state, &[number(field), number(index), Bytes(value)], |state| {
+        answer!(raw::cpu_set(state, field, index, value))
+    })
 }
 
 pub fn mmu_set(state: &mut [u8], field: u32, index: u32, value: &[u8]) -> Answer {
-    answer!(raw::mmu_set(state, field, index, value))
+    changes("mmu_set", state, &[number(field), number(index), Bytes(value)], |state| {
+        answer!(raw::mmu_set(state, field, index, value))
+    })
 }
 
 pub fn access(word: u32) -> Access {
+    looks("access", &[number(word)], || parts(word))
+}
+
+fn parts(word: u32) -> Access {
     let given = raw::access(word);
     Access {
         kind: given.kind,

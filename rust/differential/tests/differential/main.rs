@@ -2,7 +2,8 @@
 //!
 //! Runs each group of inputs from its own fixed seed and prints how many inputs it had. The first
 //! difference ends the run with the input, the seed and both answers. A word as argument runs only the
-//! groups whose name has it; `DIFFERENTIAL_SEED`, a number, tries other inputs.
+//! groups whose name has it; `DIFFERENTIAL_SEED`, a number, tries other inputs; `DIFFERENTIAL_ANSWERS`, a file's name, writes
+//! some of the inputs and what was answered to that file (`differential::record`).
 //!
 //! In the end it asks that there were a million inputs, and that every refusal came.
 
@@ -23,6 +24,7 @@ use std::time::Instant;
 
 use differential::compare::Comparison;
 use differential::counts::Counts;
+use differential::record;
 
 const SEED: u64 = 0x4149_5043_4145_524F;
 const AT_LEAST: u64 = 1_000_000;
@@ -102,6 +104,9 @@ fn main() {
     let wanted = std::env::args().skip(1).find(|argument| !argument.starts_with('-'));
     let seed = seed();
     let start = Instant::now();
+    if let Some(path) = std::env::var_os("DIFFERENTIAL_ANSWERS") {
+        record::start(path.as_ref());
+    }
     let mut total = Total::default();
     for (at, (name, run)) in GROUPS.iter().enumerate() {
         if wanted.as_ref().is_none_or(|word| name.contains(word.as_str())) {
@@ -118,6 +123,9 @@ fn main() {
         total.calls,
         start.elapsed().as_secs_f64()
     );
+    if let Some((inputs, calls)) = record::finish() {
+        println!("{inputs} inputs and {calls} calls recorded");
+    }
     if wanted.is_none() {
         total.suffices();
     }

@@ -1,0 +1,173 @@
+// The types of cimbrolau.mjs.
+
+export type Bytes = Uint8Array;
+/** Text, or its bytes. */
+export type Text = string | Uint8Array;
+
+/** A refusal. Number, name and words are those of docs/REFUSALS.md. */
+export class Refusal extends Error {
+  constructor(number: number, place: number);
+  readonly number: number;
+  readonly name: string;
+  /** The byte of the input at which it stands; of ROOM the length needed. */
+  readonly place: number;
+  readonly words: string;
+}
+
+/** What is lent is beyond the 32 bits of addresses, or there is no memory for it. Nothing was called. */
+export class TooLarge extends RangeError {}
+
+export const REFUSALS: ReadonlyArray<readonly [number: number, name: string, words: string]>;
+export const MOST_LENT: number;
+export const MOST_MEMORY: number;
+export const MOST_FILE: number;
+export const CPU_FIELDS: readonly string[];
+export const MMU_FIELDS: readonly string[];
+export const MESSAGES: ReadonlyArray<readonly [tag: number, kind: string, fields: ReadonlyArray<readonly [name: string, bits: number]>, data?: 'data' | 'text']>;
+
+export interface Call {
+  readonly name: string;
+  readonly answer: ReadonlyArray<{ readonly name: string; readonly type: 'u32' | 'i32' | 'u64' | 'size'; readonly at: number }>;
+  readonly parameters: ReadonlyArray<{ readonly name: string; readonly kind: 'in' | 'out' | 'both' | 'u16' | 'u32' | 'u64' }>;
+}
+/** The calls of include/cimbrolau.h as data. */
+export const calls: readonly Call[];
+
+export interface DeviceKey {
+  id: number;
+  version: number;
+  flags: number;
+}
+export interface Section extends DeviceKey {
+  offset: number;
+  length: number;
+  position: number;
+}
+export type Device = Section;
+export interface Disk {
+  id: number;
+  base: string;
+  overlay: string;
+  baseOffset: number;
+  baseLength: number;
+  overlayOffset: number;
+  overlayLength: number;
+  position: number;
+}
+export interface Controller {
+  address: number;
+  tag: Bytes;
+  offset: number;
+  length: number;
+  position: number;
+}
+/** Something that a file needs to be restored. */
+export interface Missing {
+  what: 'device' | 'disk';
+  id: number;
+}
+export interface Cursors {
+  head: number;
+  reserve: number;
+  commit: number;
+}
+export interface Pair {
+  start: number;
+  end: number;
+}
+export interface Access {
+  type: number;
+  level: number;
+  present: number;
+  long_mode: number;
+  size: number;
+  granularity: number;
+  unusable: number;
+  rest: number;
+}
+/** A message: its kind, the fields of that kind (those of 64 bits are BigInts), and data or text. */
+export type Message = { tag: number; kind: string; data?: Bytes; text?: string } & { [field: string]: number | bigint | string | Bytes | undefined };
+export type MessageToWrite = ({ kind: string } | { tag: number }) & { data?: Bytes; text?: string } & { [field: string]: number | bigint | string | Bytes | undefined };
+
+export interface Answer {
+  number: number;
+  place: number;
+  /** What was written, where an output was lent by its length. */
+  written?: Bytes;
+}
+export type Lent = Bytes | number;
+/** The calls as C has them. A refusal is an answer. */
+export interface Raw {
+  check(file: Bytes): Answer;
+  sections(file: Bytes, table: Lent): Answer;
+  devices(file: Bytes, table: Lent): Answer;
+  disks(file: Bytes, table: Lent): Answer;
+  canonical(file: Bytes, out: Lent): Answer;
+  add_device(file: Bytes, id: number, version: number, flags: number, payload: Bytes, out: Lent): Answer;
+  add_disk(file: Bytes, id: number, base: Bytes, overlay: Bytes, out: Lent): Answer;
+  remove_device(file: Bytes, id: number, version: number, flags: number, out: Lent): Answer;
+  remove_disk(file: Bytes, id: number, out: Lent): Answer;
+  replace_device(file: Bytes, id: number, version: number, flags: number, payload: Bytes, out: Lent): Answer;
+  wrapper_check(wrapper: Bytes): Answer;
+  controllers(wrapper: Bytes, table: Lent): Answer;
+  wrapper_canonical(wrapper: Bytes, out: Lent): Answer;
+  ready(file: Bytes, list: Lent): Answer & { yes: number };
+  message_read(message: Bytes): Answer & { tag: number; a: bigint; b: bigint; c: bigint; d: bigint; data_place: number; data_length: number };
+  message_write(tag: number, a: number | bigint, b: number | bigint, c: number | bigint, d: number | bigint, data: Bytes, out: Lent): Answer;
+  region_check(region: Bytes): Answer;
+  ring_report(region: Bytes, queue: number): Answer & Cursors;
+  ring_reserve(region: Bytes, queue: number, payload_length: number | bigint): Answer & Pair;
+  ring_fill(region: Bytes, queue: number, start: number, end: number, payload: Bytes): Answer;
+  ring_commit(region: Bytes, queue: number, start: number, end: number): Answer;
+  ring_take(region: Bytes, queue: number): Answer & { payload_place: number; payload_length: number };
+  cpu_field(state: Bytes, field: number, index: number, out: Lent): Answer;
+  mmu_field(state: Bytes, field: number, index: number, out: Lent): Answer;
+  cpu_set(state: Bytes, field: number, index: number, value: Bytes): Answer;
+  mmu_set(state: Bytes, field: number, index: number, value: Bytes): Answer;
+  access(word: number): Access;
+}
+
+/** Every call below throws a Refusal where the library refuses, and a TooLarge beyond the bounds of 32 bits. */
+export class Cimbrolau {
+  constructor(module: WebAssembly.Module, options?: { watch?: { before(memory: Bytes, parts: unknown[]): void; after(memory: Bytes, parts: unknown[]): void } });
+  readonly raw: Raw;
+  /** How many bytes of memory are held between calls. */
+  readonly held: number;
+
+  check(file: Bytes): void;
+  sections(file: Bytes): Section[];
+  devices(file: Bytes): Device[];
+  disks(file: Bytes): Disk[];
+  canonical(file: Bytes): Bytes;
+  addDevice(file: Bytes, key: DeviceKey, payload: Bytes): Bytes;
+  addDisk(file: Bytes, id: number, base: Text, overlay: Text): Bytes;
+  removeDevice(file: Bytes, key: DeviceKey): Bytes;
+  removeDisk(file: Bytes, id: number): Bytes;
+  replaceDevice(file: Bytes, key: DeviceKey, payload: Bytes): Bytes;
+
+  wrapperCheck(wrapper: Bytes): void;
+  controllers(wrapper: Bytes): Controller[];
+  wrapperCanonical(wrapper: Bytes): Bytes;
+
+  /** What a file lacks to be restored; nothing if it is ready. */
+  ready(file: Bytes): Missing[];
+
+  messageRead(message: Bytes): Message;
+  messageWrite(message: MessageToWrite): Bytes;
+
+  regionCheck(region: Bytes): void;
+  ringReport(region: Bytes, queue: number): Cursors;
+  ringReserve(region: Bytes, queue: number, length: number | bigint): Pair;
+  ringFill(region: Bytes, queue: number, pair: Pair, payload: Bytes): void;
+  ringCommit(region: Bytes, queue: number, pair: Pair): void;
+  ringTake(region: Bytes, queue: number): Bytes;
+
+  cpuField(state: Bytes, field: string | number, index?: number): Bytes;
+  mmuField(state: Bytes, field: string | number, index?: number): Bytes;
+  cpuSet(state: Bytes, field: string | number, index: number, value: Bytes): void;
+  mmuSet(state: Bytes, field: string | number, index: number, value: Bytes): void;
+  access(word: number): Access;
+}
+
+/** The library over the bytes of cimbrolau.wasm, or over a module that is compiled already. */
+export function load(source: BufferSource | WebAssembly.Module): Promise<Cimbrolau>;

@@ -1,0 +1,296 @@
+// The module beside the header, the card of refusals and its own types; the calls by hand; the bounds of memory.
+import assert from 'node:assert/strict';
+import { readFileSync } from 'node:fs';
+import test from 'node:test';
+import { Worker } from 'node:worker_threads';
+
+import { Cimbrolau, CPU_FIELDS, MESSAGES, MMU_FIELDS, MOST_LENT, MOST_MEMORY, REFUSALS, Refusal, TooLarge, calls, load } from '../cimbrolau.mjs';
+
+const read = (path) => readFileSync(new URL(`../../${path}`, import.meta.url));
+const text = (path) => read(path).toString();
+const bytes = (path) => new Uint8Array(read(path));
+const header = text('include/cimbrolau.h');
+const module = new WebAssembly.Module(read('target/wasm/cimbrolau.wasm'));
+const cimbrolau = await load(module);
+const panel = bytes('samples/panel.aerosnap');
+const region = bytes('samples/panel.region');
+const ascii = (string) => new TextEncoder().encode(string);
+const EMPTY = new Uint8Array([...ascii('AEROSNAP'), 1, 0, 1, 0, 0, 0, 0, 0]);
+
+const refused = (name, place) => (error) => error instanceof Refusal && error.name === name && error.place === place;
+
+test('the module imports nothing and exports its memory and every call', () => {
+  assert.deepEqual(WebAssembly.Module.imports(module), []);
+  const names = WebAssembly.Module.exports(module).map(({ name }) => name);
+  const wanted = ['memory', '__heap_base', ...calls.map(({ name }) => `cimbrolau_${name}`)];
+  assert.deepEqual(names.sort(), wanted.sort());
+});
+
+test('the table of calls is the header', () => {
+  const declared = [...header.matchAll(/^struct cimbrolau_(\w+) cimbrolau_(\w+)\((.*)\);$/gm)].map(([, answer, name, list]) => {
+    const words = list.split(', ').map((word) => word.match(/^(.*?)(\w+)$/).slice(1).map((part) => part.trim()));
+    const parameters = words.flatMap(([type, plain], at) => {
+      if (type === 'size_t') {
+        assert.equal(plain, `${words[at - 1][1]}_length`);
+        return [];
+      }
+      if (type === 'const uint8_t *') return [{ name: plain, kind: 'in' }];
+      if (type === 'uint8_t *') return [{ name: plain, kind: at === 0 ? 'both' : 'out' }];
+      return [{ name: plain, kind: type.replace(/^uint(\d+)_t$/, 'u$1') }];
+    });
+    return { answer, name, parameters };
+  });
+  assert.deepEqual(
+    calls.map(({ name, parameters }) => ({ name, parameters })).sort((one, next) => (one.name < next.name ? -1 : 1)),
+    declared.map(({ name, parameters }) => ({ name, parameters })).sort((one, next) => (one.name < next.name ? -1 : 1)),
+  );
+  for (const { answer, name } of declared) {
+    const [, body] = header.match(new RegExp(`^struct cimbrolau_${answer} \\{\\n([^}]*)\\}`, 'm'));
+    const fields = [...body.matchAll(/^ +(u?int\d+)_t ([\w, ]+);/gm)].flatMap(([, type, list]) => list.split(', ').map((field) => `${field} ${type}`));
+    const types = { u32: 'uint32', i32: 'int32', u64: 'uint64', size: 'uint64' };
+    assert.deepEqual(calls.find((call) => call.name === name).answer.map((field) => `${field.name} ${types[field.type]}`), fields, name);
+  }
+});
+
+test('the refusals are those of the header and of the card', () => {
+  const declared = [...header.matchAll(/^ {4}CIMBROLAU_([A-Z]+) = (\d+)/gm)].map(([, name, number]) => [Number(number), name]);
+  assert.deepEqual(REFUSALS.map(([number, name]) => [number, name]), declared.filter(([number]) => number !== 0));
+  const card = [...text('docs/REFUSALS.md').matchAll(/^\| (\d+) \| ([A-Z]+) \|/gm)].map(([, number, name]) => [Number(number), name]);
+  assert.deepEqual(REFUSALS.map(([number, name]) => [number, name]), card);
+  const rust = [...text('rust/cimbrolau/src/refusal.rs').matchAll(/^ {4}\(Kind::\w+, "([A-Z]+)", "(.*)"\),$/gm)].map(([, name, words]) => [name, words]);
+  assert.deepEqual(REFUSALS.map(([, name, words]) => [name, words]), rust);
+});
+
+test('the fields and the kinds of messages are those of the header', () => {
+  const fields = (state) => [...header.matchAll(new RegExp(`^ {4}CIMBROLAU_${state}_(\\w+)`, 'gm'))].map(([, name]) => name);
+  assert.deepEqual(CPU_FIELDS, fields('CPU'));
+  assert.deepEqual(MMU_FIELDS, fields('MMU'));
+  const kinds = [...header.matchAll(/^ \* {3}0x([0-9A-F]{4}) {2}(\w+)(.*)$/gm)].map(([, tag, kind, rest]) => {
+    const words = [...rest.matchAll(/u(\d+) (\w+)/g)].map(([, bits, name]) => [name, Number(bits)]);
+    return [Number(`0x${tag}`), kind, words, / bytes$/.test(rest) && !/u32 bytes$/.test(rest) ? 'data' : / UTF-8$/.test(rest) ? 'text' : undefined];
+  });
+  assert.deepEqual(MESSAGES, kinds);
+});
+
+test('the types name every call', () => {
+  const types = text('web/cimbrolau.d.ts');
+  for (const { name, parameters } of calls) {
+    const [, list] = types.match(new RegExp(`^  ${name}\\((.*)\\): `, 'm')) ?? [];
+    assert.equal(list?.replace(/: [^,]+/g, ''), parameters.map((parameter) => parameter.name).join(', '), name);
+  }
+  const own = Object.getOwnPropertyNames(Cimbrolau.prototype).filter((name) => name !== 'constructor');
+  for (const name of own) assert.match(types, new RegExp(`^  (readonly )?${name}[(:]`, 'm'), name);
+  const camel = (name) => name.replace(/_(\w)/g, (_, letter) => letter.toUpperCase());
+  for (const { name } of calls) assert.ok(own.includes(camel(name)), name);
+});
+
+test('a file: its tables, its form, and edits', () => {
+  cimbrolau.check(panel);
+  assert.deepEqual(cimbrolau.sections(panel).map(({ id }) => id), [4096, 6, 4, 5, 1]);
+  assert.deepEqual(cimbrolau.sections(cimbrolau.canonical(panel)).map(({ id }) => id), [1, 4, 5, 6, 4096]);
+  const [disk] = cimbrolau.disks(panel);
+  assert.equal(disk.base, 'panel.img');
+  assert.equal(disk.overlay, 'panel-night.overlay');
+  const form = cimbrolau.canonical(panel);
+  assert.deepEqual(cimbrolau.canonical(form), form);
+  const key = { id: 77, version: 1, flags: 0 };
+  const more = cimbrolau.addDevice(panel, key, new Uint8Array([1, 2, 3]));
+  assert.equal(cimbrolau.devices(more).length, cimbrolau.devices(panel).length + 1);
+  assert.deepEqual(cimbrolau.removeDevice(more, key), form);
+  assert.deepEqual(cimbrolau.replaceDevice(cimbrolau.addDevice(panel, key, new Uint8Array()), key, new Uint8Array([1, 2, 3])), more);
+  assert.deepEqual(cimbrolau.removeDisk(cimbrolau.addDisk(panel, 900, 'base', 'ü'), 900), form);
+  assert.throws(() => cimbrolau.addDevice(more, key, new Uint8Array()), refused('HAVE', 0));
+  assert.throws(() => cimbrolau.removeDisk(panel, 900), refused('ABSENT', 0));
+});
+
+test('refusals have a number, a name, a place and words', () => {
+  const cut = panel.slice(0, -1);
+  assert.throws(() => cimbrolau.check(cut), (error) => {
+    assert.ok(error instanceof Refusal && error instanceof Error);
+    assert.deepEqual([error.number, error.name, typeof error.place, error.words], [7, 'CUT', 'number', 'section passes the end']);
+    assert.equal(String(error), `7 CUT at ${error.place}: section passes the end`);
+    return true;
+  });
+  assert.deepEqual(cimbrolau.raw.canonical(panel, new Uint8Array(3)), { number: 16, place: cimbrolau.canonical(panel).length });
+  assert.throws(() => new Refusal(27, 0), /answered 27/);
+});
+
+test('wrappers', () => {
+  const wrapper = new Uint8Array([...ascii('AERO'), 1, 0, 0, 0, ...ascii('DSKC'), 1, 0, 0, 0, 1, 0, 0, 0, 250, 0, 0, 0, ...ascii('AHCP'), 2, 0, 0, 0, 7, 8]);
+  cimbrolau.wrapperCheck(wrapper);
+  assert.deepEqual(cimbrolau.controllers(wrapper), [{ address: 250, tag: ascii('AHCP'), offset: 32, length: 2, position: 0 }]);
+  assert.deepEqual(cimbrolau.wrapperCanonical(wrapper), wrapper);
+  assert.throws(() => cimbrolau.wrapperCheck(wrapper.slice(0, 8)), refused('SHORT', 0));
+});
+
+test('readiness', () => {
+  const all = [3, 4, 6, 13, 16, 17, 21].map((id) => ({ what: 'device', id }));
+  const disks = [0, 1].map((id) => ({ what: 'disk', id }));
+  assert.deepEqual(cimbrolau.ready(EMPTY), [...all, ...disks]);
+  let file = EMPTY;
+  const wrapper = new Uint8Array([...ascii('AERO'), 1, 0, 0, 0, ...ascii('DSKC'), 1, 0, 0, 0, 0, 0, 0, 0]);
+  for (const id of [3, 4, 6, 13, 16, 17, 2]) file = cimbrolau.addDevice(file, { id, version: 1, flags: 0 }, id === 6 ? wrapper : new Uint8Array());
+  assert.deepEqual(cimbrolau.ready(file), disks);
+  for (const { id } of disks) file = cimbrolau.addDisk(file, id, 'base', '');
+  assert.deepEqual(cimbrolau.ready(file), []);
+  assert.throws(() => cimbrolau.ready(file.slice(0, 9)), refused('SHORT', 0));
+});
+
+test('messages of every kind', () => {
+  for (const [tag, kind, fields, data] of MESSAGES) {
+    const message = { tag, kind };
+    for (const [name, bits] of fields) message[name] = bits === 64 ? 2n ** 64n - 1n : 1;
+    if (message.ok) message.error = 0;
+    if (data === 'data') message.data = new Uint8Array([9, 8]);
+    if (data === 'text') message.text = 'Wärme\uFEFF';
+    if (message.size) message.size = 4;
+    assert.deepEqual(cimbrolau.messageRead(cimbrolau.messageWrite(message)), message);
+  }
+  assert.throws(() => cimbrolau.messageWrite({ kind: 'IrqRaise', irq: 256 }), refused('VALUE', 0));
+  assert.throws(() => cimbrolau.messageWrite({ kind: 'FrameReady', frame: -1n }), TypeError);
+  assert.throws(() => cimbrolau.messageRead(new Uint8Array([9, 9])), refused('TAG', 0));
+});
+
+test('rings over shared memory', () => {
+  const shared = new Uint8Array(new SharedArrayBuffer(region.length));
+  shared.set(region);
+  cimbrolau.regionCheck(shared);
+  const before = cimbrolau.ringReport(shared, 0);
+  const pair = cimbrolau.ringReserve(shared, 0, 5);
+  assert.equal(cimbrolau.ringReport(shared, 0).reserve, before.reserve + 4 * Math.ceil((4 + 5) / 4));
+  cimbrolau.ringFill(shared, 0, pair, ascii('valve'));
+  const taken = [];
+  const drain = () => {
+    try {
+      for (;;) taken.push(new TextDecoder().decode(cimbrolau.ringTake(shared, 0).slice()));
+    } catch (error) {
+      if (!refused('EMPTY', 0)(error)) throw error;
+    }
+  };
+  drain();
+  assert.ok(!taken.includes('valve'), 'not committed yet');
+  const { commit, reserve } = cimbrolau.ringReport(shared, 0);
+  cimbrolau.ringCommit(shared, 0, { start: commit >>> 0, end: reserve >>> 0 });
+  drain();
+  assert.equal(taken.at(-1), 'valve');
+});
+
+test('two threads take turns on one region', async () => {
+  const COUNT = 300;
+  // One queue of 256 bytes: the header, its descriptor, its ring.
+  const words = [0x43504941, 1, 32 + 16 + 256, 1, 0, 32, 256, 0, 0, 0, 0, 256];
+  const shared = new SharedArrayBuffer(32 + 16 + 256);
+  new Uint32Array(shared).set(words);
+  const turn = new Int32Array(new SharedArrayBuffer(4));
+  const locked = `(turn, work) => {
+    while (Atomics.compareExchange(turn, 0, 0, 1) !== 0) Atomics.wait(turn, 0, 1);
+    try { return work(); } finally { Atomics.store(turn, 0, 0); Atomics.notify(turn, 0); }
+  }`;
+  const taker = `
+    import { parentPort, workerData } from 'node:worker_threads';
+    import { Cimbrolau } from '${new URL('../cimbrolau.mjs', import.meta.url)}';
+    const { module, shared, turn, count } = workerData;
+    const cimbrolau = new Cimbrolau(module);
+    const region = new Uint8Array(shared);
+    const locked = ${locked};
+    const taken = [];
+    while (taken.length < count) {
+      try { taken.push(new TextDecoder().decode(locked(turn, () => cimbrolau.ringTake(region, 0)))); } catch (error) { if (error.name !== 'EMPTY') throw error; }
+    }
+    parentPort.postMessage(taken);`;
+  const worker = new Worker(new URL(`data:text/javascript,${encodeURIComponent(taker)}`), { workerData: { module, shared, turn, count: COUNT } });
+  const ended = new Promise((resolve, reject) => worker.once('message', resolve).once('error', reject));
+  const producing = eval(locked);
+  const queue = new Uint8Array(shared);
+  const sent = Array.from({ length: COUNT }, (_, at) => `valve ${at}`.repeat(1 + (at % 5)));
+  for (const payload of sent) {
+    for (let done = false; !done; ) {
+      try {
+        producing(turn, () => {
+          const pair = cimbrolau.ringReserve(queue, 0, payload.length);
+          cimbrolau.ringFill(queue, 0, pair, ascii(payload));
+          cimbrolau.ringCommit(queue, 0, pair);
+        });
+        done = true;
+      } catch (error) {
+        if (error.name !== 'FULL') throw error;
+        await new Promise(setImmediate);
+      }
+    }
+  }
+  assert.deepEqual(await ended, sent);
+});
+
+test('states', () => {
+  const state = new Uint8Array(1183);
+  cimbrolau.cpuSet(state, 'GPR', 3, new Uint8Array([1, 2, 3, 4, 5, 6, 7, 8]));
+  assert.deepEqual(cimbrolau.cpuField(state, 'GPR', 3), new Uint8Array([1, 2, 3, 4, 5, 6, 7, 8]));
+  assert.throws(() => cimbrolau.cpuSet(state, 'MODE', 0, new Uint8Array([9])), (error) => error.name === 'VALUE');
+  assert.throws(() => cimbrolau.cpuField(state, 'A20'), refused('SHAPE', 0));
+  const mmu = new Uint8Array(264);
+  cimbrolau.mmuSet(mmu, 'CR', 0, new Uint8Array([1, 0, 0, 0, 0, 0, 0, 128]));
+  assert.equal(cimbrolau.mmuField(mmu, 'CR', 0)[7], 128);
+  assert.equal(cimbrolau.access(0x1_0093).unusable, 1);
+  assert.throws(() => cimbrolau.cpuField(state, 'NO'), TypeError);
+});
+
+test('arguments that are none', () => {
+  assert.throws(() => cimbrolau.check([1, 2]), TypeError);
+  assert.throws(() => cimbrolau.raw.check(), TypeError);
+  assert.throws(() => cimbrolau.removeDevice(panel, { id: 2 ** 32, version: 0, flags: 0 }), TypeError);
+  assert.throws(() => cimbrolau.removeDevice(panel, { id: 1, version: 65536, flags: 0 }), TypeError);
+  assert.throws(() => cimbrolau.removeDevice(panel, { id: 1.5, version: 0, flags: 0 }), TypeError);
+});
+
+test('memory grows for a large file and is given back', () => {
+  const own = new Cimbrolau(module);
+  own.check(EMPTY);
+  const small = own.held;
+  assert.ok(small > 0 && small < 2 ** 20);
+  const large = new Uint8Array(2 ** 28);
+  large.set(EMPTY);
+  large.set([6, 0, 0, 0, 1, 0, 0, 0], 16); // RAM, to the end
+  new DataView(large.buffer).setBigUint64(24, BigInt(large.length - 32), true);
+  own.check(large);
+  assert.equal(own.held, 0);
+  assert.equal(Buffer.compare(own.canonical(large), large), 0);
+  assert.equal(own.held, 0);
+  own.check(EMPTY);
+  assert.equal(own.held, small);
+});
+
+test('what 32 bits do not reach is a clear error, and the library stays usable', () => {
+  const own = new Cimbrolau(module);
+  const said = (words) => (error) => error instanceof TooLarge && words.test(error.message);
+  assert.throws(() => own.raw.canonical(EMPTY, MOST_LENT + 1), said(/out: 2,147,483,648 bytes; .* at most 2,147,483,647/));
+  assert.throws(() => own.raw.add_device(EMPTY, 1, 1, 1, new Uint8Array(2 ** 31), 5), said(/payload: 2,147,483,648 bytes/));
+  const half = new Uint8Array(MOST_LENT);
+  assert.throws(() => own.raw.add_device(half, 1, 1, 1, half, MOST_LENT), said(/at once; addresses of 32 bits have at most 4,294,901,760/));
+  own.check(EMPTY);
+});
+
+test('everywhere in the memory, up to its last address', () => {
+  const { exports } = new WebAssembly.Instance(module, {});
+  const end = MOST_MEMORY;
+  exports.memory.grow((end - exports.memory.buffer.byteLength) / 65536);
+  const memory = new Uint8Array(exports.memory.buffer);
+  const view = new DataView(exports.memory.buffer);
+  const answer = Math.ceil(exports.__heap_base.value / 16) * 16;
+  const half = 2 ** 31;
+  const length = panel.length;
+  // Places of the input and of the output: across the middle, where a signed number would turn negative, at the end, and on both sides.
+  const places = [half - 1, half - 16, half - length, half, end - length].flatMap((one) => [half - 2000, half + 2000 - (length >> 1), end - 2 * length - 64, answer + 64].map((two) => [one, two]));
+  for (const [one, two] of [...places, ...places.map(([one, two]) => [two, one])]) {
+    if (Math.abs(one - two) < length) continue;
+    for (const [name, wanted] of ['sections', 'devices', 'disks', 'canonical'].map((call) => [call, cimbrolau.raw[call](panel, 2 ** 12).written])) {
+      const room = Math.min(length, end - two);
+      memory.set(panel, one);
+      memory.fill(0xc5, two, two + room);
+      exports[`cimbrolau_${name}`](answer, one, BigInt(length), two, BigInt(room));
+      assert.deepEqual([view.getUint32(answer, true), view.getBigUint64(answer + 8, true)], [0, BigInt(wanted.length)], `${name} from ${one} to ${two}`);
+      assert.equal(Buffer.compare(memory.subarray(two, two + wanted.length), wanted), 0);
+      assert.ok(memory.subarray(two + wanted.length, two + room).every((byte) => byte === 0xc5));
+      assert.equal(Buffer.compare(memory.subarray(one, one + length), panel), 0);
+    }
+  }
+});
