@@ -1,7 +1,8 @@
 //! Calls of the library written to a file, for the same calls elsewhere: `web/test` gives them to the library in WebAssembly.
 //!
-//! A run that was told to (`start`) records one input in [`EVERY`], with every call on it, in the order in which they are made. A call
-//! is made once more for it, into memory of the recorder's own.
+//! A run that was told to (`start`) records one input in [`EVERY`], in the order in which they are met: a file, a wrapper, a message or a region with
+//! every call on it alone and every edit of it; of all else (rings, fields, messages to write) a call with its numbers is an input. A call is made once
+//! more for it, into memory of the recorder's own.
 //!
 //! A record, all numbers with the low byte first: a byte, 1 where the input is another one than before; the length of the call's name in a byte, and the name; what
 //! is given, in the order of the header: a number as 8 bytes, bytes behind their length in 4 (0xFFFF_FFFF: the first bytes of the record before), a lent output as its
@@ -201,11 +202,14 @@ impl Recorder {
         again: impl FnOnce() -> (Vec<u64>, Vec<u8>),
         lent_as: &[u8],
     ) {
-        let first = given.iter().find_map(|one| match one {
-            Bytes(bytes) => Some(*bytes),
-            Number(_) => None,
-        });
-        let first = first.unwrap_or(&[]);
+        let bytes = || {
+            given.iter().filter_map(|one| match one {
+                Bytes(bytes) => Some(*bytes),
+                Number(_) => None,
+            })
+        };
+        let first = bytes().next().unwrap_or(&[]);
+        let longest = bytes().map(<[u8]>::len).fold(lent, usize::max);
         // Files and wrappers have many calls each; of all else each call is an input of its own.
         let edits = name.ends_with("_device") || name.ends_with("_disk");
         let many = edits || matches!(given, [Bytes(_)]);
@@ -214,7 +218,7 @@ impl Recorder {
             self.met += 1;
             self.last = first.to_vec();
         }
-        if !self.met.is_multiple_of(EVERY) || first.len().max(lent) > LONGEST {
+        if !self.met.is_multiple_of(EVERY) || longest > LONGEST {
             return;
         }
         let same = self.recorded.as_deref() == Some(first);
