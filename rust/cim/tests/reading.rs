@@ -288,6 +288,7 @@ fn json_has_the_names_of_its_page() {
         &["list", "panel"],
         &["list", "bad"],
         &["show", "panel"],
+        &["ready", "two"],
         &["diff", "panel", "two"],
         &["canon", "two", "new"],
         &["wrapper", "panel", "--device=256"],

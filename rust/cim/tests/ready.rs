@@ -22,28 +22,28 @@ fn panel(without: &[u32], wrappers: &[&[u8]], disks: &[u32]) -> Vec<u8> {
     file
 }
 
-/// What `cim ready` prints on standard output and on standard error, and its status.
-fn says(name: &str, file: &[u8]) -> (String, String, Option<i32>) {
+/// What a command prints of a file on standard output and on standard error, and its status.
+fn says(command: &str, name: &str, file: &[u8]) -> (String, String, Option<i32>) {
     let path = Path::new(env!("CARGO_TARGET_TMPDIR")).join(format!("ready-{name}.aerosnap"));
     fs::write(&path, file).unwrap();
     let Output { status, stdout, stderr } =
-        Command::new(env!("CARGO_BIN_EXE_cim")).arg("ready").arg(&path).output().unwrap();
+        Command::new(env!("CARGO_BIN_EXE_cim")).arg(command).arg(&path).output().unwrap();
     (String::from_utf8(stdout).unwrap(), String::from_utf8(stderr).unwrap(), status.code())
 }
 
 /// A no, with these lines behind it.
 fn lacks(name: &str, file: &[u8], lines: &str) {
-    assert_eq!(says(name, file), (format!("not ready\n{lines}"), String::new(), Some(1)));
+    assert_eq!(says("ready", name, file), (format!("not ready\n{lines}"), String::new(), Some(1)));
 }
 
 #[test]
 fn a_panel_with_all_that_is_needed_is_ready() {
     let whole = panel(&[], &[&wrapper::EMPTY], &[0, 1]);
-    assert_eq!(says("yes", &whole), ("ready\n".into(), String::new(), Some(0)));
+    assert_eq!(says("ready", "yes", &whole), ("ready\n".into(), String::new(), Some(0)));
     // The older interrupt controller will do.
     let older = panel(&[21], &[&wrapper::EMPTY], &[1, 0]);
     let older = snapshot::add_device(&older, (2, 7, 7), b"").unwrap();
-    assert_eq!(says("older", &older), ("ready\n".into(), String::new(), Some(0)));
+    assert_eq!(says("ready", "older", &older), ("ready\n".into(), String::new(), Some(0)));
 }
 
 #[test]
@@ -87,7 +87,9 @@ fn device_6_says_why() {
 fn a_refused_snapshot_is_told_as_by_check() {
     let mut cut = panel(&[], &[&wrapper::EMPTY], &[0, 1]);
     cut.pop();
-    let (printed, told, status) = says("cut", &cut);
-    let refusal = snapshot::check(&cut).unwrap_err();
-    assert_eq!((printed.as_str(), told, status), ("", format!("refused {refusal}\n"), Some(1)));
+    let (printed, told, status) = says("ready", "cut", &cut);
+    assert!(told.starts_with("refused 7 CUT at "), "{told}");
+    assert_eq!((printed.as_str(), status), ("", Some(1)));
+    // What is said of the place is what every command says of it.
+    assert_eq!(says("list", "cut", &cut), (printed, told, status));
 }
