@@ -50,7 +50,7 @@ pub record Keeping : Type 0 where
 
 -- ---- edits read it as old content
 
-pub record Editing : Type 0 where
+pub record OldContent : Type 0 where
   -- every edit keeps the tails
   pub stays : (e : Edit) (c : Content) (i : Side) → tailAt i (apply e c) ≡ tailAt i c
   -- and so do adds in every order
@@ -73,5 +73,5 @@ pub record Longer : Type 0 where
 pub record Tails : Type 0 where
   pub taking : Taking
   pub keeping : Keeping
-  pub editing : Editing
+  pub editing : OldContent
   pub longer : Longer
