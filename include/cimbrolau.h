@@ -115,8 +115,11 @@ struct cimbrolau_answer cimbrolau_check(const uint8_t *file, size_t file_length)
  *   sections, in file order   u32 id, u16 version, u16 flags, u64 payload offset, u64 length
  *   devices, in key order     u32 id, u16 version, u16 flags, u64 payload offset, u64 length
  *   disks, in key order       u32 id, u32 base length, u64 base offset, u32 overlay length, u32 0
+ *   CPUs, in key order        u32 APIC id, u32 state length, u64 state offset, u64 length of the internal blob
+ *   MMUs, in key order        u32 APIC id, u32 state length, u64 state offset, u64 0
  *
  * and behind these 24 bytes, in each: u32 position, the number of the section in the file or of the entry in the file's own list, from 0; u32 0.
+ * A file that has one CPU or one MMU, in a section CPU or MMU, has no record of it: the table of sections names its state.
  * The structs have that layout: an array of them may be lent as a table.
  */
 struct cimbrolau_section {
@@ -140,14 +143,48 @@ struct cimbrolau_disk {
     uint32_t position, zero_too;
 };
 
+struct cimbrolau_cpu {
+    uint32_t apic, state_length;
+    uint64_t state_offset, blob_length; /* the internal blob starts 8 bytes behind the state */
+    uint32_t position, zero;
+};
+
+struct cimbrolau_mmu {
+    uint32_t apic, state_length;
+    uint64_t state_offset, zero;
+    uint32_t position, zero_too;
+};
+
 /* The most records that a table has. */
-enum { CIMBROLAU_MOST_SECTIONS = 64, CIMBROLAU_MOST_DEVICES = 4096, CIMBROLAU_MOST_DISKS = 256, CIMBROLAU_MOST_CONTROLLERS = 256 };
+enum { CIMBROLAU_MOST_SECTIONS = 64, CIMBROLAU_MOST_DEVICES = 4096, CIMBROLAU_MOST_DISKS = 256, CIMBROLAU_MOST_CPUS = 256, CIMBROLAU_MOST_MMUS = 256, CIMBROLAU_MOST_CONTROLLERS = 256 };
 
 struct cimbrolau_answer cimbrolau_sections(const uint8_t *file, size_t file_length, uint8_t *table, size_t table_length);
 
 struct cimbrolau_answer cimbrolau_devices(const uint8_t *file, size_t file_length, uint8_t *table, size_t table_length);
 
 struct cimbrolau_answer cimbrolau_disks(const uint8_t *file, size_t file_length, uint8_t *table, size_t table_length);
+
+struct cimbrolau_answer cimbrolau_cpus(const uint8_t *file, size_t file_length, uint8_t *table, size_t table_length);
+
+struct cimbrolau_answer cimbrolau_mmus(const uint8_t *file, size_t file_length, uint8_t *table, size_t table_length);
+
+/*
+ * What META says of a snapshot. Beside a refusal, and in a file that has no META section, all else is 0.
+ * The label is no text of C: it stands at label_place of the file, label_length bytes of UTF-8, with no zero behind it.
+ */
+struct cimbrolau_meta {
+    uint32_t number;
+    uint32_t present;    /* 1 where there is a META section */
+    uint64_t place;
+    uint64_t id;         /* of the snapshot */
+    uint32_t has_parent; /* 1 where it has one */
+    uint32_t has_label;
+    uint64_t parent;     /* the id of its parent */
+    uint64_t time;       /* in milliseconds, as the saver's clock had it */
+    uint64_t label_place, label_length;
+};
+
+struct cimbrolau_meta cimbrolau_meta(const uint8_t *file, size_t file_length);
 
 /* The canonical form of a file. It is never longer than the file. */
 struct cimbrolau_answer cimbrolau_canonical(const uint8_t *file, size_t file_length, uint8_t *out, size_t out_length);
@@ -394,6 +431,14 @@ CIMBROLAU_LAYOUT(disk, base_length, 4);
 CIMBROLAU_LAYOUT(disk, base_offset, 8);
 CIMBROLAU_LAYOUT(disk, overlay_length, 16);
 CIMBROLAU_LAYOUT(disk, position, 24);
+CIMBROLAU_LAYOUT(cpu, state_length, 4);
+CIMBROLAU_LAYOUT(cpu, state_offset, 8);
+CIMBROLAU_LAYOUT(cpu, blob_length, 16);
+CIMBROLAU_LAYOUT(cpu, position, 24);
+CIMBROLAU_LAYOUT(mmu, state_length, 4);
+CIMBROLAU_LAYOUT(mmu, state_offset, 8);
+CIMBROLAU_LAYOUT(mmu, zero, 16);
+CIMBROLAU_LAYOUT(mmu, position, 24);
 CIMBROLAU_LAYOUT(controller, tag, 4);
 CIMBROLAU_LAYOUT(controller, offset, 8);
 CIMBROLAU_LAYOUT(controller, length, 16);

@@ -54,6 +54,23 @@ export interface Disk {
   overlayLength: number;
   position: number;
 }
+export interface Mmu {
+  apic: number;
+  stateOffset: number;
+  stateLength: number;
+  position: number;
+}
+export interface Cpu extends Mmu {
+  blobOffset: number;
+  blobLength: number;
+}
+/** What META says of a snapshot; the time is in milliseconds. */
+export interface Meta {
+  id: bigint;
+  time: bigint;
+  parent?: bigint;
+  label?: string;
+}
 export interface Controller {
   address: number;
   tag: Bytes;
@@ -102,6 +119,9 @@ export interface Raw {
   sections(file: Bytes, table: Lent): Answer;
   devices(file: Bytes, table: Lent): Answer;
   disks(file: Bytes, table: Lent): Answer;
+  cpus(file: Bytes, table: Lent): Answer;
+  mmus(file: Bytes, table: Lent): Answer;
+  meta(file: Bytes): Answer & { present: number; id: bigint; has_parent: number; has_label: number; parent: bigint; time: bigint; label_place: number; label_length: number };
   canonical(file: Bytes, out: Lent): Answer;
   add_device(file: Bytes, id: number, version: number, flags: number, payload: Bytes, out: Lent): Answer;
   add_disk(file: Bytes, id: number, base: Bytes, overlay: Bytes, out: Lent): Answer;
@@ -138,6 +158,9 @@ export class Cimbrolau {
   sections(file: Bytes): Section[];
   devices(file: Bytes): Device[];
   disks(file: Bytes): Disk[];
+  cpus(file: Bytes): Cpu[];
+  mmus(file: Bytes): Mmu[];
+  meta(file: Bytes): Meta | undefined;
   canonical(file: Bytes): Bytes;
   addDevice(file: Bytes, key: DeviceKey, payload: Bytes): Bytes;
   addDisk(file: Bytes, id: number, base: Text, overlay: Text): Bytes;

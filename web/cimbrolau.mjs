@@ -77,6 +77,9 @@ const CALLS = `
   answer   sections           file >table
   answer   devices            file >table
   answer   disks              file >table
+  answer   cpus               file >table
+  answer   mmus               file >table
+  meta     meta               file
   answer   canonical          file >out
   answer   add_device         file id:u32 version:u16 flags:u16 payload >out
   answer   add_disk           file id:u32 base overlay >out
@@ -109,6 +112,7 @@ const CALLS = `
 const ANSWERS = {
   answer: 'number:u32 place:size',
   ready: 'number:u32 yes:u32 place:size',
+  meta: 'number:u32 present:u32 place:size id:u64 has_parent:u32 has_label:u32 parent:u64 time:u64 label_place:size label_length:size',
   message: 'number:u32 place:size tag:u32 a:u64 b:u64 c:u64 d:u64 data_place:size data_length:size',
   cursors: 'number:u32 place:size head:i32 reserve:i32 commit:i32',
   pair: 'number:u32 place:size start:u32 end:u32',
@@ -311,6 +315,33 @@ export class Cimbrolau {
     });
   }
 
+  /** The CPUs of a section CPUS in key order, with where their states and internal blobs stand. */
+  cpus(file) {
+    return records(this.#do('cpus', file, table(file, 1199, 256)).written, (view, at) => {
+      const state = stateOf(view, at);
+      const blobLength = READ.size(view, at + 16);
+      return { ...state, blobOffset: state.stateOffset + state.stateLength + 8, blobLength };
+    });
+  }
+
+  /** The MMUs of a section MMUS in key order. */
+  mmus(file) {
+    return records(this.#do('mmus', file, table(file, 16, 256)).written, stateOf);
+  }
+
+  /** What META says, or nothing where there is no such section: ids and the time (in milliseconds) are BigInts, parent and label may be missing. */
+  meta(file) {
+    const said = this.#do('meta', file);
+    if (said.present === 0) return undefined;
+    const label = new TextDecoder('utf-8', { ignoreBOM: true }).decode(file.slice(said.label_place, said.label_place + said.label_length));
+    return {
+      id: said.id,
+      time: said.time,
+      ...(said.has_parent === 1 && { parent: said.parent }),
+      ...(said.has_label === 1 && { label }),
+    };
+  }
+
   /** The canonical form. */
   canonical(file) {
     return this.#do('canonical', file, atMost(file.length)).written;
@@ -504,6 +535,15 @@ const bytesOf = (text) => (typeof text === 'string' ? new TextEncoder().encode(t
 function records(bytes, read) {
   const view = new DataView(bytes.buffer);
   return Array.from({ length: bytes.length / 32 }, (_, at) => read(view, 32 * at));
+}
+
+function stateOf(view, at) {
+  return {
+    apic: view.getUint32(at, true),
+    stateLength: view.getUint32(at + 4, true),
+    stateOffset: READ.size(view, at + 8),
+    position: view.getUint32(at + 24, true),
+  };
 }
 
 function sectionOf(view, at) {

@@ -5,7 +5,7 @@ use Prim.Native.Nat.{ℕ}
 use Rattle.answer.specs.Outcome.{Outcome}
 use Rattle.aerosnap.specs.File.{fileOf}
 use Rattle.aerosnap.specs.Content.{canonical}
-use Rattle.aerosnap.specs.Tables.{sectionTable, deviceTable, diskTable}
+use Rattle.aerosnap.specs.Tables.{sectionTable, deviceTable, diskTable, cpuTable, mmuTable}
 use Rattle.aerosnap.specs.Adding.{device, disk, deviceNamed, diskNamed}
 use Rattle.aerosnap.specs.Edits.{remove, replace, editFile, addItem}
 
@@ -20,6 +20,12 @@ devicesCall have file = deviceTable have file
 
 abbrev pub disksCall : ℕ → List ℕ → Outcome (List ℕ)
 disksCall have file = diskTable have file
+
+abbrev pub cpusCall : ℕ → List ℕ → Outcome (List ℕ)
+cpusCall have file = cpuTable have file
+
+abbrev pub mmusCall : ℕ → List ℕ → Outcome (List ℕ)
+mmusCall have file = mmuTable have file
 
 abbrev pub canonicalCall : ℕ → List ℕ → Outcome (List ℕ)
 canonicalCall have file = canonical have file

@@ -9,7 +9,9 @@ use Rattle.answer.specs.declared.Answer.{Answer}
 use Rattle.answer.specs.Outcome.{Outcome}
 use Rattle.answer.specs.Calls.{asked, verdict, Writes}
 use Rattle.answer.proofs.Once.{equal-once, writes-once}
-use Rattle.aerosnap.specs.Calls.{checkCall, sectionsCall, devicesCall, disksCall, canonicalCall, addDeviceCall, addDiskCall, removeDeviceCall, removeDiskCall, replaceDeviceCall}
+use Rattle.aerosnap.specs.Calls.{checkCall, sectionsCall, devicesCall, disksCall, cpusCall, mmusCall, canonicalCall, addDeviceCall, addDiskCall, removeDeviceCall, removeDiskCall, replaceDeviceCall}
+use Rattle.snapshot.specs.declared.MetaFields.{MetaFields}
+use Rattle.snapshot.specs.MetaSection.{metaCall, asMeta}
 use Rattle.dskc.specs.Wrapper as wrapped
 use Rattle.messages.specs.Reading.{readMessage, reading}
 use Rattle.numbers.specs.declared.Numbers.{Numbers}
@@ -49,6 +51,15 @@ devices-once file old r s new now a b = writes-once a b
 
 pub disks-once : Fills disksCall
 disks-once file old r s new now a b = writes-once a b
+
+pub cpus-once : Fills cpusCall
+cpus-once file old r s new now a b = writes-once a b
+
+pub mmus-once : Fills mmusCall
+mmus-once file old r s new now a b = writes-once a b
+
+pub meta-once : (file : List ℕ) {r s : MetaFields} → r ≡ asMeta (metaCall file) → s ≡ asMeta (metaCall file) → r ≡ s
+meta-once file e f = equal-once e f
 
 pub canonical-once : Fills canonicalCall
 canonical-once file old r s new now a b = writes-once a b

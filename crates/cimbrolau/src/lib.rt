@@ -8,10 +8,12 @@ use ready::Readiness;
 use region::Cursors;
 use rings::Pair;
 use rings::Record;
+use snapshot::MetaFields;
 ghost use mathlib.Core.Path.{_≡_};
 ghost use lib.ListN.{length};
 ghost use Rattle.answer.specs.Calls.{asked, verdict, Writes};
-ghost use Rattle.aerosnap.specs.Calls.{checkCall, sectionsCall, devicesCall, disksCall, canonicalCall, addDeviceCall, addDiskCall, removeDeviceCall, removeDiskCall, replaceDeviceCall};
+ghost use Rattle.aerosnap.specs.Calls.{checkCall, sectionsCall, devicesCall, disksCall, cpusCall, mmusCall, canonicalCall, addDeviceCall, addDiskCall, removeDeviceCall, removeDiskCall, replaceDeviceCall};
+ghost use Rattle.snapshot.specs.MetaSection.{metaCall, asMeta};
 ghost use Rattle.dskc.specs.Wrapper as wrapped;
 ghost use Rattle.messages.specs.Reading.{readMessage, reading};
 ghost use Rattle.numbers.specs.Numbers.{told, writeNumbers};
@@ -51,6 +53,27 @@ pub extern "C" fn cimbrolau_disks(file: &[u8], table: &mut [u8]) -> Answer
     ensures { λ r. ⌜ Writes (disksCall (length (now (table .entry))) (now (file .entry))) (now (table .entry)) r (now (table .exit)) ⌝ }
 {
     snapshot::disks(file, table)
+}
+
+#[no_mangle]
+pub extern "C" fn cimbrolau_cpus(file: &[u8], table: &mut [u8]) -> Answer
+    ensures { λ r. ⌜ Writes (cpusCall (length (now (table .entry))) (now (file .entry))) (now (table .entry)) r (now (table .exit)) ⌝ }
+{
+    snapshot::cpus(file, table)
+}
+
+#[no_mangle]
+pub extern "C" fn cimbrolau_mmus(file: &[u8], table: &mut [u8]) -> Answer
+    ensures { λ r. ⌜ Writes (mmusCall (length (now (table .entry))) (now (file .entry))) (now (table .entry)) r (now (table .exit)) ⌝ }
+{
+    snapshot::mmus(file, table)
+}
+
+#[no_mangle]
+pub extern "C" fn cimbrolau_meta(file: &[u8]) -> MetaFields
+    ensures { λ r. ⌜ r ≡ asMeta (metaCall (now (file .entry))) ⌝ }
+{
+    snapshot::meta(file)
 }
 
 #[no_mangle]

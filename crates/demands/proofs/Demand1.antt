@@ -20,8 +20,8 @@ use Rattle.answer.proofs.Once.{equal-once, writes-once}
 use Rattle.order.specs.Keyed.{Every, flat, sort}
 use Rattle.order.proofs.Folds.{every-append}
 use Rattle.entries.specs.Kinds.{controllers}
-use Rattle.tables.specs.declared.Table.the-variants.{Devices, Disks, Controllers}
-use Rattle.aerosnap.specs.Known.{DEVICES, DISKS}
+use Rattle.tables.specs.declared.Table.the-variants.{Controllers}
+use Rattle.aerosnap.specs.Known.{DEVICES, DISKS, CPUS, MMUS}
 use Rattle.tables.specs.Tables.{rowsAt}
 use Rattle.aerosnap.specs.File.{fileOf}
 use Rattle.aerosnap.specs.Content.{Content, contentAt, render, canonical}
@@ -277,8 +277,10 @@ pub demand1 : Demand1
 demand1 = record {
   check = λ file. answers (fileOf file) (file-faulty file);
   sections = λ file. fills _ (table-core (sectionRows 16 0) file);
-  devices = λ file. fills _ (table-core (λ l. flat (listRows Devices DEVICES) (placed 16 l)) file);
-  disks = λ file. fills _ (table-core (λ l. flat (listRows Disks DISKS) (placed 16 l)) file);
+  devices = λ file. fills _ (table-core (λ l. flat (listRows DEVICES) (placed 16 l)) file);
+  disks = λ file. fills _ (table-core (λ l. flat (listRows DISKS) (placed 16 l)) file);
+  cpus = λ file. fills _ (table-core (λ l. flat (listRows CPUS) (placed 16 l)) file);
+  mmus = λ file. fills _ (table-core (λ l. flat (listRows MMUS) (placed 16 l)) file);
   canonical = λ file. fills _ (canonical-core file);
   add-device = λ file id version flags payload. fills _ (edit-core file (add (device id version flags payload)));
   add-disk = λ file id base overlay. fills _ (edit-core file (add (disk id base overlay)));

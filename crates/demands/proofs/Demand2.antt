@@ -17,20 +17,22 @@ use Rattle.wire.specs.Numbers.{Bytes, leAt}
 use Rattle.wire.proofs.Numbers.{leAt-bound, leAt-bytesOf}
 use Rattle.order.specs.Keyed.{Every, flat}
 use Rattle.order.specs.Entries.{join}
-use Rattle.entries.specs.Kinds.{devices, disks, address}
-use Rattle.tables.specs.declared.Table.the-variants.{Devices, Disks, Controllers}
-use Rattle.tables.specs.Tables.{rowsAt}
+use Rattle.order.proofs.Folds.{every-imp}
+use Rattle.entries.specs.Kinds.{address}
+use Rattle.tables.specs.declared.Table.the-variants.{Controllers}
+use Rattle.tables.specs.Tables.{described, rowsAt}
 use Rattle.tables.specs.Named.{IsTable}
 use Rattle.tables.proofs.Named.{list-table}
-use Rattle.aerosnap.specs.Known.{DEVICES, DISKS}
+use Rattle.aerosnap.specs.Known.{DEVICES, DISKS, CPUS, MMUS, known}
+use Rattle.aerosnap.specs.Payloads.{list, bodyOf}
 use Rattle.aerosnap.specs.File.{fileMost, fileOf}
 use Rattle.aerosnap.specs.Rules.{IsSection}
 use Rattle.aerosnap.specs.Content.{Content, contentOf, contentAt, render, entriesIn, canonical}
-use Rattle.aerosnap.specs.Tables.{placed, listRows, sectionRows, table}
+use Rattle.aerosnap.specs.Tables.{placed, tableIn, listRows, sectionRows, table, listTable}
 use Rattle.aerosnap.specs.Edits.{Edit, apply, editChecks, editFile}
 use Rattle.aerosnap.proofs.Slots.{Once}
 use Rattle.aerosnap.proofs.Taken.{file-sound, taken-exactly, file-unique}
-use Rattle.aerosnap.proofs.Records.{SectionRows, section-rows, list-rows}
+use Rattle.aerosnap.proofs.Records.{SectionRows, section-rows, one-version, list-rows}
 use Rattle.aerosnap.proofs.Canonical.{fits-taken, taken-fits, canonical-is, same-canonical, same-content, any-saver}
 use Rattle.aerosnap.proofs.Passing.{edit-exactly}
 use Rattle.aerosnap.proofs.Edited.{edit-gives}
@@ -43,7 +45,7 @@ use Rattle.messages.proofs.Back.{told, read-written}
 use Rattle.messages.proofs.Exactly.{taken-writing, writing-unique, read-write}
 use Rattle.numbers.proofs.Back.{numbers-write}
 use Rattle.demands.specs.Demand1.{Taken}
-use Rattle.demands.specs.Demand2.{Writing, Canonical, Files, Tables, Keys, Addresses, Editing, ordered, Wrappers, Says, dataOf, Messages, Demand2}
+use Rattle.demands.specs.Demand2.{Writing, Canonical, Files, OfVersion, Tables, Keys, Addresses, Editing, ordered, Wrappers, Says, dataOf, Messages, Demand2}
 use Rattle.answer.proofs.Firsts.{after-refused}
 use Rattle.demands.proofs.FirstFaults.{faults}
 
@@ -129,20 +131,28 @@ sections-named s b y l e q =
     let r = file-read s l e in
     subst (SectionRows s 0 l) q (section-rows s y (r .short) 16 0 l (omega (arith, file-sound s e .1 .few)) (r .cut) (r .are))
 
+-- the table of a list in a file that is taken, whose section has a version
+module _ (i : ℕ) (k : known i ≡ true) (m : (v : ℕ) → bodyOf i v ≡ list (described (tableIn i v))) where
+  pub list-is : (s : List ℕ) (l : List (List ℕ)) → Bytes s → fileOf s ≡ taken l → (v : ℕ) → OfVersion i v l → IsTable (tableIn i v) s (entriesIn i (described (tableIn i v)) l) (flat (listRows i) (placed 16 l))
+  list-is s l y e v w = let r = file-read s l e in list-rows s y (r .short) (tableIn i v) i k m 16 l (r .cut) (r .are) (r .once) (every-imp (λ x h g. ap (tableIn i) (h g)) l w)
+
+  pub list-are : (have : ℕ) (s b : List ℕ) → Bytes s → listTable i have s ≡ taken b
+      → (l : List (List ℕ)) × (fileOf s ≡ taken l) × ((v : ℕ) × OfVersion i v l × IsTable (tableIn i v) s (entriesIn i (described (tableIn i v)) l) b)
+  list-are have s b y h =
+      let (l, e, q) = table-rows (λ l. flat (listRows i) (placed 16 l)) have s b h in
+      let (v, w) = one-version i k l (file-read s l e .once) in
+      (l, e, (v, w, subst (IsTable (tableIn i v) s (entriesIn i (described (tableIn i v)) l)) q (list-is s l y e v w)))
+
 tables : Tables
 tables = record {
   sections = λ have s b y h.
       let (l, e, q) = table-rows (sectionRows 16 0) have s b h in
       let v = sections-named s b y l e q in
       (l, e, (v .rows, v .bytes, v .names));
-  devices-are = λ have s b y h.
-      let (l, e, q) = table-rows (λ l. flat (listRows Devices DEVICES) (placed 16 l)) have s b h in
-      let r = file-read s l e in
-      (l, e, subst (IsTable Devices s (entriesIn DEVICES devices l)) q (list-rows s y (r .short) Devices DEVICES refl (λ v. refl) 16 l (r .cut) (r .are) (r .once)));
-  disks-are = λ have s b y h.
-      let (l, e, q) = table-rows (λ l. flat (listRows Disks DISKS) (placed 16 l)) have s b h in
-      let r = file-read s l e in
-      (l, e, subst (IsTable Disks s (entriesIn DISKS disks l)) q (list-rows s y (r .short) Disks DISKS refl (λ v. refl) 16 l (r .cut) (r .are) (r .once)));
+  devices-are = λ have s b y h. let (l, e, (v, w, q)) = list-are DEVICES refl (λ v. refl) have s b y h in (l, e, q);
+  disks-are = λ have s b y h. let (l, e, (v, w, q)) = list-are DISKS refl (λ v. refl) have s b y h in (l, e, q);
+  cpus-are = list-are CPUS refl (λ v. refl);
+  mmus-are = list-are MMUS refl (λ v. refl);
   controllers-are = λ have s b y h.
       let (r, e, q) = after-taken (wrapped.wrapperOf s) (λ l. fitting have (rowsAt Controllers 16 (drop 16 s) l)) h in
       let w = whole s e in

@@ -16,23 +16,23 @@ use Rattle.order.specs.Entries.{join}
 use Rattle.order.proofs.Folds.{flat-one}
 use Rattle.order.proofs.Perms.{perm-length, perm-flat}
 use Rattle.order.proofs.Sorts.{sort-perm}
-use Rattle.entries.specs.Kinds.{devices, disks}
+use Rattle.entries.specs.Kinds.{devices, disks, cpus, mmus}
 use Rattle.tables.specs.declared.Table.{Table}
-use Rattle.tables.specs.declared.Table.the-variants.{Devices, Disks, Controllers}
+use Rattle.tables.specs.declared.Table.the-variants.{Devices, Disks, Cpus, Mmus, Controllers}
 use Rattle.tables.specs.Tables.{ROW, described, rowsAt}
 use Rattle.tables.specs.Named.{NamesFramed, Names, Each, positionOf, numbersFrom, InFileOrder, IsTable}
-use Rattle.aerosnap.specs.Known.{DEVICES, DISKS, known}
+use Rattle.aerosnap.specs.Known.{DEVICES, DISKS, CPUS, MMUS, known}
 use Rattle.aerosnap.specs.Payloads.{list, bodyOf}
 use Rattle.aerosnap.specs.File.{fileOf}
 use Rattle.aerosnap.specs.Content.{entriesIn}
-use Rattle.aerosnap.specs.Tables.{placed, listRows, sectionRows, listTable}
+use Rattle.aerosnap.specs.Tables.{placed, tableIn, listRows, sectionRows, listTable}
 use Rattle.aerosnap.proofs.Canonical.{taken-fits}
-use Rattle.aerosnap.proofs.Records.{sections-filed, list-rows}
+use Rattle.aerosnap.proofs.Records.{sections-filed, one-version}
 use Rattle.aerosnap.proofs.Rows.{sections-length}
 use Rattle.dskc.specs.Wrapper as wrapped
-use Rattle.demands.specs.Demand2.{Writing}
+use Rattle.demands.specs.Demand2.{Writing, OfVersion}
 use Rattle.demands.specs.Positions.{byPosition, SaysOrder, Positions}
-use Rattle.demands.proofs.Demand2.{file-read, table-rows, sections-named, demand2}
+use Rattle.demands.proofs.Demand2.{file-read, table-rows, sections-named, list-is, demand2}
 
 -- ---- one by one
 
@@ -76,6 +76,8 @@ says-order R rows entries b e v n = record {
 names-long : (t : Table) (s row e : List ℕ) → Names t s row e → length row ≡ ROW
 names-long Devices s row e h = h .long
 names-long Disks s row e h = h .long
+names-long (Cpus v) s row e h = h .long
+names-long (Mmus v) s row e h = h .long
 names-long Controllers s row e h = h .long
 
 table-long : (t : Table) (s : List ℕ) (entries : List (List ℕ)) (b : List ℕ) → IsTable t s entries b → length b ≡ 32 * length entries
@@ -92,15 +94,11 @@ room-is {A} {r} {f} w have p a e h = go (w .refuses have ROOM p .0 h)
     go (inl q) = let z : _≡_ {A = ℕ} 0 1 = ap (λ (o : Outcome A). elim o as (λ _. ℕ) [ taken x ↦ 0 | refused n k ↦ 1 ]) (sym e ∙ q) in absurd (omega arith)
     go (inr (x, q, i, j, k)) = k ∙ ap (λ (y : A). length (f y)) (taken-is (sym q ∙ e))
 
--- the table of a list in a file that is taken
-list-is : (t : Table) (i : ℕ) → known i ≡ true → ((v : ℕ) → bodyOf i v ≡ list (described t)) → (s : List ℕ) (l : List (List ℕ)) → Bytes s → fileOf s ≡ taken l
-    → IsTable t s (entriesIn i (described t) l) (flat (listRows t i) (placed 16 l))
-list-is t i k m s l y e = let r = file-read s l e in list-rows s y (r .short) t i k m 16 l (r .cut) (r .are) (r .once)
-
-list-room : (t : Table) (i : ℕ) → known i ≡ true → ((v : ℕ) → bodyOf i v ≡ list (described t)) → (have p : ℕ) (s : List ℕ) (l : List (List ℕ)) → Bytes s → fileOf s ≡ taken l
-    → listTable t i have s ≡ refused ROOM p → p ≡ 32 * length (entriesIn i (described t) l)
-list-room t i k m have p s l y e h =
-    room-is (demand2 .files .tables (λ l. flat (listRows t i) (placed 16 l)) s) have p l e h ∙ table-long t s (entriesIn i (described t) l) (flat (listRows t i) (placed 16 l)) (list-is t i k m s l y e)
+list-room : (i : ℕ) → known i ≡ true → ((v : ℕ) → bodyOf i v ≡ list (described (tableIn i v))) → (have p : ℕ) (s : List ℕ) (l : List (List ℕ)) → Bytes s → fileOf s ≡ taken l → (v : ℕ) → OfVersion i v l
+    → listTable i have s ≡ refused ROOM p → p ≡ 32 * length (entriesIn i (described (tableIn i v)) l)
+list-room i k m have p s l y e v w h =
+    room-is (demand2 .files .tables (λ l. flat (listRows i) (placed 16 l)) s) have p l e h
+    ∙ table-long (tableIn i v) s (entriesIn i (described (tableIn i v)) l) (flat (listRows i) (placed 16 l)) (list-is i k m s l y e v w)
 
 pub positions : Positions
 positions = record {
@@ -110,10 +108,14 @@ positions = record {
       (l, e, says-order (NamesFramed s) (v .rows) l b (v .bytes) (sections-filed s l b v) (ap length (sym q) ∙ sections-length 16 0 l));
   devices-are = λ have s b y h. let (l, e, v) = demand2 .tables .devices-are have s b y h in (l, e, table-says Devices s (entriesIn DEVICES devices l) b v);
   disks-are = λ have s b y h. let (l, e, v) = demand2 .tables .disks-are have s b y h in (l, e, table-says Disks s (entriesIn DISKS disks l) b v);
+  cpus-are = λ have s b y h. let (l, e, (v, w, q)) = demand2 .tables .cpus-are have s b y h in (l, e, (v, w, table-says (Cpus v) s (entriesIn CPUS (cpus v) l) b q));
+  mmus-are = λ have s b y h. let (l, e, (v, w, q)) = demand2 .tables .mmus-are have s b y h in (l, e, (v, w, table-says (Mmus v) s (entriesIn MMUS (mmus v) l) b q));
   controllers-are = λ have s b y h. table-says Controllers s (wrapped.controllersOf s) b (demand2 .tables .controllers-are have s b y h);
   sections-room = λ have p s l e h. room-is (demand2 .files .tables (sectionRows 16 0) s) have p l e h ∙ sections-length 16 0 l;
-  devices-room = λ have p s l y e h. list-room Devices DEVICES refl (λ v. refl) have p s l y e h;
-  disks-room = λ have p s l y e h. list-room Disks DISKS refl (λ v. refl) have p s l y e h;
+  devices-room = λ have p s l y e h. let (v, w) = one-version DEVICES refl l (file-read s l e .once) in list-room DEVICES refl (λ v. refl) have p s l y e v w h;
+  disks-room = λ have p s l y e h. let (v, w) = one-version DISKS refl l (file-read s l e .once) in list-room DISKS refl (λ v. refl) have p s l y e v w h;
+  cpus-room = list-room CPUS refl (λ v. refl);
+  mmus-room = list-room MMUS refl (λ v. refl);
   controllers-room = λ have p s r y e h.
       let rows : List ℕ = rowsAt Controllers 16 (drop 16 s) r in
       room-is (demand2 .wrappers .table s) have p r e h

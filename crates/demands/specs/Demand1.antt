@@ -12,7 +12,7 @@ use Rattle.answer.specs.declared.Answer.{Answer}
 use Rattle.answer.specs.Numbers.{ROOM, isNumber}
 use Rattle.answer.specs.Outcome.{Outcome, taken, refused, Faulty}
 use Rattle.answer.specs.Calls.{verdict, Writes}
-use Rattle.aerosnap.specs.Calls.{checkCall, sectionsCall, devicesCall, disksCall, canonicalCall, addDeviceCall, addDiskCall, removeDeviceCall, removeDiskCall, replaceDeviceCall}
+use Rattle.aerosnap.specs.Calls.{checkCall, sectionsCall, devicesCall, disksCall, cpusCall, mmusCall, canonicalCall, addDeviceCall, addDiskCall, removeDeviceCall, removeDiskCall, replaceDeviceCall}
 use Rattle.dskc.specs.Wrapper as wrapped
 use Rattle.kinds.specs.declared.Message.{Message}
 use Rattle.kinds.specs.declared.Message.the-variants.{Nothing}
@@ -91,6 +91,10 @@ pub record Demand1 : Type 0 where
   pub devices : (file : List ℕ) → Fills (λ have. devicesCall have file)
   -- snapshot::disks, cimbrolau_disks
   pub disks : (file : List ℕ) → Fills (λ have. disksCall have file)
+  -- snapshot::cpus, cimbrolau_cpus
+  pub cpus : (file : List ℕ) → Fills (λ have. cpusCall have file)
+  -- snapshot::mmus, cimbrolau_mmus
+  pub mmus : (file : List ℕ) → Fills (λ have. mmusCall have file)
   -- snapshot::canonical, cimbrolau_canonical
   pub canonical : (file : List ℕ) → Fills (λ have. canonicalCall have file)
   -- snapshot::add_device, cimbrolau_add_device

@@ -15,19 +15,19 @@ use Rattle.order.specs.Keyed.{Every, flat, keep, sort, has, Apart}
 use Rattle.order.specs.Entries.{join}
 use Rattle.entries.specs.declared.Kind.{Kind}
 use Rattle.entries.specs.Code.{describe}
-use Rattle.entries.specs.Kinds.{Description, devices, disks, controllers, deviceKey, address, busOf, deviceOf, functionOf}
+use Rattle.entries.specs.Kinds.{Description, devices, disks, cpus, mmus, controllers, deviceKey, address, busOf, deviceOf, functionOf}
 use Rattle.lists.specs.Lists.{entryChecks, endChecks, countChecks, listAt}
-use Rattle.tables.specs.declared.Table.the-variants.{Devices, Disks, Controllers}
+use Rattle.tables.specs.declared.Table.the-variants.{Devices, Disks, Cpus, Mmus, Controllers}
 use Rattle.tables.specs.Tables.{rowsAt}
 use Rattle.tables.specs.Named.{NamesFramed, Each, IsTable}
-use Rattle.aerosnap.specs.Known.{DEVICES, DISKS, known}
+use Rattle.aerosnap.specs.Known.{DEVICES, DISKS, CPUS, MMUS, known}
 use Rattle.aerosnap.specs.Payloads.{bodyOf, payload}
 use Rattle.aerosnap.specs.File.{header, headerChecks, idOf, versionOf, flagsOf, payloadOf, frameChecks, knownChecks}
 use Rattle.aerosnap.specs.Rules.{IsFile}
-use Rattle.aerosnap.specs.Content.{Content, contentOf, contentAt, render, tidy, isOther, entriesIn, tailIn, IsCanonical}
+use Rattle.aerosnap.specs.Content.{Content, contentOf, contentAt, render, tidy, isOther, isId, entriesIn, tailIn, IsCanonical}
 use Rattle.aerosnap.specs.Tables.{table}
 use Rattle.aerosnap.specs.Edits.{Edit, apply, editChecks, editFile, EditCall}
-use Rattle.aerosnap.specs.Calls.{checkCall, sectionsCall, devicesCall, disksCall, canonicalCall}
+use Rattle.aerosnap.specs.Calls.{checkCall, sectionsCall, devicesCall, disksCall, cpusCall, mmusCall, canonicalCall}
 use Rattle.dskc.specs.Wrapper as wrapped
 use Rattle.kinds.specs.declared.Message.{Message}
 use Rattle.kinds.specs.declared.Cell.{Cell}
@@ -57,7 +57,7 @@ pub record Files : Type 0 where
   -- taken with certain sections exactly if it is the header and these, and they follow the rules; and no others are
   pub exactly : (s : List ℕ) (l : List (List ℕ)) → (checkCall s ≡ taken l) ↔ ((s ≡ header ++ join l) × IsFile l)
   pub unique : (l m : List (List ℕ)) → IsFile l → IsFile m → header ++ join l ≡ header ++ join m → l ≡ m
-  -- a table is the records that are made of the sections (the calls `sections`, `devices` and `disks` differ in `rows` alone)
+  -- a table is the records that are made of the sections (the calls `sections`, `devices`, `disks`, `cpus` and `mmus` differ in `rows` alone)
   pub tables : (rows : List (List ℕ) → List ℕ) (s : List ℕ) → Writing (checkCall s) rows (λ have. table rows have s)
   -- the canonical form is the rendering of the content
   pub canonical : (s : List ℕ) → Writing (contentAt s) render (λ have. canonicalCall have s)
@@ -74,6 +74,10 @@ pub record Files : Type 0 where
 
 -- ---- tables: each record's offset and length name the payload, records ascend by key, and each entry has one record (crates/tables/specs/Named.antt)
 
+-- a section with that id has that version
+abbrev pub OfVersion : ℕ → ℕ → List (List ℕ) → Type 0
+OfVersion i v l = Every (λ e. isId i e ≡ true → versionOf e ≡ v) l
+
 pub record Tables : Type 0 where
   -- one record for each section, in file order
   pub sections : (have : ℕ) (s b : List ℕ) → Bytes s → sectionsCall have s ≡ taken b
@@ -81,6 +85,9 @@ pub record Tables : Type 0 where
   -- the file's devices, its disks, the wrapper's controllers
   pub devices-are : (have : ℕ) (s b : List ℕ) → Bytes s → devicesCall have s ≡ taken b → (l : List (List ℕ)) × (checkCall s ≡ taken l) × IsTable Devices s (entriesIn DEVICES devices l) b
   pub disks-are : (have : ℕ) (s b : List ℕ) → Bytes s → disksCall have s ≡ taken b → (l : List (List ℕ)) × (checkCall s ≡ taken l) × IsTable Disks s (entriesIn DISKS disks l) b
+  -- its CPUs and its MMUs, by the version of their section; a file that has none has no entry, and an empty table
+  pub cpus-are : (have : ℕ) (s b : List ℕ) → Bytes s → cpusCall have s ≡ taken b → (l : List (List ℕ)) × (checkCall s ≡ taken l) × ((v : ℕ) × OfVersion CPUS v l × IsTable (Cpus v) s (entriesIn CPUS (cpus v) l) b)
+  pub mmus-are : (have : ℕ) (s b : List ℕ) → Bytes s → mmusCall have s ≡ taken b → (l : List (List ℕ)) × (checkCall s ≡ taken l) × ((v : ℕ) × OfVersion MMUS v l × IsTable (Mmus v) s (entriesIn MMUS (mmus v) l) b)
   pub controllers-are : (have : ℕ) (s b : List ℕ) → Bytes s → wrapped.controllersCall have s ≡ taken b → IsTable Controllers s (wrapped.controllersOf s) b
 
 -- ---- keys and addresses

@@ -10,13 +10,15 @@ use Rattle.answer.specs.Outcome.{taken, refused}
 use Rattle.wire.specs.Numbers.{Bytes, leAt}
 use Rattle.order.specs.Keyed.{Every, sort}
 use Rattle.order.specs.Entries.{join}
-use Rattle.entries.specs.Kinds.{devices, disks}
-use Rattle.tables.specs.declared.Table.the-variants.{Devices, Disks, Controllers}
+use Rattle.entries.specs.Kinds.{devices, disks, cpus, mmus}
+use Rattle.tables.specs.declared.Table.the-variants.{Devices, Disks, Cpus, Mmus, Controllers}
+use Rattle.tables.specs.Tables.{ROW}
 use Rattle.tables.specs.Named.{NamesFramed, Names, Each, positionOf, numbersFrom}
-use Rattle.aerosnap.specs.Known.{DEVICES, DISKS}
+use Rattle.aerosnap.specs.Known.{DEVICES, DISKS, CPUS, MMUS}
 use Rattle.aerosnap.specs.Content.{entriesIn}
-use Rattle.aerosnap.specs.Calls.{checkCall, sectionsCall, devicesCall, disksCall}
+use Rattle.aerosnap.specs.Calls.{checkCall, sectionsCall, devicesCall, disksCall, cpusCall, mmusCall}
 use Rattle.dskc.specs.Wrapper.{wrapperOf, controllersOf, controllersCall}
+use Rattle.demands.specs.Demand2.{OfVersion}
 
 -- the records sorted by their positions
 abbrev pub byPosition : List (List ℕ) → List (List ℕ)
@@ -40,9 +42,13 @@ pub record Positions : Type 0 where
   pub sections : (have : ℕ) (s b : List ℕ) → Bytes s → sectionsCall have s ≡ taken b → (l : List (List ℕ)) × (checkCall s ≡ taken l) × SaysOrder (NamesFramed s) l b
   pub devices-are : (have : ℕ) (s b : List ℕ) → Bytes s → devicesCall have s ≡ taken b → (l : List (List ℕ)) × (checkCall s ≡ taken l) × SaysOrder (Names Devices s) (entriesIn DEVICES devices l) b
   pub disks-are : (have : ℕ) (s b : List ℕ) → Bytes s → disksCall have s ≡ taken b → (l : List (List ℕ)) × (checkCall s ≡ taken l) × SaysOrder (Names Disks s) (entriesIn DISKS disks l) b
+  pub cpus-are : (have : ℕ) (s b : List ℕ) → Bytes s → cpusCall have s ≡ taken b → (l : List (List ℕ)) × (checkCall s ≡ taken l) × ((v : ℕ) × OfVersion CPUS v l × SaysOrder (Names (Cpus v) s) (entriesIn CPUS (cpus v) l) b)
+  pub mmus-are : (have : ℕ) (s b : List ℕ) → Bytes s → mmusCall have s ≡ taken b → (l : List (List ℕ)) × (checkCall s ≡ taken l) × ((v : ℕ) × OfVersion MMUS v l × SaysOrder (Names (Mmus v) s) (entriesIn MMUS (mmus v) l) b)
   pub controllers-are : (have : ℕ) (s b : List ℕ) → Bytes s → controllersCall have s ≡ taken b → SaysOrder (Names Controllers s) (controllersOf s) b
   -- ROOM names 32 bytes for each
   pub sections-room : (have p : ℕ) (s : List ℕ) (l : List (List ℕ)) → checkCall s ≡ taken l → sectionsCall have s ≡ refused ROOM p → p ≡ 32 * length l
   pub devices-room : (have p : ℕ) (s : List ℕ) (l : List (List ℕ)) → Bytes s → checkCall s ≡ taken l → devicesCall have s ≡ refused ROOM p → p ≡ 32 * length (entriesIn DEVICES devices l)
   pub disks-room : (have p : ℕ) (s : List ℕ) (l : List (List ℕ)) → Bytes s → checkCall s ≡ taken l → disksCall have s ≡ refused ROOM p → p ≡ 32 * length (entriesIn DISKS disks l)
+  pub cpus-room : (have p : ℕ) (s : List ℕ) (l : List (List ℕ)) → Bytes s → checkCall s ≡ taken l → (v : ℕ) → OfVersion CPUS v l → cpusCall have s ≡ refused ROOM p → p ≡ 32 * length (entriesIn CPUS (cpus v) l)
+  pub mmus-room : (have p : ℕ) (s : List ℕ) (l : List (List ℕ)) → Bytes s → checkCall s ≡ taken l → (v : ℕ) → OfVersion MMUS v l → mmusCall have s ≡ refused ROOM p → p ≡ 32 * length (entriesIn MMUS (mmus v) l)
   pub controllers-room : (have p : ℕ) (s r : List ℕ) → Bytes s → wrapperOf s ≡ taken r → controllersCall have s ≡ refused ROOM p → p ≡ 32 * length (controllersOf s)

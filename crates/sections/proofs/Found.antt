@@ -14,7 +14,7 @@ use Rattle.answer.specs.declared.Piece.the-variants.{Stop, Ends}
 use Rattle.answer.specs.Outcome.{Outcome, taken, refused, after}
 use Rattle.answer.proofs.Outcomes.{taken-is, made-stop, made-taken, made-same}
 use Rattle.wire.specs.Numbers.{leAt}
-use Rattle.wire.proofs.Numbers.{leAt-here}
+use Rattle.wire.proofs.Numbers.{leAt-here, leAt-append}
 use Rattle.order.specs.Keyed.{flat, keep}
 use Rattle.order.specs.Entries.{join}
 use Rattle.order.proofs.Folds.{every-imp}
@@ -147,6 +147,7 @@ pub record Here (i : ℕ) (s : List ℕ) (l : List (List ℕ)) (p : ℕ) : Type 
   pub sec : List ℕ
   pub is : IsSection sec
   pub id : idOf sec ≡ i
+  pub version : leAt 2 s (p + 4) ≡ versionOf sec
   pub alone : keep (isId i) l ≡ sec ∷ []
   pub part : take (leAt 8 s (p + 8)) (drop (p + 16) s) ≡ drop 16 sec
   pub fits : endAt s p ≤ length s
@@ -176,6 +177,7 @@ module _ (i : ℕ) (s : List ℕ) where
           sec = e;
           is = v .are .0;
           id = q;
+          version = sym (leAt-here 2 s (at + 4)) ∙ ap (λ (b : List ℕ). leAt 2 b 0) (sym (drop-drop 4 at s) ∙ ap (drop 4) (v .cut)) ∙ leAt-here 2 (e ++ join l) 4 ∙ leAt-append 2 e (join l) 4 (omega arith);
           alone = rw (eq-eqb (idOf e) i q) (ap (λ (m : List (List ℕ)). e ∷ m) o);
           part = ap (take (leAt 8 s (at + 8))) c ∙ take-at (drop 16 e) (join l) (leAt 8 s (at + 8)) j;
           fits = omega arith;
@@ -189,7 +191,7 @@ module _ (i : ℕ) (s : List ℕ) where
         go : (b : Bool) → isId i e ≡ b → cond b at (placeOf i (at + length e) l) < length s → (placeOf i (at + length e) l < length s → Here i s l (placeOf i (at + length e) l))
             → Here i s (e ∷ l) (cond b at (placeOf i (at + length e) l))
         go true q h r = first at e l v d (eqb-true (idOf e) i q)
-        go false q h r = let x = r h in record { sec = x .sec; is = x .is; id = x .id; alone = rw q (x .alone); part = x .part; fits = x .fits }
+        go false q h r = let x = r h in record { sec = x .sec; is = x .is; id = x .id; version = x .version; alone = rw q (x .alone); part = x .part; fits = x .fits }
 
   -- a file that is taken, and where the section with the id was found in it
   module _ {l : List (List ℕ)} (c : fileOf s ≡ taken l) {p : ℕ} (q : p ≡ placeOf i 16 l) where

@@ -1,3 +1,4 @@
 pub mod Walks
 pub mod Reading
+pub mod MetaSection
 pub mod Once

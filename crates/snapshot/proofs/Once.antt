@@ -7,7 +7,9 @@ use Prim.Native.Nat.{ℕ}
 use Rattle.answer.specs.declared.Answer.{Answer}
 use Rattle.answer.specs.Calls.{verdict, Writes}
 use Rattle.answer.proofs.Once.{equal-once, writes-once}
-use Rattle.aerosnap.specs.Calls.{checkCall, sectionsCall, devicesCall, disksCall}
+use Rattle.aerosnap.specs.Calls.{checkCall, sectionsCall, devicesCall, disksCall, cpusCall, mmusCall}
+use Rattle.snapshot.specs.declared.MetaFields.{MetaFields}
+use Rattle.snapshot.specs.MetaSection.{metaCall, asMeta}
 
 pub check-once : (file : List ℕ) {r p : Answer} → r ≡ verdict (checkCall file) → p ≡ verdict (checkCall file) → r ≡ p
 check-once file a b = equal-once a b
@@ -23,3 +25,14 @@ devices-once file old a b = writes-once a b
 pub disks-once : (file old : List ℕ) {new now : List ℕ} {r p : Answer}
     → Writes (disksCall (length old) file) old r new → Writes (disksCall (length old) file) old p now → (r ≡ p) × (new ≡ now)
 disks-once file old a b = writes-once a b
+
+pub cpus-once : (file old : List ℕ) {new now : List ℕ} {r p : Answer}
+    → Writes (cpusCall (length old) file) old r new → Writes (cpusCall (length old) file) old p now → (r ≡ p) × (new ≡ now)
+cpus-once file old a b = writes-once a b
+
+pub mmus-once : (file old : List ℕ) {new now : List ℕ} {r p : Answer}
+    → Writes (mmusCall (length old) file) old r new → Writes (mmusCall (length old) file) old p now → (r ≡ p) × (new ≡ now)
+mmus-once file old a b = writes-once a b
+
+pub meta-once : (file : List ℕ) {r p : MetaFields} → r ≡ asMeta (metaCall file) → p ≡ asMeta (metaCall file) → r ≡ p
+meta-once file a b = equal-once a b

@@ -23,7 +23,7 @@ use Rattle.tables.specs.Tables.{ROW, described, rowsIn, rowsAt}
 use Rattle.tables.proofs.Rows.{length-rows, rows-all}
 use Rattle.aerosnap.specs.Payloads.{list, bodyOf}
 use Rattle.aerosnap.specs.File.{idOf, versionOf, fileOf}
-use Rattle.aerosnap.specs.Tables.{placed, listRows, sectionRows, table, sectionTable, listTable}
+use Rattle.aerosnap.specs.Tables.{placed, tableIn, entryRows, listRows, sectionRows, table, sectionTable, listTable}
 use Rattle.aerosnap.proofs.Rows.{sections-length}
 use Rattle.aerosnap.proofs.Taken.{file-sound}
 use Rattle.aerosnap.proofs.Standing.{stand-start, endAt, no-section}
@@ -56,21 +56,21 @@ module _ (s : List ℕ) where
   pub sections-stop : (old : List ℕ) {n p : ℕ} → refused n p ≡ counted (fileOf s) → Writes (sectionTable (length old) s) old (record { number = n; place = p }) old
   sections-stop old h = stopped (sectionRows 16 0) old (made-stop (fileOf s) length h)
 
-  pub list-stop : (t : Table) (i : ℕ) (old : List ℕ) {n p : ℕ} → refused n p ≡ spotIn i (fileOf s) → Writes (listTable t i (length old) s) old (record { number = n; place = p }) old
-  list-stop t i old h = stopped (λ l. flat (listRows t i) (placed 16 l)) old (spot-stop i s h)
+  pub list-stop : (i : ℕ) (old : List ℕ) {n p : ℕ} → refused n p ≡ spotIn i (fileOf s) → Writes (listTable i (length old) s) old (record { number = n; place = p }) old
+  list-stop i old h = stopped (λ l. flat (listRows i) (placed 16 l)) old (spot-stop i s h)
 
   -- a file that is taken: its table, for an output of so many bytes
   pub table-of : (rows : List (List ℕ) → List ℕ) (have : ℕ) {l : List (List ℕ)} → fileOf s ≡ taken l → table rows have s ≡ fitting have (rows l)
   table-of rows have h = ap (λ (o : Outcome (List (List ℕ))). after o (λ l. fitting have (rows l))) h
 
   -- a file that has no section: no record, so that its verdict is the answer
-  pub bare-table : (t : Table) (i : ℕ) (old : List ℕ) → length s ≤ 16 → {r : Answer} → r ≡ verdict (fileOf s) → Writes (listTable t i (length old) s) old r old
-  bare-table t i old h k = subst (λ (r : Answer). Writes (listTable t i (length old) s) old r old) (sym k) (go (fileOf s) refl)
+  pub bare-table : (i : ℕ) (old : List ℕ) → length s ≤ 16 → {r : Answer} → r ≡ verdict (fileOf s) → Writes (listTable i (length old) s) old r old
+  bare-table i old h k = subst (λ (r : Answer). Writes (listTable i (length old) s) old r old) (sym k) (go (fileOf s) refl)
     where
       rows : List (List ℕ) → List ℕ
-      rows l = flat (listRows t i) (placed 16 l)
+      rows l = flat (listRows i) (placed 16 l)
 
-      go : (o : Outcome (List (List ℕ))) → fileOf s ≡ o → Writes (listTable t i (length old) s) old (verdict o) old
+      go : (o : Outcome (List (List ℕ))) → fileOf s ≡ o → Writes (listTable i (length old) s) old (verdict o) old
       go (refused n p) e = stopped rows old e
       go (taken l) e = writes-taken (table-of rows (length old) e ∙ ap (λ (m : List (List ℕ)). fitting (length old) (rows m)) (no-section s e h) ∙ rw (none-placed, le-leb 0 (length old) (omega arith))) (none old)
 
@@ -100,17 +100,21 @@ module _ (s old : List ℕ) {n : ℕ} (h : taken n ≡ counted (fileOf s)) where
 -- ---- the table of the list with an id
 
 -- no section has it: no record
-pub list-none : (t : Table) (i : ℕ) (s : List ℕ) {p n : ℕ} → Sited i s p n → length s ≤ p → (old : List ℕ) → Writes (listTable t i (length old) s) old (record { number = 0; place = 0 }) old
-list-none t i s x g old =
-    let n = made-none i (λ q. rowsAt t (q .0 + 16) (drop 16 (q .1)) (startsIn (listAt (described t) (drop 16 (q .1))))) 16 (sectionsIn s) (none-there i s (x .read) (x .place) g) in
-    writes-taken (table-of s (λ l. flat (listRows t i) (placed 16 l)) (length old) (x .read) ∙ rw (n, le-leb 0 (length old) (omega arith))) (none old)
+pub list-none : (i : ℕ) (s : List ℕ) {p n : ℕ} → Sited i s p n → length s ≤ p → (old : List ℕ) → Writes (listTable i (length old) s) old (record { number = 0; place = 0 }) old
+list-none i s x g old =
+    let n = made-none i (λ q. entryRows (tableIn i (versionOf (q .1))) q) 16 (sectionsIn s) (none-there i s (x .read) (x .place) g) in
+    writes-taken (table-of s (λ l. flat (listRows i) (placed 16 l)) (length old) (x .read) ∙ rw (n, le-leb 0 (length old) (omega arith))) (none old)
 
-module _ {t : Table} {i : ℕ} {s index : List ℕ} {p first : ℕ} (x : Lists t i s p index first) where
+module _ {i : ℕ} {s index : List ℕ} {p first : ℕ} (x : Lists i s p index first) where
   found : Here i s (sectionsIn s) p
   found = there i s (x .read) (x .place) (x .is-known) (x .there)
 
   pub list-fits : (endAt s p ≤ length s) × (length s ≤ 1073741824)
   list-fits = (found .fits, stand-start s (x .read) .short)
+
+  -- its table, by the version that stands at its place
+  abbrev t : Table
+  t = tableIn i (versionOf (found .sec))
 
   body-is : bodyOf (idOf (found .sec)) (versionOf (found .sec)) ≡ list (described t)
   body-is = ap (λ (j : ℕ). bodyOf j (versionOf (found .sec))) (found .id) ∙ x .body (versionOf (found .sec))
@@ -125,12 +129,12 @@ module _ {t : Table} {i : ℕ} {s index : List ℕ} {p first : ℕ} (x : Lists t
       abbrev rows : List ℕ
       rows = rowsAt t (p + 16) (take (e - (p + 16)) (drop (p + 16) s)) (take (first + n - first) (drop first index))
 
-      all : flat (listRows t i) (placed 16 (sectionsIn s)) ≡ rows
+      all : flat (listRows i) (placed 16 (sectionsIn s)) ≡ rows
       all =
           let b : List ℕ = drop 16 (found .sec) in
           let z : e - (p + 16) ≡ leAt 8 s (p + 8) = omega arith in
           let part : take (e - (p + 16)) (drop (p + 16) s) ≡ b = ap (λ (j : ℕ). take j (drop (p + 16) s)) z ∙ found .part in
-          made-one i (λ q. rowsAt t (q .0 + 16) (drop 16 (q .1)) (startsIn (listAt (described t) (drop 16 (q .1))))) 16 (sectionsIn s) (found .alone)
+          made-one i (λ q. entryRows (tableIn i (versionOf (q .1))) q) 16 (sectionsIn s) (found .alone)
           ∙ ap (λ (j : ℕ). rowsAt t (j + 16) b (startsIn (listAt (described t) b))) (sym (x .place))
           ∙ ap (λ (o : Outcome (List ℕ)). rowsAt t (p + 16) b (startsIn o)) (starts-list (found .sec) (found .is) body-is)
           ∙ ap (rowsAt t (p + 16) b) (sym (found-starts found body-is (x .starts) (x .front) c))
@@ -142,15 +146,16 @@ module _ {t : Table} {i : ℕ} {s index : List ℕ} {p first : ℕ} (x : Lists t
       rows-long : length rows ≡ ROW * n
       rows-long = length-rows t (p + 16) (take (e - (p + 16)) (drop (p + 16) s)) (take (first + n - first) (drop first index)) ∙ ap (λ (m : ℕ). ROW * m) count
 
-      is-table : (have : ℕ) → listTable t i have s ≡ fitting have rows
-      is-table have = table-of s (λ l. flat (listRows t i) (placed 16 l)) have (x .read) ∙ ap (fitting have) all
+      is-table : (have : ℕ) → listTable i have s ≡ fitting have rows
+      is-table have = table-of s (λ l. flat (listRows i) (placed 16 l)) have (x .read) ∙ ap (fitting have) all
 
-      pub list-short : (old : List ℕ) → length old < ROW * n → Writes (listTable t i (length old) s) old (record { number = ROOM; place = ROW * n }) old
+      pub list-short : (old : List ℕ) → length old < ROW * n → Writes (listTable i (length old) s) old (record { number = ROOM; place = ROW * n }) old
       list-short old h = writes-refused (is-table (length old) ∙ rw (rows-long, lt-leb (ROW * n) (length old) h))
 
-      pub list-done : {old new : List ℕ} {r : ℕ} → ROW * n ≤ length old
-          → Wrote (rowsIn t (p + 16) (take (e - (p + 16)) (drop (p + 16) s)) (take (first + n - first) (drop first index)) (take (length old / ROW) (take (first + n - first) (drop first index)))) old new r
-          → Writes (listTable t i (length old) s) old (record { number = 0; place = ROW * n }) new
-      list-done {old} {new} h w =
-          let v : Wrote rows old new _ = rw (rows-all (take (first + n - first) (drop first index)) (length old) (omega (arith, count))) at w in
+      pub list-done : {u : Table} {w : ℕ} → u ≡ tableIn i w → w ≡ leAt 2 s (p + 4) → {old new : List ℕ} {r : ℕ} → ROW * n ≤ length old
+          → Wrote (rowsIn u (p + 16) (take (e - (p + 16)) (drop (p + 16) s)) (take (first + n - first) (drop first index)) (take (length old / ROW) (take (first + n - first) (drop first index)))) old new r
+          → Writes (listTable i (length old) s) old (record { number = 0; place = ROW * n }) new
+      list-done {u} d g {old} {new} h w =
+          let j : u ≡ t = d ∙ ap (tableIn i) (g ∙ found .version) in
+          let v : Wrote rows old new _ = rw (j, rows-all (take (first + n - first) (drop first index)) (length old) (omega (arith, count))) at w in
           writes-taken {b = rows} (is-table (length old) ∙ rw (rows-long, le-leb (ROW * n) (length old) h)) (record { count = sym rows-long; bytes = v .bytes })

@@ -10,9 +10,10 @@ use sections::Spot;
 use tables::ROW;
 use tables::Table;
 ghost use mathlib.Core.Path.{_≡_};
-ghost use mathlib.Core.Bool.{true};
+ghost use mathlib.Core.Bool.{true, cond};
 ghost use mathlib.Core.List.{List};
 ghost use Prim.Native.Nat.{ℕ, _+_, _*_, _≤_};
+ghost use lib.Dec.{eqb};
 ghost use lib.ListN.{length};
 ghost use Rattle.answer.specs.Outcome.{taken, done};
 ghost use Rattle.answer.specs.Calls.{testOf, verdict, Writes};
@@ -23,17 +24,24 @@ ghost use Rattle.aerosnap.specs.Known.{known};
 ghost use Rattle.aerosnap.specs.Payloads.{list, bodyOf};
 ghost use Rattle.aerosnap.specs.File.{fileMost, fileOf};
 ghost use Rattle.aerosnap.specs.Tables as file_tables;
-ghost use Rattle.aerosnap.specs.Calls.{checkCall, sectionsCall, devicesCall, disksCall, canonicalCall, addDeviceCall, addDiskCall, removeDeviceCall, removeDiskCall, replaceDeviceCall};
+ghost use Rattle.aerosnap.specs.Calls.{checkCall, sectionsCall, devicesCall, disksCall, cpusCall, mmusCall, canonicalCall, addDeviceCall, addDiskCall, removeDeviceCall, removeDiskCall, replaceDeviceCall};
 ghost use Rattle.sections.specs.Index.{HoldsStarts};
 ghost use Rattle.snapshot.specs.Walks.{Lists};
+ghost use Rattle.snapshot.specs.MetaSection.{silent, metaAt, metaCall, asMeta};
 
 // A file that is no longer than its header has no section, and its tables are empty.
 const HEADER: usize = 16;
+
+const META: u32 = 1;
 
 // The ids of the lists that have a table.
 const DEVICES: u32 = 4;
 
 const DISKS: u32 = 5;
+
+const CPUS: u32 = 7;
+
+const MMUS: u32 = 8;
 
 // The first fault of a file, if any. Nothing is written before the whole file is looked at.
 fn faults(file: &[u8]) -> Test
@@ -104,9 +112,24 @@ pub fn sections(file: &[u8], table: &mut [u8]) -> Answer
     }
 }
 
+// The table of a list, by the id and the version of its section.
+fn table_in(id: u32, version: u16) -> Table
+    ensures { λ r. ⌜ r ≡ file_tables.tableIn id version ⌝ }
+{
+    if id == DEVICES {
+        return Table::Devices;
+    }
+    if id == DISKS {
+        return Table::Disks;
+    }
+    if id == CPUS {
+        return Table::Cpus(version);
+    }
+    Table::Mmus(version)
+}
+
 // The records of the list whose section is at a place, from its starts in the index, where there is room for them.
 fn put_table(
-    t: Table,
     id: u32,
     file: &[u8],
     at: usize,
@@ -114,8 +137,8 @@ fn put_table(
     first: usize,
     table: &mut [u8],
 ) -> Answer
-    requires { ⌜ Lists t id (now file) at (now index) first ⌝ }
-    ensures { λ r. ⌜ Writes (file_tables.listTable t id (length (now (table .entry))) (now (file .entry))) (now (table .entry)) r (now (table .exit)) ⌝ }
+    requires { ⌜ Lists id (now file) at (now index) first ⌝ }
+    ensures { λ r. ⌜ Writes (file_tables.listTable id (length (now (table .entry))) (now (file .entry))) (now (table .entry)) r (now (table .exit)) ⌝ }
 {
     let b = at + 16;
     let e = end_at(file, at);
@@ -127,6 +150,7 @@ fn put_table(
             place: need as u64,
         };
     }
+    let t = table_in(id, wire::u16_at(file, at + 4));
     let last = first + n;
     tables::put_rows(t, &file[b..e], b as u32, &index[first..last], table);
     Answer {
@@ -136,9 +160,9 @@ fn put_table(
 }
 
 // The table of the list with an id, with room for the file's index.
-fn list_table_in(t: Table, id: u32, file: &[u8], index: &mut [u32], table: &mut [u8]) -> Answer
-    requires { ⌜ (known id ≡ true) × ((v : ℕ) → bodyOf id v ≡ list (described t)) × HoldsStarts (now file) (length (now index)) ⌝ }
-    ensures { λ r. ⌜ Writes (file_tables.listTable t id (length (now (table .entry))) (now (file .entry))) (now (table .entry)) r (now (table .exit)) ⌝ }
+fn list_table_in(id: u32, file: &[u8], index: &mut [u32], table: &mut [u8]) -> Answer
+    requires { ⌜ (known id ≡ true) × ((v : ℕ) → bodyOf id v ≡ list (described (file_tables.tableIn id v))) × HoldsStarts (now file) (length (now index)) ⌝ }
+    ensures { λ r. ⌜ Writes (file_tables.listTable id (length (now (table .entry))) (now (file .entry))) (now (table .entry)) r (now (table .exit)) ⌝ }
 {
     match sections::check_and_find(&file[..], id, index) {
         Spot::Fault(number, place) => Answer {
@@ -152,27 +176,27 @@ fn list_table_in(t: Table, id: u32, file: &[u8], index: &mut [u32], table: &mut 
                     place: 0,
                 };
             }
-            put_table(t, id, &file[..], at, index, first, table)
+            put_table(id, &file[..], at, index, first, table)
         }
     }
 }
 
 // The same, with an index of as many places as the file needs: clearing places costs more than reading a short list.
-fn list_table(t: Table, id: u32, file: &[u8], table: &mut [u8]) -> Answer
-    requires { ⌜ (known id ≡ true) × ((v : ℕ) → bodyOf id v ≡ list (described t)) ⌝ }
-    ensures { λ r. ⌜ Writes (file_tables.listTable t id (length (now (table .entry))) (now (file .entry))) (now (table .entry)) r (now (table .exit)) ⌝ }
+fn list_table(id: u32, file: &[u8], table: &mut [u8]) -> Answer
+    requires { ⌜ (known id ≡ true) × ((v : ℕ) → bodyOf id v ≡ list (described (file_tables.tableIn id v))) ⌝ }
+    ensures { λ r. ⌜ Writes (file_tables.listTable id (length (now (table .entry))) (now (file .entry))) (now (table .entry)) r (now (table .exit)) ⌝ }
 {
     let n = sections::count_entries(&file[..]);
     if n <= 32 {
         let mut index = [0u32; 32];
-        return list_table_in(t, id, &file[..], &mut index[..n], table);
+        return list_table_in(id, &file[..], &mut index[..n], table);
     }
     if n <= 256 {
         let mut index = [0u32; 256];
-        return list_table_in(t, id, &file[..], &mut index[..n], table);
+        return list_table_in(id, &file[..], &mut index[..n], table);
     }
     let mut index = [0u32; 4864];
-    list_table_in(t, id, &file[..], &mut index, table)
+    list_table_in(id, &file[..], &mut index, table)
 }
 
 // The table of devices in key order.
@@ -182,7 +206,7 @@ pub fn devices(file: &[u8], table: &mut [u8]) -> Answer
     if file.len() <= HEADER {
         return check(file);
     }
-    list_table(Table::Devices, DEVICES, file, table)
+    list_table(DEVICES, file, table)
 }
 
 // The table of disks in key order.
@@ -192,7 +216,140 @@ pub fn disks(file: &[u8], table: &mut [u8]) -> Answer
     if file.len() <= HEADER {
         return check(file);
     }
-    list_table(Table::Disks, DISKS, file, table)
+    list_table(DISKS, file, table)
+}
+
+// The table of CPUs in key order; empty where a file has one CPU in a section of its own.
+pub fn cpus(file: &[u8], table: &mut [u8]) -> Answer
+    ensures { λ r. ⌜ Writes (cpusCall (length (now (table .entry))) (now (file .entry))) (now (table .entry)) r (now (table .exit)) ⌝ }
+{
+    if file.len() <= HEADER {
+        return check(file);
+    }
+    list_table(CPUS, file, table)
+}
+
+// The table of MMUs in key order; empty where a file has one MMU in a section of its own.
+pub fn mmus(file: &[u8], table: &mut [u8]) -> Answer
+    ensures { λ r. ⌜ Writes (mmusCall (length (now (table .entry))) (now (file .entry))) (now (table .entry)) r (now (table .exit)) ⌝ }
+{
+    if file.len() <= HEADER {
+        return check(file);
+    }
+    list_table(MMUS, file, table)
+}
+
+// ---- META
+
+// What META says: number and place of the file's first fault, or 0 and 0; whether META is there, and if so the snapshot's id, whether it has a parent and the parent's id,
+// the time in ms, whether it has a label, and the label's place in the file and length. What is not there is 0.
+#[repr(C)]
+pub struct MetaFields {
+    pub number: u32,
+    pub present: u32,
+    pub place: u64,
+    pub id: u64,
+    pub has_parent: u32,
+    pub has_label: u32,
+    pub parent: u64,
+    pub time: u64,
+    pub label_place: u64,
+    pub label_length: u64,
+}
+
+// Where nothing is said.
+fn silent(number: u32, place: u64) -> MetaFields
+    ensures { λ r. ⌜ r ≡ silent number place ⌝ }
+{
+    MetaFields {
+        number,
+        present: 0,
+        place,
+        id: 0,
+        has_parent: 0,
+        has_label: 0,
+        parent: 0,
+        time: 0,
+        label_place: 0,
+        label_length: 0,
+    }
+}
+
+// 1 behind a byte that says that something follows it.
+fn follows(flag: u8) -> u32
+    ensures { λ r. ⌜ r ≡ cond (eqb flag 0) 0 1 ⌝ }
+{
+    if flag == 0 {
+        return 0;
+    }
+    1
+}
+
+// A number that follows such a byte, or 0.
+fn following(flag: u8, n: u64) -> u64
+    ensures { λ r. ⌜ r ≡ cond (eqb flag 0) 0 n ⌝ }
+{
+    if flag == 0 {
+        return 0;
+    }
+    n
+}
+
+// Where the time stands.
+fn time_in(flag: u8) -> usize
+    ensures { λ r. ⌜ (r ≡ cond (eqb flag 0) 9 17) × (r ≤ 17) ⌝ }
+{
+    if flag == 0 {
+        return 9;
+    }
+    17
+}
+
+// What the payload of META says, which stands at a place of the file.
+fn meta_at(at: u32, b: &[u8]) -> MetaFields
+    ensures { λ r. ⌜ r ≡ metaAt at (now (b .entry)) ⌝ }
+{
+    let old = wire::u8_at(b, 8);
+    let t = time_in(old);
+    let l = t + 8;
+    let named = wire::u8_at(b, l);
+    let id = wire::u64_at(b, 0);
+    let time = wire::u64_at(b, t);
+    let parent = following(old, wire::u64_at(b, 9));
+    let place = following(named, (at as u64) + ((l + 5) as u64));
+    let length = following(named, wire::u32_at(b, l + 1) as u64);
+    let has_parent = follows(old);
+    let has_label = follows(named);
+    MetaFields {
+        number: 0,
+        present: 1,
+        place: 0,
+        id,
+        has_parent,
+        has_label,
+        parent,
+        time,
+        label_place: place,
+        label_length: length,
+    }
+}
+
+// What META says of a snapshot.
+pub fn meta(file: &[u8]) -> MetaFields
+    ensures { λ r. ⌜ r ≡ asMeta (metaCall (now (file .entry))) ⌝ }
+{
+    let mut index = [0u32; 1];
+    match sections::check_and_find(&file[..], META, &mut index[..0]) {
+        Spot::Fault(number, place) => silent(number, place as u64),
+        Spot::At(at, _) => {
+            if file.len() <= at {
+                return silent(0, 0);
+            }
+            let b = at + 16;
+            let e = end_at(file, at);
+            meta_at(b as u32, &file[b..e])
+        }
+    }
 }
 
 // ---- writing, which crate canon does

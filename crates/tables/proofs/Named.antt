@@ -21,15 +21,17 @@ use Rattle.format.specs.Format.{Format, span, Is}
 use Rattle.format.proofs.Meaning.{complete}
 use Rattle.format.proofs.Spans.{span-read}
 use Rattle.entries.specs.declared.Kind.the-variants as kind
-use Rattle.entries.specs.Kinds.{Description, devices, disks, controllers}
+use Rattle.entries.specs.States.{mmuLength}
+use Rattle.entries.specs.Kinds.{Description, devices, disks, cpus, mmus, controllers}
+use Rattle.entries.proofs.States.{mmu-small}
 use Rattle.entries.proofs.Lawful.{Lawful, lawful}
 use Rattle.lists.specs.Lists.{entries, listAt}
 use Rattle.lists.proofs.Taken.{self, list-entries, list-sound}
 use Rattle.lists.proofs.Ordered.{pieceAt, index-perm, index-length, list-order, index-every}
 use Rattle.tables.specs.declared.Table.{Table}
-use Rattle.tables.specs.declared.Table.the-variants.{Devices, Disks, Controllers}
-use Rattle.tables.specs.Tables.{described, positionIn, ended, framedRow, diskRow, controllerRow, rowOf, rowsAt}
-use Rattle.tables.specs.Named.{NamesFramed, NamesDisk, NamesController, Names, Each, positionOf, numbersFrom, InFileOrder, IsTable}
+use Rattle.tables.specs.declared.Table.the-variants.{Devices, Disks, Cpus, Mmus, Controllers}
+use Rattle.tables.specs.Tables.{described, positionIn, ended, framedRow, diskRow, cpuRow, mmuRow, controllerRow, rowOf, rowsAt}
+use Rattle.tables.specs.Named.{NamesFramed, NamesDisk, NamesCpu, NamesMmu, NamesController, Names, Each, positionOf, numbersFrom, InFileOrder, IsTable}
 use Rattle.tables.specs.Steps.{Rise}
 use Rattle.tables.proofs.Rows.{length-row}
 use Rattle.tables.proofs.Positions.{position-most, starts-rise, sorted-rows, row-positions}
@@ -80,6 +82,8 @@ laid-says l q n h =
 pub row-says : (t : Table) (p q : ℕ) (e : List ℕ) → q < 4294967296 → Says (rowOf t p q e) q
 row-says Devices p q e h = laid-says ((4, leAt 4 e 0) ∷ (2, leAt 2 e 4) ∷ (2, leAt 2 e 6) ∷ (8, p + 16) ∷ (8, leAt 8 e 8) ∷ []) q refl h
 row-says Disks p q e h = laid-says ((4, leAt 4 e 0) ∷ (4, leAt 4 e 4) ∷ (8, p + 8) ∷ (4, leAt 4 e (8 + leAt 4 e 4)) ∷ (4, 0) ∷ []) q refl h
+row-says (Cpus v) p q e h = laid-says ((4, leAt 4 e 0) ∷ (4, leAt 4 e 4) ∷ (8, p + 8) ∷ (8, leAt 8 e (8 + leAt 4 e 4)) ∷ []) q refl h
+row-says (Mmus v) p q e h = laid-says ((4, leAt 4 e 0) ∷ (4, mmuLength v) ∷ (8, p + 4) ∷ (8, 0) ∷ []) q refl h
 row-says Controllers p q e h = laid-says ((2, leAt 2 e 0) ∷ (2, 0) ∷ (4, leAt 4 e 4) ∷ (8, p + 12) ∷ (8, leAt 4 e 8) ∷ []) q refl h
 
 -- ---- where parts of an entry stand
@@ -153,6 +157,52 @@ module _ (s : List ℕ) (p : ℕ) (q : ℕ) (e more rest : List ℕ) (c : drop p
             nothing = v .1 .1 .1 .1 .0;
           }
 
+  cpu-names : (v : ℕ) → Is (cpus v .form) e → NamesCpu s (cpuRow p q (e ++ rest)) e
+  unfolding span
+  cpu-names v h =
+      let a : ℕ = leAt 4 e 4 in
+      let x : leAt 4 (drop 4 e) 0 ≡ a = leAt-here 4 e 4 in
+      let g : leAt 8 (drop (4 + a) (drop 4 e)) 0 ≡ leAt 8 e (8 + a) = ap (λ (t : List ℕ). leAt 8 t 0) (drop-drop (4 + a) 4 e) ∙ leAt-here 8 e (4 + (4 + a)) ∙ ap (leAt 8 e) (omega arith) in
+      go (sym (rw (x, g) at (measured (cpus v .form) e h)))
+    where
+      go : length e ≡ 4 + (4 + leAt 4 e 4 + (8 + leAt 8 e (8 + leAt 4 e 4))) → NamesCpu s (cpuRow p q (e ++ rest)) e
+      go l =
+          let b : Bytes e = entry-bytes s p e more c y in
+          let i : p < length s = starts-in s p e more c (omega arith) in
+          let n0 = leAt-append 4 e rest 0 (omega arith) in
+          let n1 = leAt-append 4 e rest 4 (omega arith) in
+          let n2 : leAt 8 (e ++ rest) (8 + leAt 4 (e ++ rest) 4) ≡ leAt 8 e (8 + leAt 4 e 4) = ap (λ (k : ℕ). leAt 8 (e ++ rest) (8 + k)) n1 ∙ leAt-append 8 e rest (8 + leAt 4 e 4) (omega arith) in
+          let row = cpuRow p q (e ++ rest) in
+          let v = fields-stand ((4, leAt 4 (e ++ rest) 0) ∷ (4, leAt 4 (e ++ rest) 4) ∷ (8, p + 8) ∷ (8, leAt 8 (e ++ rest) (8 + leAt 4 (e ++ rest) 4)) ∷ [])
+          (rw n0 (leAt-bound 4 e 0 b), (rw n1 (leAt-bound 4 e 4 b), (omega arith, (rw n2 (leAt-bound 8 e (8 + leAt 4 e 4) b), tt)))) row 0 (ended q) refl in
+          let w : p + 8 + (leAt 4 e 4 + 8) ≡ p + (8 + leAt 4 e 4 + 8) = omega arith in
+          let k : ℕ = 8 + leAt 4 e 4 + 8 in
+          record {
+            long = length-row (Cpus 1) p q (e ++ rest);
+            id = v .0 ∙ n0;
+            state = rw (v .1 .0, v .1 .1 .0, n1) (part s p e more c 8 (leAt 4 e 4) (omega arith));
+            blob = rw (v .1 .0, v .1 .1 .0, v .1 .1 .1 .0, n2, n1, w) (part s p e more c k (leAt 8 e (8 + leAt 4 e 4)) (omega arith) ∙ take-all (leAt 8 e (8 + leAt 4 e 4)) (drop k e) (omega (arith, length-drop k e)));
+          }
+
+  mmu-names : (v : ℕ) → Is (mmus v .form) e → NamesMmu s (mmuRow v p q (e ++ rest)) e
+  unfolding span
+  mmu-names v h = go (sym (measured (mmus v .form) e h))
+    where
+      go : length e ≡ 4 + mmuLength v → NamesMmu s (mmuRow v p q (e ++ rest)) e
+      go l =
+          let b : Bytes e = entry-bytes s p e more c y in
+          let i : p < length s = starts-in s p e more c (omega arith) in
+          let n0 = leAt-append 4 e rest 0 (omega arith) in
+          let row = mmuRow v p q (e ++ rest) in
+          let u = fields-stand ((4, leAt 4 (e ++ rest) 0) ∷ (4, mmuLength v) ∷ (8, p + 4) ∷ (8, 0) ∷ [])
+          (rw n0 (leAt-bound 4 e 0 b), (omega (arith, mmu-small v), (omega arith, (omega arith, tt)))) row 0 (ended q) refl in
+          record {
+            long = length-row (Mmus v) p q (e ++ rest);
+            id = u .0 ∙ n0;
+            state = rw (u .1 .0, u .1 .1 .0) (part s p e more c 4 (mmuLength v) (omega arith) ∙ take-all (mmuLength v) (drop 4 e) (omega (arith, length-drop 4 e)));
+            nothing = u .1 .1 .1 .0;
+          }
+
   controller-names : Is (controllers .form) e → NamesController s (controllerRow p q (e ++ rest)) e
   unfolding span
   controller-names h = go (omega (arith, measured (controllers .form) e h, leAt-here 4 e 8))
@@ -178,6 +228,8 @@ module _ (s : List ℕ) (p : ℕ) (q : ℕ) (e more rest : List ℕ) (c : drop p
   pub row-names : (t : Table) → Is (described t .form) e → Names t s (rowOf t p q (e ++ rest)) e
   row-names Devices h = device-names h
   row-names Disks h = disk-names h
+  row-names (Cpus v) h = cpu-names v h
+  row-names (Mmus v) h = mmu-names v h
   row-names Controllers h = controller-names h
 
 -- ---- a list: its records in key order
@@ -185,12 +237,16 @@ module _ (s : List ℕ) (p : ℕ) (q : ℕ) (e more rest : List ℕ) (c : drop p
 pub table-lawful : (t : Table) → Lawful (described t)
 table-lawful Devices = lawful kind.Devices
 table-lawful Disks = lawful kind.Disks
+table-lawful (Cpus v) = lawful (kind.Cpus v)
+table-lawful (Mmus v) = lawful (kind.Mmus v)
 table-lawful Controllers = lawful kind.Controllers
 
 -- every entry has a fixed part
 fixed-some : (t : Table) → 1 ≤ described t .fixed
 fixed-some Devices = omega arith
 fixed-some Disks = omega arith
+fixed-some (Cpus v) = omega arith
+fixed-some (Mmus v) = omega arith
 fixed-some Controllers = omega arith
 
 join-map : {A : Type 0} (f : A → List ℕ) (l : List A) → flat f l ≡ join (map f l)

@@ -31,12 +31,14 @@ use Rattle.lists.proofs.Ordered.{index-length}
 use Rattle.lists.proofs.Callers.{indexed-stop, indexed-done, list-then, index-roomy}
 use Rattle.answer.specs.declared.Piece.the-variants.{Stop, Ends}
 use Rattle.tables.specs.declared.Table.{Table}
-use Rattle.tables.specs.declared.Table.the-variants.{Devices, Disks, Controllers}
+use Rattle.tables.specs.declared.Table.the-variants.{Devices, Disks, Cpus, Mmus, Controllers}
 use Rattle.tables.specs.Tables.{ROW, described, positionIn, rowOf, rowsIn, rowsAt, tableOf}
 
 pub length-row : (t : Table) (p q : ℕ) (e : List ℕ) → length (rowOf t p q e) ≡ ROW
 length-row Devices p q e = simp (length-append, length-bytesOf)
 length-row Disks p q e = simp (length-append, length-bytesOf)
+length-row (Cpus v) p q e = simp (length-append, length-bytesOf)
+length-row (Mmus v) p q e = simp (length-append, length-bytesOf)
 length-row Controllers p q e = simp (length-append, length-bytesOf)
 
 -- where there is room for the records of all starts, they are all of those that fit

@@ -8,7 +8,7 @@ use Rattle.wire.specs.Numbers.{leAt}
 use Rattle.order.specs.Keyed.{Every, sort, Asc}
 use Rattle.order.specs.Entries.{join}
 use Rattle.tables.specs.declared.Table.{Table}
-use Rattle.tables.specs.declared.Table.the-variants.{Devices, Disks, Controllers}
+use Rattle.tables.specs.declared.Table.the-variants.{Devices, Disks, Cpus, Mmus, Controllers}
 use Rattle.tables.specs.Tables.{ROW, described}
 
 -- of a section or a device: u32 id, u16 version, u16 flags, u64 payload offset, u64 length
@@ -34,6 +34,27 @@ pub record NamesDisk (s row e : List ℕ) : Type 0 where
   pub overlay : take (leAt 4 row 16) (drop (leAt 8 row 8 + (leAt 4 row 4 + 4)) s) ≡ overlayOf e
   pub nothing : leAt 4 row 20 ≡ 0
 
+-- the state of a CPU behind its u32 length, and the internal blob behind its u64 length
+abbrev pub stateOf : List ℕ → List ℕ
+stateOf e = take (leAt 4 e 4) (drop 8 e)
+
+abbrev pub blobOf : List ℕ → List ℕ
+blobOf e = drop (8 + leAt 4 e 4 + 8) e
+
+-- of a CPU: u32 APIC id, u32 state length, u64 state offset, u64 length of the internal blob
+pub record NamesCpu (s row e : List ℕ) : Type 0 where
+  pub long : length row ≡ ROW
+  pub id : leAt 4 row 0 ≡ leAt 4 e 0
+  pub state : take (leAt 4 row 4) (drop (leAt 8 row 8) s) ≡ stateOf e
+  pub blob : take (leAt 8 row 16) (drop (leAt 8 row 8 + (leAt 4 row 4 + 8)) s) ≡ blobOf e
+
+-- of an MMU: u32 APIC id, u32 state length, u64 state offset, u64 0
+pub record NamesMmu (s row e : List ℕ) : Type 0 where
+  pub long : length row ≡ ROW
+  pub id : leAt 4 row 0 ≡ leAt 4 e 0
+  pub state : take (leAt 4 row 4) (drop (leAt 8 row 8) s) ≡ drop 4 e
+  pub nothing : leAt 8 row 16 ≡ 0
+
 -- of a controller: u16 address, u16 0, four tag bytes, u64 payload offset, u64 length
 pub record NamesController (s row e : List ℕ) : Type 0 where
   pub long : length row ≡ ROW
@@ -45,6 +66,8 @@ pub record NamesController (s row e : List ℕ) : Type 0 where
 abbrev pub Names : Table → List ℕ → List ℕ → List ℕ → Type 0
 Names Devices = NamesFramed
 Names Disks = NamesDisk
+Names (Cpus v) = NamesCpu
+Names (Mmus v) = NamesMmu
 Names Controllers = NamesController
 
 -- one by one: the first of l and of m, the second of each, and so on; l is as long as m

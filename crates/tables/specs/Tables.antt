@@ -8,10 +8,11 @@ use lib.ListN.{drop}
 use Rattle.answer.specs.Outcome.{Outcome, checked, after, fitting}
 use Rattle.wire.specs.Numbers.{leAt, bytesOf}
 use Rattle.order.specs.Keyed.{weigh, flat}
-use Rattle.entries.specs.Kinds.{Description, devices, disks, controllers}
+use Rattle.entries.specs.States.{mmuLength}
+use Rattle.entries.specs.Kinds.{Description, devices, disks, cpus, mmus, controllers}
 use Rattle.lists.specs.Lists.{partChecks, listAt}
 use Rattle.tables.specs.declared.Table.{Table}
-use Rattle.tables.specs.declared.Table.the-variants.{Devices, Disks, Controllers}
+use Rattle.tables.specs.declared.Table.the-variants.{Devices, Disks, Cpus, Mmus, Controllers}
 
 -- the length of a record
 abbrev pub ROW : ℕ
@@ -20,6 +21,8 @@ ROW = 32
 abbrev pub described : Table → Description
 described Devices = devices
 described Disks = disks
+described (Cpus v) = cpus v
+described (Mmus v) = mmus v
 described Controllers = controllers
 
 -- the position of the entry that starts at y in the list's own order, from 0, where l are the starts of all its entries: how many of them are before y
@@ -38,6 +41,14 @@ framedRow p q e = bytesOf 4 (leAt 4 e 0) ++ (bytesOf 2 (leAt 2 e 4) ++ (bytesOf 
 abbrev pub diskRow : ℕ → ℕ → List ℕ → List ℕ
 diskRow p q e = bytesOf 4 (leAt 4 e 0) ++ (bytesOf 4 (leAt 4 e 4) ++ (bytesOf 8 (p + 8) ++ (bytesOf 4 (leAt 4 e (8 + leAt 4 e 4)) ++ (bytesOf 4 0 ++ ended q))))
 
+-- a CPU: u32 APIC id, u32 state length, u64 state offset, u64 length of the internal blob, which stands behind the state and its own u64 length
+abbrev pub cpuRow : ℕ → ℕ → List ℕ → List ℕ
+cpuRow p q e = bytesOf 4 (leAt 4 e 0) ++ (bytesOf 4 (leAt 4 e 4) ++ (bytesOf 8 (p + 8) ++ (bytesOf 8 (leAt 8 e (8 + leAt 4 e 4)) ++ ended q)))
+
+-- an MMU: u32 APIC id, u32 state length, by the version of its section, u64 state offset, u64 0
+abbrev pub mmuRow : ℕ → ℕ → ℕ → List ℕ → List ℕ
+mmuRow v p q e = bytesOf 4 (leAt 4 e 0) ++ (bytesOf 4 (mmuLength v) ++ (bytesOf 8 (p + 4) ++ (bytesOf 8 0 ++ ended q)))
+
 -- a controller: u16 address, u16 0, four tag bytes, u64 payload offset, u64 length
 abbrev pub controllerRow : ℕ → ℕ → List ℕ → List ℕ
 controllerRow p q e = bytesOf 2 (leAt 2 e 0) ++ (bytesOf 2 0 ++ (bytesOf 4 (leAt 4 e 4) ++ (bytesOf 8 (p + 12) ++ (bytesOf 8 (leAt 4 e 8) ++ ended q))))
@@ -46,6 +57,8 @@ controllerRow p q e = bytesOf 2 (leAt 2 e 0) ++ (bytesOf 2 0 ++ (bytesOf 4 (leAt
 abbrev pub rowOf : Table → ℕ → ℕ → List ℕ → List ℕ
 rowOf Devices p q e = framedRow p q e
 rowOf Disks p q e = diskRow p q e
+rowOf (Cpus v) p q e = cpuRow p q e
+rowOf (Mmus v) p q e = mmuRow v p q e
 rowOf Controllers p q e = controllerRow p q e
 
 -- the records of the entries of s that start at the places l, where s stands at base of the input and all its entries start at the places `all`

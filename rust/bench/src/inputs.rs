@@ -44,6 +44,8 @@ const META: u32 = 1;
 const DEVICES: u32 = 4;
 const DISKS: u32 = 5;
 const RAM: u32 = 6;
+const CPUS: u32 = 7;
+const MMUS: u32 = 8;
 
 /// A file of these sections, each an id and a payload.
 fn file(sections: &[(u32, Vec<u8>)]) -> Vec<u8> {
@@ -136,6 +138,35 @@ pub fn disks(count: u32, order: Order) -> Vec<u8> {
         disk(&mut list, id, b"images/panel-base.img");
     }
     file(&[(DISKS, list)])
+}
+
+/// A CPU state of version 2 with the extension.
+pub fn cpu_state() -> Vec<u8> {
+    let mut state = vec![0; 1191];
+    state[1183] = 4;
+    state
+}
+
+/// A file with `count` CPUs of version 2 with the extension, and as many MMUs.
+pub fn cpus(count: u32, order: Order) -> Vec<u8> {
+    let mut cpus = count.to_le_bytes().to_vec();
+    let mut mmus = cpus.clone();
+    let state = cpu_state();
+    for id in order.ids(count) {
+        cpus.extend(id.to_le_bytes());
+        cpus.extend((state.len() as u32).to_le_bytes());
+        cpus.extend(&state);
+        cpus.extend([64, 0, 0, 0, 0, 0, 0, 0]);
+        cpus.extend([0x33; 64]);
+        mmus.extend(id.to_le_bytes());
+        mmus.extend([0x44; 264]);
+    }
+    let mut file = file(&[(CPUS, cpus)]);
+    let second = file.len();
+    framed(&mut file, MMUS, &mmus);
+    file[20] = 2;
+    file[second + 4] = 2;
+    file
 }
 
 /// A text of up to `size` bytes: this one, again and again, in whole characters.

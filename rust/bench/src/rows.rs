@@ -46,13 +46,14 @@ const MIB: usize = 1 << 20;
 type Group = (&'static str, fn(Tell));
 
 /// All rows.
-pub const GROUPS: [Group; 6] = [
+pub const GROUPS: [Group; 7] = [
     ("sizes", sizes),
     ("counts", counts),
     ("texts", texts),
     ("messages", messages),
     ("rings", rings),
     ("ready", ready),
+    ("states", states),
 ];
 
 /// The reference beside itself, on a short call and on a long one: how far a ratio can be trusted in this run.
@@ -146,6 +147,39 @@ fn disk_rows(case: Case, tell: Tell) {
         &case,
         |file, out| raw::add_disk(file, 0, b"images/added.img", b"", out),
         |file, out| reference::add_disk(file, 0, b"images/added.img", b"", out),
+    ));
+}
+
+/// The tables of CPUs and MMUs, and fields of one state.
+fn states(tell: Tell) {
+    for order in Order::ALL {
+        let file = inputs::cpus(256, order);
+        let input = format!("256 CPUs {}", order.name());
+        let case = Case { file: &file, input, reading: 1.25, writing: 1.2 };
+        tell(reading_row("cpus", &case, raw::cpus, reference::cpus));
+        tell(reading_row("mmus", &case, raw::mmus, reference::mmus));
+    }
+    let state = inputs::cpu_state();
+    let input = "a state of 1191 bytes".to_string();
+    let case = Case { file: &state, input, reading: 1.0, writing: 1.2 };
+    tell(reading_row(
+        "cpu_field",
+        &case,
+        |state, out| raw::cpu_field(state, 20, 15, out),
+        |state, out| reference::cpu_field(state, 20, 15, out),
+    ));
+    // The state is copied before it is set, by both.
+    tell(reading_row(
+        "cpu_set",
+        &case,
+        |state, out| {
+            out[..1191].copy_from_slice(state);
+            raw::cpu_set(&mut out[..1191], 1, 0, &[0x11; 8])
+        },
+        |state, out| {
+            out[..1191].copy_from_slice(state);
+            reference::cpu_set(&mut out[..1191], 1, 0, &[0x11; 8])
+        },
     ));
 }
 

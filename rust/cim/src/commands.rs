@@ -4,7 +4,8 @@
 use crate::command::Command;
 use crate::{add_device, add_disk, canon, check, completions, diff, explain, extract, list};
 use crate::{
-    manual, message, ready, region, remove_device, remove_disk, replace_device, show, wrapper,
+    manual, message, ready, region, remove_device, remove_disk, replace_device, set, sheet, show,
+    wrapper,
 };
 
 pub const ALL: &[Command] = &[
@@ -12,6 +13,7 @@ pub const ALL: &[Command] = &[
     explain::COMMAND,
     list::COMMAND,
     show::COMMAND,
+    sheet::COMMAND,
     diff::COMMAND,
     extract::COMMAND,
     ready::COMMAND,
@@ -21,6 +23,7 @@ pub const ALL: &[Command] = &[
     remove_device::COMMAND,
     remove_disk::COMMAND,
     replace_device::COMMAND,
+    set::COMMAND,
     wrapper::COMMAND,
     message::COMMAND,
     region::COMMAND,

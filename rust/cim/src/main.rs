@@ -19,7 +19,10 @@ mod names;
 mod place;
 mod progress;
 mod select;
+mod set;
+mod sheet;
 mod shown;
+mod states;
 #[allow(unsafe_code)]
 mod system;
 mod words;
@@ -39,6 +42,7 @@ mod manual;
 mod message;
 mod ready;
 mod region;
+mod registers;
 mod remove_device;
 mod remove_disk;
 mod replace_device;

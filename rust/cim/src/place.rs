@@ -104,6 +104,15 @@ fn disk_id(bytes: &[u8]) -> Option<u32> {
     snapshot::disks(&file).ok()?.first().map(|disk| disk.id)
 }
 
+/// The APIC id that an MMU with these first four bytes has; a CPU's stands in the same place.
+fn apic_id(bytes: &[u8]) -> Option<u32> {
+    let mut file = snapshot::EMPTY.to_vec();
+    file.extend([8, 0, 0, 0, 1, 0, 0, 0, 76, 0, 0, 0, 0, 0, 0, 0, 1, 0, 0, 0]);
+    file.extend(bytes);
+    file.resize(2 * HEADER + 76, 0);
+    snapshot::mmus(&file).ok()?.first().map(|mmu| mmu.apic)
+}
+
 /// What is said of a refusal at a section's start.
 fn whole_section(
     file: &[u8],
@@ -163,7 +172,20 @@ fn in_payload(file: &[u8], start: usize, refusal: Refusal, id: u32) -> Option<St
             };
             in_list(cut, refusal, &Keys { words, same })
         }
-        7 | 8 => in_list(cut, refusal, &UNSAID),
+        7 | 8 => {
+            let apic = |entry: usize| apic_id(file.get(entry..entry + 4)?);
+            let what = if id == 7 { "CPU" } else { "MMU" };
+            let words = &|entry: usize| apic(entry).map(|apic| format!("{what} {apic}"));
+            let same = &|before: &[u8], entry: usize| {
+                let apic = apic(entry)?;
+                let cpus = snapshot::cpus(before).ok()?;
+                let mmus = snapshot::mmus(before).ok()?;
+                let of_cpu = cpus.iter().find(|cpu| cpu.apic == apic).map(|cpu| cpu.position);
+                let of_mmu = mmus.iter().find(|mmu| mmu.apic == apic).map(|mmu| mmu.position);
+                of_cpu.or(of_mmu)
+            };
+            in_list(cut, refusal, &Keys { words, same })
+        }
         _ if refusal.kind == Kind::Text => {
             let label = cut.text_start(place, None)?;
             Some(format!("its label{}", behind_text(cut, refusal, label)))
@@ -597,8 +619,9 @@ mod tests {
             state
         });
         assert_eq!(said(&file(&[state])), (Kind::Value, "CPU, byte 145 of its payload".into()));
+        let told = "MMUS, entry 1 (MMU 84215045), the same key as entry 0 at 36";
         let mmus = section(8, 1, &[&[2, 0, 0, 0][..], &[5; 72], &[5; 72]].concat());
-        assert_eq!(said(&file(&[mmus])), (Kind::Key, "MMUS, entry 1".into()));
+        assert_eq!(said(&file(&[mmus])), (Kind::Key, told.to_string()));
         let label = section(1, 1, b"\0\0\0\0\0\0\0\0\0\0\0\0\0\0\0\0\0\x01\x03\0\0\0ab\xFF");
         let told = "META, its label, which starts at 54, behind \"ab\"".to_string();
         assert_eq!(said(&file(&[label])), (Kind::Text, told));

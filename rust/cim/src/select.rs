@@ -3,6 +3,7 @@
 use crate::failure::Failure;
 use crate::names;
 use crate::shown::name_of;
+use crate::states::State;
 use crate::words::number_of;
 use cimbrolau::snapshot::{Device, Disk, Section};
 use std::ffi::OsStr;
@@ -46,6 +47,16 @@ pub fn disk(disks: Vec<Disk>, word: &OsStr) -> Result<Disk, Failure> {
     let id = numbers("--disk", word, 1)?;
     let meant = disks.into_iter().filter(|disk| [disk.id] == id[..]).collect();
     one(meant, &format!("disk {}", name_of(word)), "its id")
+}
+
+/// The CPU or MMU state of an APIC id; without a word the only one.
+pub fn state(states: Vec<State>, what: &str, word: Option<&OsStr>) -> Result<State, Failure> {
+    let Some(word) = word else {
+        return one(states, what, "--cpu APIC");
+    };
+    let apic = numbers("--cpu", word, 1)?;
+    let meant = states.into_iter().filter(|state| state.apic == apic.first().copied()).collect();
+    one(meant, &format!("{what} {}", name_of(word)), "its APIC id")
 }
 
 /// The section of an id or a name; of several with one id, the one of ID,NUMBER, counted from 0 among them.

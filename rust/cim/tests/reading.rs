@@ -226,7 +226,7 @@ fn extract_writes_a_part() {
     refused(&["--disk", "9"], "there is no disk 9", 1);
     let twice = "extract: device 3 is there 2 times; say which, as ID,VERSION,FLAGS";
     refused(&["--device", "3"], &format!("{twice}; {see}"), 2);
-    let none = "extract: takes one of `--device`, `--section` and `--disk`";
+    let none = "extract: takes one of `--device`, `--section`, `--disk` and `--cpu`";
     refused(&[], &format!("{none}; {see}"), 2);
     refused(&["--disk", "1", "--device", "14"], &format!("{none}; {see}"), 2);
     let letters = "extract: `--device x` is no number, nor numbers by commas";
@@ -260,6 +260,79 @@ fn no_clobber_keeps_what_is_there() {
     assert_eq!(object, "{\"what\":\"written\",\"file\":\"new\",\"bytes\":71}\n");
 }
 
+// ---- sheet, set
+
+const STATES: &[u8] = include_bytes!("../../../samples/states.aerosnap");
+
+/// A file with one state in a section of its own.
+fn single(id: u8, version: u8, state: &[u8]) -> Vec<u8> {
+    let mut file = b"AEROSNAP\x01\x00\x01\x00\x00\x00\x00\x00".to_vec();
+    file.extend([id, 0, 0, 0, version, 0, 0, 0]);
+    file.extend((state.len() as u64).to_le_bytes());
+    file.extend(state);
+    file
+}
+
+#[test]
+fn sheets_of_the_cpu_that_is_meant() {
+    let at = folder("sheet");
+    put(&at, "states", STATES);
+    put(&at, "one", &single(2, 2, &[0; 1183]));
+    put(&at, "old", &single(2, 1, &[0; 412]));
+    put(&at, "mmu", &single(3, 2, &[0; 264]));
+    let zero = said(run(&at, &["sheet", "states", "--cpu", "0"]));
+    assert!(
+        zero.starts_with("CPU 0, 1191 bytes at 1251\n  RAX 000000000000001F RCX 00000000FFFFFFFF ")
+    );
+    assert!(zero.contains("  RFLAGS 0000000000000246: PF ZF IF\n"));
+    assert!(zero.contains("\nMMU 0, 264 bytes at 2746\n  CR0 0000000080050033 "));
+    assert!(said(run(&at, &["sheet", "one"])).starts_with("CPU, 1183 bytes at 32\n"));
+    let told =
+        "cim: sheet: CPU is there 2 times; say which, as --cpu APIC; see `cim sheet --help`\n";
+    fails(run(&at, &["sheet", "states"]), told, 2);
+    fails(run(&at, &["sheet", "states", "--cpu", "2"]), "cim: there is no CPU 2\n", 1);
+    fails(run(&at, &["sheet", "mmu"]), "cim: there is no CPU\n", 1);
+    let told = "cim: there is no sheet of CPU: a state of 412 bytes is of version 1\n";
+    fails(run(&at, &["sheet", "old"]), told, 1);
+}
+
+#[test]
+fn set_changes_one_field_and_no_other_byte() {
+    let at = folder("set");
+    put(&at, "states", STATES);
+    let set = |field: &str| run(&at, &["set", "states", "new", "--cpu", "1", "--field", field]);
+    let different = |places: &[usize]| {
+        let new = fs::read(at.join("new")).unwrap();
+        assert_eq!(new.len(), STATES.len());
+        let other: Vec<usize> = (0..new.len()).filter(|at| new[*at] != STATES[*at]).collect();
+        assert_eq!(other, places);
+        fs::remove_file(at.join("new")).unwrap();
+    };
+    prints(set("rip=0x7C00"), "3010 bytes written to new\n");
+    different(&[44 + 128, 44 + 129]);
+    prints(set("RAX=255"), "3010 bytes written to new\n");
+    different(&[44]);
+    prints(set("cr3=0x1_0000_2000"), "3010 bytes written to new\n");
+    different(&[2478 + 20]);
+    prints(set("xmm15=1"), "3010 bytes written to new\n");
+    let all = fs::read(at.join("new")).unwrap();
+    let place = (0..all.len()).find(|at| all[*at] != STATES[*at]).unwrap();
+    different(&[place]);
+    let refused = "refused 15 VALUE at 144 (0x90): byte or number outside its values\n\
+        bytes from 136: 02 00 00 00 00 00 00 00 [02] 01 00 00 00 00 00 00 00\n";
+    fails(set("mode=4"), refused, 1);
+    for (field, told) in [
+        ("mode=256", "256 does not fit the field's 1 bytes"),
+        ("fxsave=0", "a field of 512 bytes is no number"),
+        ("cr1=0", "`cr1` is no field; `cim sheet` shows them"),
+        ("rip", "`--field rip` is no NAME=VALUE"),
+        ("rip=x", "`x` is no number of up to 128 bits"),
+    ] {
+        fails(set(field), &format!("cim: set: {told}; see `cim set --help`\n"), 2);
+    }
+    assert_eq!(names(&at), ["states"]);
+}
+
 // ---- JSON
 
 /// Each object that a command prints has the members that docs/JSON.md names, in that order, and no other.
@@ -280,6 +353,7 @@ fn json_has_the_names_of_its_page() {
     put(&at, "panel", &panel::panel());
     put(&at, "two", TWO_DEVICES);
     put(&at, "bad", &key_again());
+    put(&at, "states", STATES);
     let region = concat!(env!("CARGO_MANIFEST_DIR"), "/../../samples/panel.region");
     let mut seen = Vec::new();
     for words in [
@@ -288,6 +362,8 @@ fn json_has_the_names_of_its_page() {
         &["list", "panel"],
         &["list", "bad"],
         &["show", "panel"],
+        &["show", "states"],
+        &["sheet", "states", "--cpu=0"],
         &["ready", "two"],
         &["diff", "panel", "two"],
         &["canon", "two", "new"],
@@ -305,7 +381,7 @@ fn json_has_the_names_of_its_page() {
                 let name = name.as_str();
                 known.contains(&name) || what == "check" && refused.contains(&name)
             };
-            let free = ["message", "record"].contains(&what);
+            let free = ["message", "record", "cpu_sheet", "mmu_sheet"].contains(&what);
             assert!(free || names.iter().skip(1).all(is_known), "{line}");
             seen.push(what.to_string());
         }

@@ -66,6 +66,33 @@ pub struct Access {
     pub rest: u32,
 }
 
+/// What META says of a snapshot.
+#[repr(C)]
+#[must_use]
+#[derive(Clone, Copy, Debug, PartialEq, Eq)]
+pub struct Meta {
+    /// 0 where the file is taken, else the number of the refusal; all below is then 0 but `place`.
+    pub number: u32,
+    /// 1 where there is a META section; else all below is 0.
+    pub present: u32,
+    /// The refusal's place.
+    pub place: u64,
+    /// The snapshot's id.
+    pub id: u64,
+    /// 1 where it has a parent.
+    pub has_parent: u32,
+    /// 1 where it has a label.
+    pub has_label: u32,
+    /// The parent's id.
+    pub parent: u64,
+    /// The time in milliseconds.
+    pub time: u64,
+    /// Where the label starts in the file.
+    pub label_place: u64,
+    /// How many bytes the label has.
+    pub label_length: u64,
+}
+
 /// What a report of a ring answers: its cursors, signed, as hosts show them.
 #[repr(C)]
 #[must_use]
@@ -133,7 +160,7 @@ const _: () = assert!(size_of::<Record>() == 32 && size_of::<Readiness>() == 16)
 
 /// The library's own functions. A slice is lent as a pointer and a length, for the time of the call.
 mod c {
-    use super::{Access, Answer, Cursors, Numbers, Pair, Readiness, Record};
+    use super::{Access, Answer, Cursors, Meta, Numbers, Pair, Readiness, Record};
 
     extern "C" {
         pub fn cimbrolau_cpu_field(
@@ -188,6 +215,19 @@ mod c {
             table: *mut u8,
             table_length: usize,
         ) -> Answer;
+        pub fn cimbrolau_cpus(
+            file: *const u8,
+            file_length: usize,
+            table: *mut u8,
+            table_length: usize,
+        ) -> Answer;
+        pub fn cimbrolau_mmus(
+            file: *const u8,
+            file_length: usize,
+            table: *mut u8,
+            table_length: usize,
+        ) -> Answer;
+        pub fn cimbrolau_meta(file: *const u8, file_length: usize) -> Meta;
         pub fn cimbrolau_canonical(
             file: *const u8,
             file_length: usize,
@@ -353,6 +393,41 @@ pub fn disks(file: &[u8], table: &mut [u8]) -> Answer {
     // SAFETY: each pointer and length are of one live slice; the library reads `file` and writes within `table`,
     // which no other reference names, during the call alone.
     unsafe { c::cimbrolau_disks(file.as_ptr(), file.len(), table.as_mut_ptr(), table.len()) }
+}
+
+/// Writes a record of 32 bytes for each CPU of a CPUS section, in the order of their APIC ids.
+///
+/// ```
+/// let answer = cimbrolau::raw::cpus(&cimbrolau::snapshot::EMPTY, &mut []);
+/// assert_eq!((answer.number, answer.place), (0, 0));
+/// ```
+pub fn cpus(file: &[u8], table: &mut [u8]) -> Answer {
+    // SAFETY: each pointer and length are of one live slice; the library reads `file` and writes within `table`,
+    // which no other reference names, during the call alone.
+    unsafe { c::cimbrolau_cpus(file.as_ptr(), file.len(), table.as_mut_ptr(), table.len()) }
+}
+
+/// Writes a record of 32 bytes for each MMU of an MMUS section, in the order of their APIC ids.
+///
+/// ```
+/// let answer = cimbrolau::raw::mmus(&cimbrolau::snapshot::EMPTY, &mut []);
+/// assert_eq!((answer.number, answer.place), (0, 0));
+/// ```
+pub fn mmus(file: &[u8], table: &mut [u8]) -> Answer {
+    // SAFETY: each pointer and length are of one live slice; the library reads `file` and writes within `table`,
+    // which no other reference names, during the call alone.
+    unsafe { c::cimbrolau_mmus(file.as_ptr(), file.len(), table.as_mut_ptr(), table.len()) }
+}
+
+/// What META says of a snapshot file. Beside a refusal, and in a file that has no META section, all else is 0.
+///
+/// ```
+/// let meta = cimbrolau::raw::meta(&cimbrolau::snapshot::EMPTY);
+/// assert_eq!((meta.number, meta.present), (0, 0));
+/// ```
+pub fn meta(file: &[u8]) -> Meta {
+    // SAFETY: pointer and length are of one live slice, which the library reads during the call alone.
+    unsafe { c::cimbrolau_meta(file.as_ptr(), file.len()) }
 }
 
 /// Writes the canonical form of a snapshot file.

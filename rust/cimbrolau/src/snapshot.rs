@@ -202,10 +202,103 @@ impl Disk {
     }
 }
 
-// How many sections, devices and disks a file has at most.
+/// A CPU of a snapshot that has several. Its key is its APIC id.
+#[derive(Clone, Copy, Debug, PartialEq, Eq, Hash)]
+pub struct Cpu {
+    /// The CPU's APIC id.
+    pub apic: u32,
+    /// How many bytes its state has.
+    pub state_length: u32,
+    /// Where its state starts in the file.
+    pub state_offset: u64,
+    /// How many bytes its internal blob has.
+    pub blob_length: u64,
+    /// Its number in the file's own list of CPUs, from 0: who came first.
+    pub position: u32,
+}
+
+impl Cpu {
+    /// The CPU's state in the file that it came from; none in a file too short to be that.
+    /// (See [`cpus`] for an example.)
+    pub fn state<'a>(&self, file: &'a [u8]) -> Option<&'a [u8]> {
+        records::part(file, self.state_offset, u64::from(self.state_length))
+    }
+
+    /// The internal blob, which starts behind the state and a length of eight bytes.
+    pub fn blob<'a>(&self, file: &'a [u8]) -> Option<&'a [u8]> {
+        let start = self.state_offset.checked_add(u64::from(self.state_length) + 8)?;
+        records::part(file, start, self.blob_length)
+    }
+
+    fn of(record: &[u8]) -> Cpu {
+        Cpu {
+            apic: u32_at(record, 0),
+            state_length: u32_at(record, 4),
+            state_offset: u64_at(record, 8),
+            blob_length: u64_at(record, 16),
+            position: position(record),
+        }
+    }
+}
+
+/// An MMU of a snapshot that has several. Its key is its APIC id.
+#[derive(Clone, Copy, Debug, PartialEq, Eq, Hash)]
+pub struct Mmu {
+    /// The APIC id of its CPU.
+    pub apic: u32,
+    /// How many bytes its state has.
+    pub state_length: u32,
+    /// Where its state starts in the file.
+    pub state_offset: u64,
+    /// Its number in the file's own list of MMUs, from 0: who came first.
+    pub position: u32,
+}
+
+impl Mmu {
+    /// The MMU's state in the file that it came from; none in a file too short to be that.
+    /// (See [`mmus`] for an example.)
+    pub fn state<'a>(&self, file: &'a [u8]) -> Option<&'a [u8]> {
+        records::part(file, self.state_offset, u64::from(self.state_length))
+    }
+
+    fn of(record: &[u8]) -> Mmu {
+        Mmu {
+            apic: u32_at(record, 0),
+            state_length: u32_at(record, 4),
+            state_offset: u64_at(record, 8),
+            position: position(record),
+        }
+    }
+}
+
+/// What META says of a snapshot.
+#[derive(Clone, Copy, Debug, PartialEq, Eq, Hash)]
+pub struct Meta {
+    /// The snapshot's id.
+    pub id: u64,
+    /// The id of its parent, if it has one.
+    pub parent: Option<u64>,
+    /// The time in milliseconds.
+    pub time: u64,
+    /// Where its label starts in the file and how many bytes it has, if it has one.
+    pub label: Option<(u64, u64)>,
+}
+
+impl Meta {
+    /// The label in the file that it came from; none where there is none, or in a file that cannot be that.
+    /// (See [`meta`] for an example.)
+    pub fn label<'a>(&self, file: &'a [u8]) -> Option<&'a str> {
+        let (place, length) = self.label?;
+        std::str::from_utf8(records::part(file, place, length)?).ok()
+    }
+}
+
+// How many sections, devices and disks a file has at most, and how many CPUs and MMUs.
 const SECTIONS: usize = 64;
 const DEVICES: usize = 4096;
 const DISKS: usize = 256;
+const CPUS: usize = 256;
+const MMUS: usize = 256;
 
 /// So many bytes, or as many as a file may have.
 fn file_most(bytes: usize) -> usize {
@@ -272,6 +365,72 @@ pub fn devices(file: &[u8]) -> Result<Vec<Device>> {
 pub fn disks(file: &[u8]) -> Result<Vec<Disk>> {
     let table = filled(table_most(file, 12, DISKS), |table| raw::disks(file, table))?;
     records::all(&table, Disk::of)
+}
+
+/// Every CPU of the file's CPUS section, in the order of their APIC ids. None of a file that has one CPU in a section CPU:
+/// that section's payload is its state.
+///
+/// ```
+/// use cimbrolau::snapshot;
+/// let mut file = snapshot::EMPTY.to_vec();
+/// file.extend([7, 0, 0, 0, 1, 0, 0, 0, 180, 1, 0, 0, 0, 0, 0, 0]); // a CPUS section of version 1
+/// file.extend([1, 0, 0, 0, 5, 0, 0, 0, 156, 1, 0, 0]); // one CPU, its APIC id and the length of its state
+/// file.extend([0x11; 412]);
+/// file.extend([4, 0, 0, 0, 0, 0, 0, 0, 1, 2, 3, 4]); // the internal blob
+/// let cpu = snapshot::cpus(&file)?[0];
+/// assert_eq!((cpu.apic, cpu.state_offset, cpu.state_length), (5, 44, 412));
+/// assert_eq!(cpu.state(&file), Some(&[0x11; 412][..]));
+/// assert_eq!(cpu.blob(&file), Some(&[1, 2, 3, 4][..]));
+/// # Ok::<(), cimbrolau::Refusal>(())
+/// ```
+pub fn cpus(file: &[u8]) -> Result<Vec<Cpu>> {
+    let table = filled(table_most(file, 428, CPUS), |table| raw::cpus(file, table))?;
+    records::all(&table, Cpu::of)
+}
+
+/// Every MMU of the file's MMUS section, in the order of their APIC ids. None of a file that has one MMU in a section MMU.
+///
+/// ```
+/// use cimbrolau::snapshot;
+/// let mut file = snapshot::EMPTY.to_vec();
+/// file.extend([8, 0, 0, 0, 1, 0, 0, 0, 76, 0, 0, 0, 0, 0, 0, 0]); // an MMUS section of version 1
+/// file.extend([1, 0, 0, 0, 5, 0, 0, 0]); // one MMU, and its APIC id
+/// file.extend([0x22; 68]);
+/// let mmu = snapshot::mmus(&file)?[0];
+/// assert_eq!((mmu.apic, mmu.state_offset), (5, 40));
+/// assert_eq!(mmu.state(&file), Some(&[0x22; 68][..]));
+/// # Ok::<(), cimbrolau::Refusal>(())
+/// ```
+pub fn mmus(file: &[u8]) -> Result<Vec<Mmu>> {
+    let table = filled(table_most(file, 72, MMUS), |table| raw::mmus(file, table))?;
+    records::all(&table, Mmu::of)
+}
+
+/// What the file's META section says; none of a file that has none.
+///
+/// ```
+/// use cimbrolau::snapshot;
+/// assert_eq!(snapshot::meta(&snapshot::EMPTY)?, None);
+///
+/// let mut file = snapshot::EMPTY.to_vec();
+/// file.extend([1, 0, 0, 0, 1, 0, 0, 0, 27, 0, 0, 0, 0, 0, 0, 0]); // a META section
+/// file.extend([7, 0, 0, 0, 0, 0, 0, 0, 0]); // snapshot 7, which has no parent
+/// file.extend([232, 3, 0, 0, 0, 0, 0, 0]); // a second after midnight of 1 January 1970
+/// file.extend(b"\x01\x05\x00\x00\x00night"); // a label of five bytes
+/// let meta = snapshot::meta(&file)?.expect("META");
+/// assert_eq!((meta.id, meta.parent, meta.time), (7, None, 1000));
+/// assert_eq!(meta.label(&file), Some("night"));
+/// # Ok::<(), cimbrolau::Refusal>(())
+/// ```
+pub fn meta(file: &[u8]) -> Result<Option<Meta>> {
+    let said = raw::meta(file);
+    outcome(said.number, said.place)?;
+    Ok((said.present == 1).then_some(Meta {
+        id: said.id,
+        parent: (said.has_parent == 1).then_some(said.parent),
+        time: said.time,
+        label: (said.has_label == 1).then_some((said.label_place, said.label_length)),
+    }))
 }
 
 /// The file's canonical form: the known sections in ascending id, then the others as found; lists in the order of their

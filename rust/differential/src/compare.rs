@@ -40,10 +40,12 @@ pub struct Comparison {
 type Call = fn(&[u8], &mut [u8]) -> Answer;
 
 /// The calls on a file with an output: the library's and the reference's.
-const FILE_CALLS: [(&str, Call, Call); 9] = [
+const FILE_CALLS: [(&str, Call, Call); 11] = [
     ("sections", library::sections, reference::sections),
     ("devices", library::devices, reference::devices),
     ("disks", library::disks, reference::disks),
+    ("cpus", library::cpus, reference::cpus),
+    ("mmus", library::mmus, reference::mmus),
     ("canonical", library::canonical, reference::canonical),
     (
         "add_device of (3, 1, 0)",
@@ -100,6 +102,9 @@ impl Comparison {
         let before = fingerprint(file);
         let (ours, theirs) = (library::check(file), reference::check(file));
         let answer = self.answer("check", &[file], ours, theirs);
+        let (ours, theirs) = (library::meta(file), reference::meta(file));
+        self.answer("meta", &[file], ours.0, theirs.0);
+        assert_eq!(ours.1, theirs.1, "meta of {:02X?}", &file[..file.len().min(SHOWN)]);
         self.outputs(&FILE_CALLS, file);
         self.ready_somewhere(file);
         self.unchanged(before, file);

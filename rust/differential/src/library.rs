@@ -1,9 +1,9 @@
 //! The library's calls, with the reference's signatures, recorded where a run asks for it. No other module names the library.
 
 use cimbrolau::raw;
-use reference::{Access, Answer, Cursors, Pair, Readiness, Reading, Record};
+use reference::{Access, Answer, Cursors, Meta, Pair, Readiness, Reading, Record};
 
-use crate::record::{changes, looks, number, writes, Bytes};
+use crate::record::{changes, looks, number, writes, Bytes, Fields};
 use crate::rings::RingCalls;
 
 /// The library's answer as the reference has it: each has a type of its own.
@@ -28,6 +28,41 @@ pub fn devices(file: &[u8], table: &mut [u8]) -> Answer {
 
 pub fn disks(file: &[u8], table: &mut [u8]) -> Answer {
     writes("disks", &[Bytes(file)], table, |table| answer!(raw::disks(file, table)))
+}
+
+pub fn cpus(file: &[u8], table: &mut [u8]) -> Answer {
+    writes("cpus", &[Bytes(file)], table, |table| answer!(raw::cpus(file, table)))
+}
+
+pub fn mmus(file: &[u8], table: &mut [u8]) -> Answer {
+    writes("mmus", &[Bytes(file)], table, |table| answer!(raw::mmus(file, table)))
+}
+
+impl Fields for raw::Meta {
+    fn fields(&self) -> Vec<u64> {
+        let [number, present, parent, label] =
+            [self.number, self.present, self.has_parent, self.has_label].map(u64::from);
+        let ids = [number, present, self.place, self.id, parent, label, self.parent, self.time];
+        [&ids[..], &[self.label_place, self.label_length]].concat()
+    }
+}
+
+/// What is said beside a refusal, or where there is no META, has to be 0.
+pub fn meta(file: &[u8]) -> (Answer, Option<Meta>) {
+    let said = looks("meta", &[Bytes(file)], || raw::meta(file));
+    let numbers = [said.id, said.parent, said.time, said.label_place, said.label_length];
+    let flags = [said.present, said.has_parent, said.has_label];
+    assert!(flags.iter().all(|flag| *flag <= 1), "{said:?}");
+    assert!(said.present == 1 || numbers == [0; 5] && flags == [0; 3], "{said:?}");
+    assert!(said.has_parent == 1 || said.parent == 0, "{said:?}");
+    assert!(said.has_label == 1 || said.label_place == 0 && said.label_length == 0, "{said:?}");
+    let meta = Meta {
+        id: said.id,
+        parent: (said.has_parent == 1).then_some(said.parent),
+        time: said.time,
+        label: (said.has_label == 1).then_some((said.label_place, said.label_length)),
+    };
+    (answer!(said), (said.present == 1).then_some(meta))
 }
 
 pub fn canonical(file: &[u8], out: &mut [u8]) -> Answer {

@@ -60,6 +60,8 @@ pub fn files() -> Subject {
             pair!("sections", side => side::sections),
             pair!("devices", side => side::devices),
             pair!("disks", side => side::disks),
+            pair!("cpus", side => side::cpus),
+            pair!("mmus", side => side::mmus),
             pair!("canonical", side => side::canonical),
             pair!("add_device", side => |file, out| side::add_device(file, 3, 1, 0, b"new", out)),
             pair!("add_disk", side => |file, out| side::add_disk(file, 256, b"base", b"", out)),

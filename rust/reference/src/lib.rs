@@ -31,7 +31,7 @@ pub use ring::{
 };
 pub use sheet::{access, cpu_field, cpu_set, mmu_field, mmu_set, Access};
 pub use snapshot::{
-    add_device, add_disk, canonical, check, devices, disks, remove_device, remove_disk,
-    replace_device, sections,
+    add_device, add_disk, canonical, check, cpus, devices, disks, meta, mmus, remove_device,
+    remove_disk, replace_device, sections, Meta,
 };
 pub use wrapper::{controllers, wrapper_canonical, wrapper_check};

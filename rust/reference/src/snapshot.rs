@@ -59,6 +59,35 @@ pub fn disks(file: &[u8], table: &mut [u8]) -> Answer {
     answered(list_table(file, DISKS, disk_record, table))
 }
 
+/// Writes a record for each CPU of CPUS, in key order.
+pub fn cpus(file: &[u8], table: &mut [u8]) -> Answer {
+    answered(list_table(file, CPUS, cpu_record, table))
+}
+
+/// Writes a record for each MMU of MMUS, in key order.
+pub fn mmus(file: &[u8], table: &mut [u8]) -> Answer {
+    answered(list_table(file, MMUS, mmu_record, table))
+}
+
+/// What META says: the snapshot's id, its parent's, the time, and where the label stands with its length.
+#[derive(Clone, Copy, Debug, Default, PartialEq, Eq)]
+pub struct Meta {
+    pub id: u64,
+    pub parent: Option<u64>,
+    pub time: u64,
+    pub label: Option<(u64, u64)>,
+}
+
+/// Checks a file, and reads its META section if it has one.
+pub fn meta(file: &[u8]) -> (Answer, Option<Meta>) {
+    let read = read_file(file).map(|sections| {
+        let meta = sections.iter().find(|section| section.id == META)?;
+        let start = meta.start + SECTION_HEADER;
+        read_meta(&mut Cursor::new(file, start, meta.start + meta.bytes.len())).ok()
+    });
+    (answered(read.map(|_| 0)), read.ok().flatten())
+}
+
 /// Writes the canonical form.
 pub fn canonical(file: &[u8], out: &mut [u8]) -> Answer {
     answered(read_file(file).and_then(|sections| write_canonical(&sections, out)))
@@ -165,7 +194,9 @@ fn excludes(one: u32, other: u32) -> bool {
 /// field, is its tail.
 fn read_payload<'a>(id: u32, version: u16, mut payload: Cursor<'a>) -> Taken<Option<List<'a>>> {
     match id {
-        META => read_meta(payload)?,
+        META => {
+            read_meta(&mut payload)?;
+        }
         CPU => {
             let length = payload.left();
             let start = payload.place();
@@ -184,16 +215,18 @@ fn read_payload<'a>(id: u32, version: u16, mut payload: Cursor<'a>) -> Taken<Opt
 }
 
 /// META: id; parent, if the byte before it is 1; time; label, if the byte before it is 1.
-fn read_meta(mut payload: Cursor) -> Taken<()> {
-    payload.u64()?;
+fn read_meta(payload: &mut Cursor) -> Taken<Meta> {
+    let mut meta = Meta { id: payload.u64()?, ..Meta::default() };
     if payload.byte_to(1)? == 1 {
-        payload.u64()?;
+        meta.parent = Some(payload.u64()?);
     }
-    payload.u64()?;
+    meta.time = payload.u64()?;
     if payload.byte_to(1)? == 1 {
+        let start = payload.place() + 4;
         payload.text(MOST_LABEL)?;
+        meta.label = Some((start as u64, (payload.place() - start) as u64));
     }
-    Ok(())
+    Ok(meta)
 }
 
 // Tables.
@@ -230,6 +263,22 @@ fn disk_record(entry: Entry) -> [u8; RECORD] {
     let base_length = u32_at(entry.bytes, 4) as usize;
     let overlay_length = u32_at(entry.bytes, 8 + base_length);
     record(&entry.bytes[..8], entry.start as u64 + 8, u64::from(overlay_length), entry.position)
+}
+
+/// u32 APIC id and u32 state length stand so in the entry; then the state's place, and the blob's length,
+/// a u64 behind the state.
+fn cpu_record(entry: Entry) -> [u8; RECORD] {
+    let state_length = u32_at(entry.bytes, 4) as usize;
+    let blob_length = u64_at(entry.bytes, 8 + state_length);
+    record(&entry.bytes[..8], entry.start as u64 + 8, blob_length, entry.position)
+}
+
+/// u32 APIC id, and the state behind it up to the entry's end.
+fn mmu_record(entry: Entry) -> [u8; RECORD] {
+    let mut head = [0; 8];
+    head[..4].copy_from_slice(&entry.bytes[..4]);
+    head[4..].copy_from_slice(&(entry.bytes.len() as u32 - 4).to_le_bytes());
+    record(&head, entry.start as u64 + 4, 0, entry.position)
 }
 
 // The canonical form.

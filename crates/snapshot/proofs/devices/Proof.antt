@@ -1,4 +1,3 @@
-use Rattle.tables.specs.declared.Table.the-variants.{Devices}
 use Rattle.aerosnap.specs.Known.{DEVICES}
 use Rattle.snapshot.proofs.Reading.{bare-table}
 use borrow.Author.Needs.{needs}
@@ -6,7 +5,7 @@ use Rattle.snapshot.proofs.devices.Statement.{statement}
 use Rattle.snapshot.proofs.devices.Tie as tie
 
 returns : tie.Need-returns
-returns c = let a = c .before .before .before .before .args in bare-table (a .file .now) Devices DEVICES (a .table .now) (c .before .if1 .taken) (c .check .ensures)
+returns c = let a = c .before .before .before .before .args in bare-table (a .file .now) DEVICES (a .table .now) (c .before .if1 .taken) (c .check .ensures)
 
 pub devices-spec : {M : Type 1} → statement M
 devices-spec =

@@ -18,7 +18,7 @@ returns : tie.Need-returns
 returns c =
     let y = opened (c .before .before) in
     let a = sought (found (c .before .before)) .args in
-    list-none (a .t) (a .id) (a .file .now) (y .site) (c .if1 .taken) (a .table .now)
+    list-none (a .id) (a .file .now) (y .site) (c .if1 .taken) (a .table .now)
 
 put-table-requires : tie.Need-put-table-requires
 put-table-requires c κs =
@@ -27,7 +27,7 @@ put-table-requires c κs =
     record { read = y .site .read; is-known = t .pre .0; body = t .pre .1; place = y .site .place; there = c .before .before .if1 .left; starts = y .starts; front = y .site .first }
 
 returns-2 : tie.Need-returns-2
-returns-2 c = let t = c .before .before .before .before .before .before .before .before .before .before in let a = t .args in list-stop (a .file .now) (a .t) (a .id) (a .table .now) (rw (c .before .number .given .1) at (c .before .before .before .before .before .check-and-find .ensures .answers))
+returns-2 c = let t = c .before .before .before .before .before .before .before .before .before .before in let a = t .args in list-stop (a .file .now) (a .id) (a .table .now) (rw (c .before .number .given .1) at (c .before .before .before .before .before .check-and-find .ensures .answers))
 
 pub list-table-in-spec : {M : Type 1} → statement M
 list-table-in-spec =

@@ -26,26 +26,33 @@ returns c =
     let t = start k in
     list-short (t .pre) (k .u32-at .ensures) (k .before .end-at .ensures) (t .args .table .now) (c .if1 .taken)
 
+-- past the room's test, where the table is chosen
+abbrev counted : tie.After-table-in → tie.After-u32-at
+counted c = c .before .before .before
+
+add-u16-at : tie.Need-add-u16-at
+add-u16-at c = omega (arith, within (start (c .before)))
+
 add-last : tie.Need-add-last
-add-last c = omega (arith, inside (c .before), start (c .before) .fits)
+add-last c = omega (arith, inside (counted c), start (counted c) .fits)
 
 part-put-rows-end : tie.Need-part-put-rows-end
-part-put-rows-end c = omega (arith, within (start (c .before)), c .before .before .end-at .ensures)
+part-put-rows-end c = omega (arith, within (start (counted c)), counted c .before .end-at .ensures)
 
 cast-put-rows : tie.Need-cast-put-rows
-cast-put-rows c = omega (arith, within (start (c .before .before)))
+cast-put-rows c = omega (arith, within (start (counted (c .before))))
 
 mul-put-rows : tie.Need-mul-put-rows
-mul-put-rows c = omega (arith, inside (c .before .before))
+mul-put-rows c = omega (arith, inside (counted (c .before)))
 
 part-put-rows-end-2 : tie.Need-part-put-rows-end-2
-part-put-rows-end-2 c = inside (c .before .before)
+part-put-rows-end-2 c = inside (counted (c .before))
 
 returns-2 : tie.Need-returns-2
 returns-2 c =
-    let room = c .before .before .before .before .before .before in
-    let k = room .before in
-    list-done (start k .pre) (k .u32-at .ensures) (k .before .end-at .ensures) (room .if1 .left) (c .before .before .put-rows .ensures)
+    let chosen = c .before .before .before .before .before .before in
+    let k = counted chosen in
+    list-done (start k .pre) (k .u32-at .ensures) (k .before .end-at .ensures) (chosen .table-in .ensures) (chosen .before .u16-at .ensures) (chosen .before .before .if1 .left) (c .before .before .put-rows .ensures)
 
 pub put-table-spec : {M : Type 1} → statement M
 put-table-spec =
@@ -57,6 +64,9 @@ put-table-spec =
     (λ c. search needs)
     (λ c. search needs)
     returns
+    add-u16-at
+    (λ c κs. search needs)
+    (λ c κs. search needs)
     add-last
     (λ c. search needs)
     (λ c. search needs)

@@ -43,6 +43,7 @@ const GROUPS: &[Group] = &[
     ("snapshots: texts", snapshots::texts),
     ("lists: every order of a few", orders::few),
     ("lists: many in several orders", orders::many),
+    ("lists: CPUs and MMUs in every version", orders::states),
     ("tails: behind lists", tails::behind_lists),
     ("tails: counts that are too low", tails::low_counts),
     ("tails: behind META, and where there are none", tails::behind_meta),
