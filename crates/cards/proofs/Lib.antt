@@ -1,0 +1,2 @@
+pub mod Carded
+pub mod Walked
