@@ -24,5 +24,7 @@ pub mod Added
 pub mod AnyOrder
 pub mod Edited
 pub mod Made
+pub mod Together
+pub mod Counted
 pub mod Examples
 pub mod Cases

@@ -1,0 +1,138 @@
+-- Many at once is a chain of adds, each with the room of the output; so Demand 3 holds for the orders of a table.
+-- Assumes nothing.
+use mathlib.Core.Path.{_≡_, refl, sym, _∙_, ap}
+use mathlib.Core.Bool.{Bool, true, false}
+use mathlib.Core.List.{List, [], _∷_, _++_, map, List·Permᴰ, Permᴰ·symm, Perm}
+use Prim.Native.Nat.{ℕ, zero, suc, _+_, _/_, _≤_}
+use native.Mathlib.Omega.{arith}
+use lib.ListN.{length}
+use Rattle.answer.specs.Numbers.{PAYLOAD}
+use Rattle.answer.specs.Outcome.{Outcome, taken, refused, checked, Pass, after}
+use Rattle.answer.proofs.Checks.{checked-pass, pass-checked}
+use Rattle.answer.proofs.Outcomes.{taken-is, taken-refused, after-taken}
+use Rattle.wire.specs.Numbers.{Bytes, leAt}
+use Rattle.wire.proofs.Numbers.{leAt-bound}
+use Rattle.order.specs.Keyed.{Every}
+use Rattle.order.specs.Adding.{Chain, items, Roomy}
+use Rattle.order.proofs.Folds.{every-map, every-imp}
+use Rattle.aerosnap.specs.declared.NewDevice.{NewDevice}
+use Rattle.aerosnap.specs.Content.{Content, render, contentAt, canonical, IsCanonical}
+use Rattle.aerosnap.specs.Adding.{Item, Wide, WideName}
+use Rattle.aerosnap.specs.Edits.{addTo, editFile, addItem, Call}
+use Rattle.aerosnap.specs.Many.{newDeviceAt, newDevicesFrom, newDevices, isInside, newName, newItem, newItems, WideNews, further, addNew, addEach, addAll, many}
+use Rattle.aerosnap.proofs.Canonical.{canonical-exactly}
+use Rattle.aerosnap.proofs.AnyOrder.{any-order, no-two-sets}
+
+-- ---- the table
+
+-- the numbers that are read of a table are as wide as their fields
+pub wide-from : (t : List ℕ) → Bytes t → (n at : ℕ) → WideNews (newDevicesFrom n at t)
+unfolding newDevicesFrom
+wide-from t b zero at = tt
+wide-from t b (suc n) at = ((leAt-bound 4 t at b, leAt-bound 2 t (at + 4) b, leAt-bound 2 t (at + 6) b), wide-from t b n (at + 24))
+
+pub wide-table : (t : List ℕ) → Bytes t → WideNews (newDevices t)
+wide-table t b = wide-from t b (length t / 24) 0
+
+-- every payload lies within the second buffer
+abbrev pub Inside : List ℕ → List NewDevice → Type 0
+Inside store = Every (λ x. isInside store x ≡ true)
+
+-- the calls that the entries stand for, each with the room of the output
+abbrev pub newCalls : ℕ → List ℕ → List NewDevice → List (ℕ × Item)
+newCalls have store = map (λ x. (have, newItem store x))
+
+pub items-calls : (have : ℕ) (store : List ℕ) (l : List NewDevice) → items (newCalls have store l) ≡ newItems store l
+items-calls have store [] = refl
+items-calls have store (x ∷ l) = ap (λ (m : List Item). newItem store x ∷ m) (items-calls have store l)
+
+-- ---- answers with an index
+
+pub further-taken : {A B : Type 0} (p : ℕ × Outcome A) (f : A → ℕ × Outcome B) {j : ℕ} {b : B} → further p f ≡ (j, taken b) → (a : A) × (p .1 ≡ taken a) × (f a ≡ (j, taken b))
+further-taken (i, taken a) f h = (a, refl, h)
+further-taken {B = B} (i, refused n p) f h = absurd (taken-refused (sym (ap (λ (q : ℕ × Outcome B). q .1) h)))
+
+pub further-same : {A B : Type 0} (p : ℕ × Outcome A) (f g : A → ℕ × Outcome B) → ((a : A) → p .1 ≡ taken a → f a ≡ g a) → further p f ≡ further p g
+further-same (i, taken a) f g h = h a refl
+further-same (i, refused n p) f g h = refl
+
+-- ---- one entry
+
+-- an entry that is added is the add of its item
+pub new-add : (have : ℕ) (s store : List ℕ) (x : NewDevice) (b : List ℕ) → addNew have s store x ≡ taken b → (isInside store x ≡ true) × (addItem have s (newItem store x) ≡ taken b)
+unfolding addNew editFile
+new-add have s store x b h =
+    let (c, e, q) = after-taken (contentAt s) (λ c. checked ((isInside store x, PAYLOAD, 0) ∷ []) (addTo have c (newItem store x))) h in
+    let (p, t) = checked-pass ((isInside store x, PAYLOAD, 0) ∷ []) (addTo have c (newItem store x)) b q in
+    (p .0, rw e t)
+
+-- whatever it answers, where its payload lies within the second buffer
+pub add-new : (have : ℕ) (s store : List ℕ) (x : NewDevice) → isInside store x ≡ true → addNew have s store x ≡ addItem have s (newItem store x)
+unfolding addNew editFile
+add-new have s store x h = go (contentAt s)
+  where
+    go : (o : Outcome Content) → after o (λ c. checked ((isInside store x, PAYLOAD, 0) ∷ []) (addTo have c (newItem store x))) ≡ after o (λ c. addTo have c (newItem store x))
+    go (taken c) = pass-checked ((isInside store x, PAYLOAD, 0) ∷ []) (addTo have c (newItem store x)) (h, tt)
+    go (refused n p) = refl
+
+-- ---- all of them
+
+pub each-chain : (have : ℕ) (s : List ℕ) (i : ℕ) (l : List NewDevice) (store : List ℕ) (j : ℕ) (b : List ℕ) → WideNews l → addEach have s i l store ≡ (j, taken b)
+    → (j ≡ 0) × Inside store l × Chain Call s (newCalls have store l) b
+unfolding addEach
+each-chain have s i [] store j b w h = (sym (ap (λ (q : ℕ × Outcome (List ℕ)). q .0) h), tt, taken-is (ap (λ (q : ℕ × Outcome (List ℕ)). q .1) h))
+each-chain have s i (x ∷ l) store j b w h =
+    let (d, e, q) = further-taken (i, addNew have s store x) (λ b. addEach have b (suc i) l store) h in
+    let (p, t) = new-add have s store x d e in
+    let (z, n, c) = each-chain have d (suc i) l store j b (w .1) q in
+    (z, (p, n), (d, record { wide = w .0; accepts = t }, c))
+
+pub chain-each : (have : ℕ) (s : List ℕ) (i : ℕ) (l : List NewDevice) (store b : List ℕ) → Inside store l → Chain Call s (newCalls have store l) b → addEach have s i l store ≡ (0, taken b)
+unfolding addEach
+chain-each have s i [] store b n c = ap (λ (t : List ℕ). (0, taken t)) c
+chain-each have s i (x ∷ l) store b n (d, k, c) =
+    let e : addNew have s store x ≡ taken d = add-new have s store x (n .0) ∙ k .accepts in
+    rw e (chain-each have d (suc i) l store b (n .1) c)
+
+-- The whole call, on a canonical file, is taken exactly if every payload lies within the second buffer and the chain of adds is taken; its index is 0 then.
+pub all-chain : (have : ℕ) (s : List ℕ) (l : List NewDevice) (store : List ℕ) (j : ℕ) (b : List ℕ) → IsCanonical s → WideNews l → addAll have s l store ≡ (j, taken b) → (j ≡ 0) × Inside store l × Chain Call s (newCalls have store l) b
+unfolding addAll
+all-chain have s [] store j b o w h =
+    let k : canonical have s ≡ taken b = ap (λ (q : ℕ × Outcome (List ℕ)). q .1) h in
+    let (c, e, q, n) = canonical-exactly have s b .0 k in
+    let (d, f, t, m) = canonical-exactly (length s) s s .0 o in
+    let i : c ≡ d = taken-is (sym e ∙ f) in
+    (sym (ap (λ (q : ℕ × Outcome (List ℕ)). q .0) h), tt, sym t ∙ ap render (sym i) ∙ q)
+all-chain have s (x ∷ l) store j b o w h = each-chain have s 0 (x ∷ l) store j b w h
+
+pub chain-all : (have : ℕ) (s : List ℕ) (l : List NewDevice) (store b : List ℕ) → IsCanonical s → length b ≤ have → Inside store l → Chain Call s (newCalls have store l) b → addAll have s l store ≡ (0, taken b)
+unfolding addAll
+chain-all have s [] store b o n i c =
+    let (d, f, t, m) = canonical-exactly (length s) s s .0 o in
+    ap (λ (r : Outcome (List ℕ)). (0, r)) (canonical-exactly have s b .1 (d, f, t ∙ c, n))
+chain-all have s (x ∷ l) store b o n i c = chain-each have s 0 (x ∷ l) store b i c
+
+-- ---- Demand 3 for tables: sets of keys and payload bytes, wherever these lie
+
+pub any-news : (have room : ℕ) (s : List ℕ) (l m : List NewDevice) (store other : List ℕ) (j : ℕ) (b : List ℕ) → IsCanonical s → WideNews l → addAll have s l store ≡ (j, taken b)
+    → List·Permᴰ (newItems store l) (newItems other m) → Inside other m → length b ≤ room → addAll room s m other ≡ (0, taken b)
+any-news have room s l m store other j b o w h p i n =
+    let (_, _, c) = all-chain have s l store j b o w h in
+    chain-all room s m other b o n i
+    (any-order s (newCalls have store l) (newCalls room other m) b o c (rw (items-calls have store l, items-calls room other m) p) (every-map _ (λ x. (room, newItem other x)) m (every-imp (λ x _. n) m i)))
+
+pub no-two-news : (have room : ℕ) (s : List ℕ) (l m : List NewDevice) (store other : List ℕ) (j k : ℕ) (b : List ℕ) → IsCanonical s → WideNews l → WideNews m → addAll have s l store ≡ (j, taken b) → addAll room s m other ≡ (k, taken b)
+    → Perm (newItems store l) (newItems other m)
+no-two-news have room s l m store other j k b o w v h g =
+    let (_, _, c) = all-chain have s l store j b o w h in
+    let (_, _, d) = all-chain room s m other k b o v g in
+    rw (items-calls have store l, items-calls room other m) at (no-two-sets s (newCalls have store l) (newCalls room other m) b o c d)
+
+-- the same from the bytes of two tables
+pub any-table : (have room : ℕ) (s t u store other : List ℕ) (j : ℕ) (b : List ℕ) → IsCanonical s → Bytes t → many have s t store ≡ (j, taken b)
+    → List·Permᴰ (newItems store (newDevices t)) (newItems other (newDevices u)) → Inside other (newDevices u) → length b ≤ room → many room s u other ≡ (0, taken b)
+any-table have room s t u store other j b o w h p i n = any-news have room s (newDevices t) (newDevices u) store other j b o (wide-table t w) h p i n
+
+pub no-two-tables : (have room : ℕ) (s t u store other : List ℕ) (j k : ℕ) (b : List ℕ) → IsCanonical s → Bytes t → Bytes u → many have s t store ≡ (j, taken b) → many room s u other ≡ (k, taken b)
+    → Perm (newItems store (newDevices t)) (newItems other (newDevices u))
+no-two-tables have room s t u store other j k b o w v h g = no-two-news have room s (newDevices t) (newDevices u) store other j k b o (wide-table t w) (wide-table u v) h g
