@@ -26,5 +26,6 @@ pub mod Edited
 pub mod Made
 pub mod Together
 pub mod Counted
+pub mod Rooms
 pub mod Examples
 pub mod Cases

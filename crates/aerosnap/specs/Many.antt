@@ -2,7 +2,7 @@
 -- Assumes nothing.
 use mathlib.Core.List.{List, [], _∷_, _++_, map}
 use mathlib.Core.Bool.{Bool, not, cond, _&&_, _||_}
-use Prim.Native.Nat.{ℕ, zero, suc, _+_, _-_, _*_, _/_}
+use Prim.Native.Nat.{ℕ, zero, suc, _+_, _-_, _*_, _/_, _<_}
 use lib.ListN.{length, take, drop}
 use lib.Dec.{leb}
 use Rattle.answer.specs.Numbers.{SIZE, MANY, LIMIT, HAVE, PAYLOAD}
@@ -57,6 +57,11 @@ WideNews = Every (λ x. WideName (newName x))
 abbrev pub further : {A B : Type 0} → ℕ × Outcome A → (A → ℕ × Outcome B) → ℕ × Outcome B
 further (i, taken a) next = next a
 further (i, refused n p) next = (i, refused n p)
+
+-- it is taken, or refused at an entry behind number i
+abbrev pub Beyond : {A : Type 0} → ℕ → ℕ × Outcome A → Type 0
+Beyond i (j, taken a) = Unit {0}
+Beyond i (j, refused n p) = i < j
 
 -- an entry added to a file, for an output of so many bytes: the file's faults, where its payload lies, then as any add
 unfoldable pub addNew : ℕ → List ℕ → List ℕ → NewDevice → Outcome (List ℕ)
