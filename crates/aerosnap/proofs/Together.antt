@@ -6,7 +6,7 @@ use mathlib.Core.List.{List, [], _∷_, _++_, map, List·Permᴰ, Permᴰ·symm,
 use Prim.Native.Nat.{ℕ, zero, suc, _+_, _/_, _≤_}
 use native.Mathlib.Omega.{arith}
 use lib.ListN.{length}
-use Rattle.answer.specs.Numbers.{PAYLOAD}
+use Rattle.answer.specs.Numbers.{ROOM, HAVE, ABSENT, PAYLOAD, isFault}
 use Rattle.answer.specs.Outcome.{Outcome, taken, refused, checked, Pass, after}
 use Rattle.answer.proofs.Checks.{checked-pass, pass-checked}
 use Rattle.answer.proofs.Outcomes.{taken-is, taken-refused, after-taken}
@@ -18,9 +18,11 @@ use Rattle.order.proofs.Folds.{every-map, every-imp}
 use Rattle.aerosnap.specs.declared.NewDevice.{NewDevice}
 use Rattle.aerosnap.specs.Content.{Content, render, contentAt, canonical, IsCanonical}
 use Rattle.aerosnap.specs.Adding.{Item, Wide, WideName}
-use Rattle.aerosnap.specs.Edits.{addTo, editFile, addItem, Call}
+use Rattle.aerosnap.specs.Edits.{add, addTo, editFile, addItem, Call}
 use Rattle.aerosnap.specs.Many.{newDeviceAt, newDevicesFrom, newDevices, isInside, newName, newItem, newItems, WideNews, further, addNew, addEach, addAll, many}
 use Rattle.aerosnap.proofs.Canonical.{canonical-exactly}
+use Rattle.aerosnap.proofs.Refusals.{Refuses, checked-refuses, after-refuses}
+use Rattle.aerosnap.proofs.Named.{content-refuses, edit-to-refuses, canonical-refuses}
 use Rattle.aerosnap.proofs.AnyOrder.{any-order, no-two-sets}
 
 -- ---- the table
@@ -111,6 +113,30 @@ chain-all have s [] store b o n i c =
     let (d, f, t, m) = canonical-exactly (length s) s s .0 o in
     ap (λ (r : Outcome (List ℕ)). (0, r)) (canonical-exactly have s b .1 (d, f, t ∙ c, n))
 chain-all have s (x ∷ l) store b o n i c = chain-each have s 0 (x ∷ l) store b i c
+
+-- ---- refusals
+
+-- what holds of the number of every fault, and of ROOM, HAVE, ABSENT and PAYLOAD, holds of the number with which the call is refused
+module _ (P : ℕ → Type 0) (faulty : (n : ℕ) → isFault n ≡ true → P n) (r : P ROOM) (h : P HAVE) (a : P ABSENT) (o : P PAYLOAD) where
+  new-refuses : (have : ℕ) (s store : List ℕ) (x : NewDevice) → Refuses P (addNew have s store x)
+  unfolding addNew
+  new-refuses have s store x =
+      after-refuses P (contentAt s) (λ c. checked ((isInside store x, PAYLOAD, 0) ∷ []) (addTo have c (newItem store x))) (content-refuses P faulty s)
+      (λ c. checked-refuses P ((isInside store x, PAYLOAD, 0) ∷ []) (addTo have c (newItem store x)) (o, tt) (edit-to-refuses P faulty r h a have c (add (newItem store x))))
+
+  each-refuses : (have : ℕ) (s : List ℕ) (i : ℕ) (l : List NewDevice) (store : List ℕ) → Refuses P (addEach have s i l store .1)
+  unfolding addEach
+  each-refuses have s i [] store = tt
+  each-refuses have s i (x ∷ l) store = go (addNew have s store x) (new-refuses have s store x) (λ b. each-refuses have b (suc i) l store)
+    where
+      go : (q : Outcome (List ℕ)) → Refuses P q → ((b : List ℕ) → Refuses P (addEach have b (suc i) l store .1)) → Refuses P (further (i, q) (λ b. addEach have b (suc i) l store) .1)
+      go (taken b) k f = f b
+      go (refused n p) k f = k
+
+  pub all-refuses : (have : ℕ) (s : List ℕ) (l : List NewDevice) (store : List ℕ) → Refuses P (addAll have s l store .1)
+  unfolding addAll
+  all-refuses have s [] store = canonical-refuses P faulty r have s
+  all-refuses have s (x ∷ l) store = each-refuses have s 0 (x ∷ l) store
 
 -- ---- Demand 3 for tables: sets of keys and payload bytes, wherever these lie
 

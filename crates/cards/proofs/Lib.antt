@@ -1,2 +1,3 @@
 pub mod Carded
 pub mod Walked
+pub mod Whole
