@@ -1,3 +1,5 @@
+pub mod Moves
 pub mod Carded
 pub mod Walked
 pub mod Whole
+pub mod Once
