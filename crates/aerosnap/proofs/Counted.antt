@@ -35,7 +35,7 @@ use Rattle.aerosnap.proofs.Passing.{edit-exactly-to}
 use Rattle.aerosnap.proofs.Added.{grows}
 use Rattle.aerosnap.proofs.AnyOrder.{puts-grown}
 use Rattle.aerosnap.proofs.Edited.{key-name, canon-apply}
-use Rattle.aerosnap.proofs.Together.{further-same}
+use Rattle.aerosnap.proofs.Together.{Inside, further-same}
 
 -- ---- the numbers with an entry more
 
@@ -161,18 +161,26 @@ agree-next store c x seen l h j =
 
 -- an entry that is taken leaves a content in order, and its payload is as long as it says
 pub record Grown (store : List ℕ) (c : Content) (x : NewDevice) : Type 0 where
+  pub inside : isInside store x ≡ true
   pub long : length (take (x .length) (drop (x .place) store)) ≡ x .length
   pub canon : Canon (withItem (newItem store x) c)
 
 entry-canon : (have : ℕ) (store : List ℕ) (c : Content) (x : NewDevice) (b : List ℕ) → Canon c → Wide (newItem store x) → newTo have store c x ≡ taken b → Grown store c x
 entry-canon have store c x b h w q =
     let (p, t) = checked-pass ((isInside store x, PAYLOAD, 0) ∷ []) (addTo have c (newItem store x)) b q in
-    record { long = part-length store x (p .0); canon = canon-apply (add (newItem store x)) c h w (edit-exactly-to have c (add (newItem store x)) b .0 t .0 .rows) }
+    record { inside = p .0; long = part-length store x (p .0); canon = canon-apply (add (newItem store x)) c h w (edit-exactly-to have c (add (newItem store x)) b .0 t .0 .rows) }
+
+-- what a pass that is not refused ends with: the tally of the content with all entries, which is in order; each payload lies within the second buffer
+pub record PassEnd (store : List ℕ) (c : Content) (l : List NewDevice) (j : ℕ) (k : Tally) : Type 0 where
+  pub index-is : j ≡ 0
+  pub canon : Canon (puts withItem c (newItems store l))
+  pub tally : k ≡ opened (puts withItem c (newItems store l))
+  pub inside : Inside store l
 
 -- the pass from an entry on, against adding one by one
 pub record Passes (have : ℕ) (store : List ℕ) (seen : List ℕ) (old : List (List ℕ)) (i : ℕ) (s : List ℕ) (c : Content) (l : List NewDevice) : Type 0 where
   pub same : addEach have s i l store ≡ further (pass have store old seen (opened c) i l) (λ _. (0, taken (render (puts withItem c (newItems store l)))))
-  pub canon : (j : ℕ) (k : Tally) → pass have store old seen (opened c) i l ≡ (j, taken k) → Canon (puts withItem c (newItems store l))
+  pub ends : (j : ℕ) (k : Tally) → pass have store old seen (opened c) i l ≡ (j, taken k) → PassEnd store c l j k
 
 after-is : {A B : Type 0} (o : Outcome A) (f : A → Outcome B) {a : A} → o ≡ taken a → after o f ≡ f a
 after-is o f h = ap (λ r. after r f) h
@@ -186,7 +194,7 @@ first-passes have store old x l seen i s c e h w a rest =
     let q = entry-pass have store c x (isSeen (newKey x) seen) (has (devices .key) (newKey x) old) (a (newKey x)) in
     let d : addNew have s store x ≡ after o (λ _. taken (render u)) = after-is (contentAt s) (λ c. newTo have store c x) e ∙ q in
     let g = go o (λ z y. entry-canon have store c x (render u) h (w .0) (q ∙ after-is o (λ _. taken (render u)) y)) in
-    record { same = rw d (g .0); canon = g .1 }
+    record { same = rw d (g .0); ends = g .1 }
   where
     k : Tally
     k = grow (x .length) (opened c)
@@ -199,17 +207,20 @@ first-passes have store old x l seen i s c e h w a rest =
 
     go : (o : Outcome (Unit {0})) → ((z : Unit {0}) → o ≡ taken z → Grown store c x)
         → (further (i, after o (λ _. taken (render u))) (λ b. addEach have b (suc i) l store) ≡ further (further (i, o) (λ _. pass have store old (newKey x ∷ seen) k (suc i) l)) (λ _. (0, taken (render (puts withItem u (newItems store l))))))
-        × ((j : ℕ) (m : Tally) → further (i, o) (λ _. pass have store old (newKey x ∷ seen) k (suc i) l) ≡ (j, taken m) → Canon (puts withItem u (newItems store l)))
+        × ((j : ℕ) (m : Tally) → further (i, o) (λ _. pass have store old (newKey x ∷ seen) k (suc i) l) ≡ (j, taken m) → PassEnd store c (x ∷ l) j m)
     go (taken z) f =
         let g = f z refl in
         let y : opened u ≡ k = opened-more (x .id) (x .version) (x .flags) (take (x .length) (drop (x .place) store)) c ∙ ap (λ (n : ℕ). grow n (opened c)) (g .long) in
         let p = rest (newKey x ∷ seen) (suc i) u (g .canon) (w .1) (agree-next store c x seen old a) in
-        (rw y at (p .same), λ j m v. p .canon j m (rw y v))
+        (rw y at (p .same), λ j m v. let q = p .ends j m (rw y v) in record { index-is = q .index-is; canon = q .canon; tally = q .tally; inside = (g .inside, q .inside) })
     go (refused n p) f = (refl, λ j m v. absurd (taken-refused (sym (ap (λ (q : ℕ × Outcome Tally). q .1) v))))
 
 passes : (have : ℕ) (store : List ℕ) (old : List (List ℕ)) (l : List NewDevice) (seen : List ℕ) (i : ℕ) (c : Content) → Canon c → WideNews l → Agree c seen old → Passes have store seen old i (render c) c l
 unfolding addEach pass
-passes have store old [] seen i c h w a = record { same = refl; canon = λ j k _. h }
+passes have store old [] seen i c h w a = record {
+  same = refl;
+  ends = λ j k e. record { index-is = sym (ap (λ (q : ℕ × Outcome Tally). q .0) e); canon = h; tally = sym (taken-is (ap (λ (q : ℕ × Outcome Tally). q .1) e)); inside = tt };
+}
 passes have store old (x ∷ l) seen i c h w a = first-passes have store old x l seen i (render c) c (read-back c h) h w a (passes have store old l)
 
 -- the whole table, on a file with that content
@@ -228,7 +239,7 @@ content-pass have s c (x ∷ l) store e w =
     let q = pass have store (c .devices) [] (opened c) 0 (x ∷ l) in
     p .same
     ∙ further-same q (λ _. (0, taken (render (puts withItem c (newItems store (x ∷ l)))))) (λ _. (0, taken (render (grown c (newItems store (x ∷ l))))))
-    (λ k y. ap (λ (c : Content). (0, taken (render c))) (puts-grown c (newItems store (x ∷ l)) h (p .canon (q .0) k (λ i. (q .0, y i)))))
+    (λ k y. ap (λ (c : Content). (0, taken (render c))) (puts-grown c (newItems store (x ∷ l)) h (p .ends (q .0) k (λ i. (q .0, y i)) .canon)))
 
 -- the file's faults come first, with index 0
 pub all-faults : (have : ℕ) (s : List ℕ) (l : List NewDevice) (store : List ℕ) (n p : ℕ) → contentAt s ≡ refused n p → addAll have s l store ≡ (0, refused n p)
@@ -267,15 +278,71 @@ all-taken have s c [] store b e w h =
     all-in c [] store k k b (ap render (taken-is (sym e ∙ r)) ∙ q)
 all-taken have s c (x ∷ l) store b e w h =
     let p = all-passes have s c x l store e w in
-    go (pass have store (c .devices) [] (opened c) 0 (x ∷ l)) refl (ap (λ (q : ℕ × Outcome (List ℕ)). q .1) (sym (p .same)) ∙ h) (p .canon)
+    go (pass have store (c .devices) [] (opened c) 0 (x ∷ l)) refl (ap (λ (q : ℕ × Outcome (List ℕ)). q .1) (sym (p .same)) ∙ h) (p .ends)
   where
     u : Content
     u = puts withItem c (newItems store (x ∷ l))
 
     go : (q : ℕ × Outcome Tally) → pass have store (c .devices) [] (opened c) 0 (x ∷ l) ≡ q → further q (λ _. (0, taken (render u))) .1 ≡ taken b
-        → ((j : ℕ) (k : Tally) → pass have store (c .devices) [] (opened c) 0 (x ∷ l) ≡ (j, taken k) → Canon u) → AllIn c (x ∷ l) store b
-    go (j, taken k) y t f = all-in c (x ∷ l) store (content-is s c e .0) (f j k y) b (taken-is t)
+        → ((j : ℕ) (k : Tally) → pass have store (c .devices) [] (opened c) 0 (x ∷ l) ≡ (j, taken k) → PassEnd store c (x ∷ l) j k) → AllIn c (x ∷ l) store b
+    go (j, taken k) y t f = all-in c (x ∷ l) store (content-is s c e .0) (f j k y .canon) b (taken-is t)
     go (j, refused n p) y t f = absurd (taken-refused (sym t))
+
+-- ---- what the pass ends with, for the code
+
+-- a file in order, and a table of one entry or more: the content then, and its numbers
+pub record PassGives (store : List ℕ) (c : Content) (l : List NewDevice) (j : ℕ) (k : Tally) : Type 0 where
+  pub index-is : j ≡ 0
+  pub canon : Canon (grown c (newItems store l))
+  pub inside : Inside store l
+  pub sections-are : k .sections ≡ length (secs (grown c (newItems store l)))
+  pub size-is : k .size ≡ length (render (grown c (newItems store l)))
+  pub count-is : k .count ≡ length (grown c (newItems store l) .devices)
+  pub bytes-are : k .bytes ≡ length (listBytes (grown c (newItems store l) .devices) ++ c .deviceTail)
+
+puts-more : (store : List ℕ) (c : Content) (l : List NewDevice) → length (puts withItem c (newItems store l) .devices) ≡ length (c .devices) + length l
+puts-more store c [] = omega arith
+puts-more store c (x ∷ l) = omega (arith, puts-more store (withItem (newItem store x) c) l, length-insert (devices .key) (entryOf (newItem store x)) (c .devices))
+
+pub pass-gives : (have : ℕ) (c : Content) (x : NewDevice) (l : List NewDevice) (store : List ℕ) (j : ℕ) (k : Tally) → Canon c → WideNews (x ∷ l)
+    → pass have store (c .devices) [] (opened c) 0 (x ∷ l) ≡ (j, taken k) → PassGives store c (x ∷ l) j k
+pass-gives have c x l store j k h w e =
+    let p = all-passes have (render c) c x l store (read-back c h) w .ends j k e in
+    let u : Content = puts withItem c (newItems store (x ∷ l)) in
+    let g : u ≡ grown c (newItems store (x ∷ l)) = puts-grown c (newItems store (x ∷ l)) h (p .canon) in
+    let n = entry-there (u .devices) (u .deviceTail) {n = length (c .devices) + length l} (omega (arith, puts-more store c (x ∷ l))) in
+    let i = made (isAbsent (u .devices) (u .deviceTail)) in
+    let m : 1 - presence (u .devices) (u .deviceTail) ≡ 0 = ap (λ (b : Bool). 1 - cond b 0 1) n in
+    let s : opened u .sections ≡ length (secs u) = omega (arith, i .0, m) in
+    let z : opened u .size ≡ length (render u) = omega (arith, i .1, m) in
+    record {
+      index-is = p .index-is;
+      canon = rw g at (p .canon);
+      inside = p .inside;
+      sections-are = ap (λ (k : Tally). k .sections) (p .tally) ∙ s ∙ ap (λ (c : Content). length (secs c)) g;
+      size-is = ap (λ (k : Tally). k .size) (p .tally) ∙ z ∙ ap (λ (c : Content). length (render c)) g;
+      count-is = ap (λ (k : Tally). k .count) (p .tally) ∙ ap (λ (c : Content). length (c .devices)) g;
+      bytes-are = ap (λ (k : Tally). k .bytes) (p .tally) ∙ ap (λ (c : Content). length (listBytes (c .devices) ++ c .deviceTail)) g;
+    }
+
+-- and how far they have moved
+pub pass-moves : (have : ℕ) (store : List ℕ) (old : List (List ℕ)) (l : List NewDevice) (seen : List ℕ) (k m : Tally) (i j : ℕ) → pass have store old seen k i l ≡ (j, taken m)
+    → (m .sections ≡ k .sections) × (m .count ≡ k .count + length l) × (m .bytes ≡ k .bytes + weigh (λ x. 16 + x .length) l) × (m .size ≡ k .size + weigh (λ x. 16 + x .length) l)
+unfolding pass
+pass-moves have store old [] seen k m i j e =
+    let q : k ≡ m = taken-is (ap (λ (q : ℕ × Outcome Tally). q .1) e) in
+    (ap (λ (k : Tally). k .sections) (sym q), omega (arith, ap (λ (k : Tally). k .count) q), omega (arith, ap (λ (k : Tally). k .bytes) q), omega (arith, ap (λ (k : Tally). k .size) q))
+pass-moves have store old (x ∷ l) seen k m i j e = go (asked (passChecks have store (isSeen (newKey x) seen) (has (devices .key) (newKey x) old) (grow (x .length) k) x)) e (pass-moves have store old l (newKey x ∷ seen) (grow (x .length) k) m (suc i) j)
+  where
+    weights : NewDevice → ℕ
+    weights x = 16 + x .length
+
+    go : (o : Outcome (Unit {0})) → further (i, o) (λ _. pass have store old (newKey x ∷ seen) (grow (x .length) k) (suc i) l) ≡ (j, taken m)
+        → (pass have store old (newKey x ∷ seen) (grow (x .length) k) (suc i) l ≡ (j, taken m)
+        → (m .sections ≡ k .sections) × (m .count ≡ suc (k .count) + length l) × (m .bytes ≡ k .bytes + (16 + x .length) + weigh weights l) × (m .size ≡ k .size + (16 + x .length) + weigh weights l))
+        → (m .sections ≡ k .sections) × (m .count ≡ k .count + length (x ∷ l)) × (m .bytes ≡ k .bytes + weigh weights (x ∷ l)) × (m .size ≡ k .size + weigh weights (x ∷ l))
+    go (taken z) e f = let (a, b, c, d) = f e in (a, omega arith, omega arith, omega arith)
+    go (refused n p) e f = absurd (taken-refused (sym (ap (λ (q : ℕ × Outcome Tally). q .1) e)))
 
 -- ---- the index is small: no entry behind number 4096 is ever looked at
 

@@ -26,6 +26,7 @@ pub mod Edited
 pub mod Made
 pub mod Together
 pub mod Counted
+pub mod Merging
 pub mod Rooms
 pub mod Examples
 pub mod Cases
