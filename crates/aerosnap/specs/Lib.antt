@@ -7,4 +7,5 @@ pub mod Tables
 pub mod Adding
 pub mod Edits
 pub mod Many
+pub mod Maps
 pub mod Calls
