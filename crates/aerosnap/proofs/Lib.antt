@@ -28,5 +28,6 @@ pub mod Together
 pub mod Counted
 pub mod Merging
 pub mod Rooms
+pub mod Mapped
 pub mod Examples
 pub mod Cases
