@@ -29,5 +29,6 @@ pub mod Counted
 pub mod Merging
 pub mod Rooms
 pub mod Mapped
+pub mod Pairs
 pub mod Examples
 pub mod Cases
