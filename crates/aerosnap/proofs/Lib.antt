@@ -29,6 +29,7 @@ pub mod Counted
 pub mod Merging
 pub mod Rooms
 pub mod Mapped
+pub mod Lookups
 pub mod Pairs
 pub mod Examples
 pub mod Cases

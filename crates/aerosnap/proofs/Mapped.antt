@@ -88,14 +88,14 @@ holds-first n x m = go (sameName n (nameOf x))
     go true = refl
     go false = refl
 
-holds-device : (a v f : ℕ) → WideName (deviceNamed a v f) → (m : Map) → Every Wide m → has (devices .key) (keyOf (deviceNamed a v f)) (deviceEntries m) ≡ holds (deviceNamed a v f) m
+pub holds-device : (a v f : ℕ) → WideName (deviceNamed a v f) → (m : Map) → Every Wide m → has (devices .key) (keyOf (deviceNamed a v f)) (deviceEntries m) ≡ holds (deviceNamed a v f) m
 unfolding has
 holds-device a v f h [] k = refl
 holds-device a v f h (device b w g p ∷ m) k =
     has-cons (devices .key) (keyOf (deviceNamed a v f)) (entryOf (device b w g p)) (deviceEntries m) ∙ cc (item-device a v f b w g p h (k .0), holds-device a v f h m (k .1)) ∙ sym (holds-first (deviceNamed a v f) (device b w g p) m)
 holds-device a v f h (disk b x y ∷ m) k = holds-device a v f h m (k .1)
 
-holds-disk : (a : ℕ) → WideName (diskNamed a) → (m : Map) → Every Wide m → has (disks .key) (keyOf (diskNamed a)) (diskEntries m) ≡ holds (diskNamed a) m
+pub holds-disk : (a : ℕ) → WideName (diskNamed a) → (m : Map) → Every Wide m → has (disks .key) (keyOf (diskNamed a)) (diskEntries m) ≡ holds (diskNamed a) m
 unfolding has
 holds-disk a h [] k = refl
 holds-disk a h (device b w g p ∷ m) k = holds-disk a h m (k .1)

@@ -55,6 +55,12 @@ others n m = keep (λ x. not (sameName n (nameOf x))) m
 abbrev pub mapAfter : Edit → Map → Map
 mapAfter e m = news e ++ cond (wants e) (others (target e) m) m
 
+-- what the name of the edit holds then
+abbrev pub heldThen : Edit → Option Item
+heldThen (add x) = some x
+heldThen (remove n) = none
+heldThen (replace id v f p) = some (device id v f p)
+
 -- ---- what it counts
 
 -- All else in the file: what follows its devices and its disks, and its other sections.
