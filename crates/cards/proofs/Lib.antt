@@ -2,4 +2,5 @@ pub mod Moves
 pub mod Carded
 pub mod Walked
 pub mod Whole
+pub mod Shifts
 pub mod Once
