@@ -26,7 +26,7 @@ use Rattle.aerosnap.specs.File.{fileMost, sectionsMost, devicesMost}
 use Rattle.aerosnap.specs.Content.{isAbsent, Content, secs, render, contentAt, canonical}
 use Rattle.aerosnap.specs.Adding.{Item, device, Wide, entryOf, withItem, there, ownChecks, addChecks, grown}
 use Rattle.aerosnap.specs.Edits.{add, apply, editTo, addTo}
-use Rattle.aerosnap.specs.Many.{isInside, newItem, newItems, WideNews, further, addNew, addEach, addAll, Tally, opened, grow, passChecks, newKey, isSeen, pass, onePass}
+use Rattle.aerosnap.specs.Many.{isInside, newItem, newItems, WideNews, Inside, further, addNew, addEach, addAll, Tally, opened, grow, passChecks, newKey, isSeen, pass, onePass}
 use Rattle.aerosnap.proofs.Framed.{length-framed}
 use Rattle.aerosnap.proofs.Canon.{presence, Canon}
 use Rattle.aerosnap.proofs.Back.{read-back}
@@ -35,7 +35,7 @@ use Rattle.aerosnap.proofs.Passing.{edit-exactly-to}
 use Rattle.aerosnap.proofs.Added.{grows}
 use Rattle.aerosnap.proofs.AnyOrder.{puts-grown}
 use Rattle.aerosnap.proofs.Edited.{key-name, canon-apply}
-use Rattle.aerosnap.proofs.Together.{Inside, further-same}
+use Rattle.aerosnap.proofs.Together.{further-same}
 
 -- ---- the numbers with an entry more
 

@@ -1,17 +1,18 @@
 -- Many at once is a chain of adds, each with the room of the output; so Demand 3 holds for the orders of a table.
 -- Assumes nothing.
-use mathlib.Core.Path.{_≡_, refl, sym, _∙_, ap}
+use mathlib.Core.Path.{_≡_, refl, sym, _∙_, ap, subst}
+use mathlib.Core.Logic.{_↔_}
 use mathlib.Core.Bool.{Bool, true, false}
 use mathlib.Core.List.{List, [], _∷_, _++_, map, List·Permᴰ, Permᴰ·symm, Perm}
-use Prim.Native.Nat.{ℕ, zero, suc, _+_, _/_, _≤_}
+use Prim.Native.Nat.{ℕ, zero, suc, _+_, _*_, _/_, _%_, _≤_, _<_}
 use native.Mathlib.Omega.{arith}
-use lib.ListN.{length}
+use lib.ListN.{length, length-append}
 use Rattle.answer.specs.Numbers.{ROOM, HAVE, ABSENT, PAYLOAD, isFault}
 use Rattle.answer.specs.Outcome.{Outcome, taken, refused, checked, Pass, after}
 use Rattle.answer.proofs.Checks.{checked-pass, pass-checked}
 use Rattle.answer.proofs.Outcomes.{taken-is, taken-refused, after-taken}
 use Rattle.wire.specs.Numbers.{Bytes, leAt}
-use Rattle.wire.proofs.Numbers.{leAt-bound}
+use Rattle.wire.proofs.Numbers.{leAt-append, leAt-bound}
 use Rattle.order.specs.Keyed.{Every}
 use Rattle.order.specs.Adding.{Chain, items, Roomy}
 use Rattle.order.proofs.Folds.{every-map, every-imp}
@@ -19,10 +20,11 @@ use Rattle.aerosnap.specs.declared.NewDevice.{NewDevice}
 use Rattle.aerosnap.specs.Content.{Content, render, contentAt, canonical, IsCanonical}
 use Rattle.aerosnap.specs.Adding.{Item, Wide, WideName}
 use Rattle.aerosnap.specs.Edits.{add, addTo, editFile, addItem, Call}
-use Rattle.aerosnap.specs.Many.{newDeviceAt, newDevicesFrom, newDevices, isInside, newName, newItem, newItems, WideNews, further, addNew, addEach, addAll, many}
+use Rattle.aerosnap.specs.Many.{newDeviceAt, newDevicesFrom, newDevices, isInside, newName, newItem, newItems, WideNews, Inside, newCalls, further, addNew, addEach, RefusedAt, addAll, many}
 use Rattle.aerosnap.proofs.Canonical.{canonical-exactly}
 use Rattle.aerosnap.proofs.Refusals.{Refuses, checked-refuses, after-refuses}
 use Rattle.aerosnap.proofs.Named.{content-refuses, edit-to-refuses, canonical-refuses}
+use Rattle.aerosnap.proofs.Passing.{edit-exactly}
 use Rattle.aerosnap.proofs.AnyOrder.{any-order, no-two-sets}
 
 -- ---- the table
@@ -36,17 +38,39 @@ wide-from t b (suc n) at = ((leAt-bound 4 t at b, leAt-bound 2 t (at + 4) b, leA
 pub wide-table : (t : List ℕ) → Bytes t → WideNews (newDevices t)
 wide-table t b = wide-from t b (length t / 24) 0
 
--- every payload lies within the second buffer
-abbrev pub Inside : List ℕ → List NewDevice → Type 0
-Inside store = Every (λ x. isInside store x ≡ true)
-
--- the calls that the entries stand for, each with the room of the output
-abbrev pub newCalls : ℕ → List ℕ → List NewDevice → List (ℕ × Item)
-newCalls have store = map (λ x. (have, newItem store x))
-
 pub items-calls : (have : ℕ) (store : List ℕ) (l : List NewDevice) → items (newCalls have store l) ≡ newItems store l
 items-calls have store [] = refl
 items-calls have store (x ∷ l) = ap (λ (m : List Item). newItem store x ∷ m) (items-calls have store l)
+
+-- how many they are
+pub count-from : (n at : ℕ) (t : List ℕ) → length (newDevicesFrom n at t) ≡ n
+unfolding newDevicesFrom
+count-from zero at t = refl
+count-from (suc n) at t = ap suc (count-from n (at + 24) t)
+
+pub count-news : (t : List ℕ) → length (newDevices t) ≡ length t / 24
+count-news t = count-from (length t / 24) 0 t
+
+-- what follows them isn't looked at
+new-append : (t u : List ℕ) (at : ℕ) → at + 24 ≤ length t → newDeviceAt (t ++ u) at ≡ newDeviceAt t at
+new-append t u at h =
+    let i = leAt-append 4 t u at (omega arith) in
+    let v = leAt-append 2 t u (at + 4) (omega arith) in
+    let f = leAt-append 2 t u (at + 6) (omega arith) in
+    let p = leAt-append 8 t u (at + 8) (omega arith) in
+    let l = leAt-append 8 t u (at + 16) (omega arith) in
+    λ j. record { id = i j; version = v j; flags = f j; place = p j; length = l j }
+
+from-append : (n at : ℕ) (t u : List ℕ) → at + 24 * n ≤ length t → newDevicesFrom n at (t ++ u) ≡ newDevicesFrom n at t
+unfolding newDevicesFrom
+from-append zero at t u h = refl
+from-append (suc n) at t u h = cc (new-append t u at (omega arith), from-append n (at + 24) t u (omega arith))
+
+-- a part record at the end is no entry
+pub part-record : (t u : List ℕ) → length t % 24 ≡ 0 → length u < 24 → newDevices (t ++ u) ≡ newDevices t
+part-record t u h k =
+    let n : length (t ++ u) / 24 ≡ length t / 24 = omega (arith, length-append t u) in
+    ap (λ (n : ℕ). newDevicesFrom n 0 (t ++ u)) n ∙ from-append (length t / 24) 0 t u (omega arith)
 
 -- ---- answers with an index
 
@@ -95,6 +119,79 @@ chain-each have s i [] store b n c = ap (λ (t : List ℕ). (0, taken t)) c
 chain-each have s i (x ∷ l) store b n (d, k, c) =
     let e : addNew have s store x ≡ taken d = add-new have s store x (n .0) ∙ k .accepts in
     rw e (chain-each have d (suc i) l store b (n .1) c)
+
+-- where entries before it are added, one that is refused is refused with its number
+chain-refused : (have : ℕ) (store : List ℕ) (before : List NewDevice) (x : NewDevice) (behind : List NewDevice) (s d : List ℕ) (a n p : ℕ) → Inside store before → Chain Call s (newCalls have store before) d
+    → addNew have d store x ≡ refused n p → addEach have s a (before ++ (x ∷ behind)) store ≡ (a + length before, refused n p)
+unfolding addEach
+chain-refused have store [] x behind s d a n p i c h =
+    let e : addNew have s store x ≡ refused n p = ap (λ (d : List ℕ). addNew have d store x) c ∙ h in
+    rw e (ap (λ (j : ℕ). (j, refused n p)) (omega arith))
+chain-refused have store (y ∷ before) x behind s d a n p i (u, k, c) h =
+    let e : addNew have s store y ≡ taken u = add-new have s store y (i .0) ∙ k .accepts in
+    rw e (chain-refused have store before x behind u d (suc a) n p (i .1) c h ∙ ap (λ (j : ℕ). (j, refused n p)) (omega arith))
+
+each-refused : (have : ℕ) (s : List ℕ) (a : ℕ) (l : List NewDevice) (store : List ℕ) (j n p : ℕ) → WideNews l → addEach have s a l store ≡ (j, refused n p) → (i : ℕ) × (j ≡ a + i) × RefusedAt have s l store i n p
+unfolding addEach
+each-refused have s a [] store j n p w h = absurd (taken-refused (ap (λ (q : ℕ × Outcome (List ℕ)). q .1) h))
+each-refused have s a (x ∷ l) store j n p w h = go (addNew have s store x) refl h (λ d. each-refused have d (suc a) l store j n p (w .1))
+  where
+    go : (o : Outcome (List ℕ)) → addNew have s store x ≡ o → further (a, o) (λ b. addEach have b (suc a) l store) ≡ (j, refused n p)
+        → ((d : List ℕ) → addEach have d (suc a) l store ≡ (j, refused n p) → (i : ℕ) × (j ≡ suc a + i) × RefusedAt have d l store i n p) → (i : ℕ) × (j ≡ a + i) × RefusedAt have s (x ∷ l) store i n p
+    go (taken d) e h f =
+        let (i, k, r) = f d h in
+        let (q, t) = new-add have s store x d e in
+        (suc i, omega arith, record {
+          before = x ∷ r .before;
+          entry = r .entry;
+          behind = r .behind;
+          split = ap (λ (m : List NewDevice). x ∷ m) (r .split);
+          number = ap suc (r .number);
+          inside = (q, r .inside);
+          file = r .file;
+          added = (d, record { wide = w .0; accepts = t }, r .added);
+          refuses = r .refuses;
+        })
+    go (refused m q) e h f =
+        let z : _≡_ {A = Outcome (List ℕ)} (refused m q) (refused n p) = ap (λ (x : ℕ × Outcome (List ℕ)). x .1) h in
+        (0, omega (arith, ap (λ (x : ℕ × Outcome (List ℕ)). x .0) h), record { before = []; entry = x; behind = l; split = refl; number = refl; inside = tt; file = s; added = refl; refuses = e ∙ z })
+
+-- a table with an entry is refused exactly where its first entry is that is refused one by one
+pub all-refused : (have : ℕ) (s : List ℕ) (x : NewDevice) (l : List NewDevice) (store : List ℕ) (i n p : ℕ) → WideNews (x ∷ l) → (addAll have s (x ∷ l) store ≡ (i, refused n p)) ↔ RefusedAt have s (x ∷ l) store i n p
+unfolding addAll
+all-refused have s x l store i n p w = (
+  (λ h. let (j, k, r) = each-refused have s 0 (x ∷ l) store i n p w h in subst (λ (j : ℕ). RefusedAt have s (x ∷ l) store j n p) (omega arith) r),
+  λ r.
+      ap (λ (m : List NewDevice). addEach have s 0 m store) (r .split) ∙ chain-refused have store (r .before) (r .entry) (r .behind) s (r .file) 0 n p (r .inside) (r .added) (r .refuses)
+      ∙ ap (λ (j : ℕ). (j, refused n p)) (omega (arith, r .number)),
+)
+
+-- and taken exactly if all are
+pub all-added : (have : ℕ) (s : List ℕ) (x : NewDevice) (l : List NewDevice) (store : List ℕ) (i : ℕ) (b : List ℕ) → WideNews (x ∷ l)
+    → (addAll have s (x ∷ l) store ≡ (i, taken b)) ↔ ((i ≡ 0) × Inside store (x ∷ l) × Chain Call s (newCalls have store (x ∷ l)) b)
+unfolding addAll
+all-added have s x l store i b w = (
+  (λ h. each-chain have s 0 (x ∷ l) store i b w h),
+  λ (z, n, c). chain-each have s 0 (x ∷ l) store b n c ∙ ap (λ (j : ℕ). (j, taken b)) (sym z),
+)
+
+-- what is written fits
+each-fits : (have : ℕ) (s : List ℕ) (i : ℕ) (x : NewDevice) (l : List NewDevice) (store : List ℕ) (j : ℕ) (b : List ℕ) → addEach have s i (x ∷ l) store ≡ (j, taken b) → length b ≤ have
+unfolding addEach
+each-fits have s i x [] store j b h =
+    let (d, e, q) = further-taken (i, addNew have s store x) (λ b. addEach have b (suc i) [] store) h in
+    let (_, t) = new-add have s store x d e in
+    let (_, _, p, w) = edit-exactly have s (add (newItem store x)) d .0 t in
+    let z : d ≡ b = taken-is (ap (λ (q : ℕ × Outcome (List ℕ)). q .1) q) in
+    omega (arith, p .room-is, ap length w, ap length z)
+each-fits have s i x (y ∷ l) store j b h =
+    let (d, e, q) = further-taken (i, addNew have s store x) (λ b. addEach have b (suc i) (y ∷ l) store) h in
+    each-fits have d (suc i) y l store j b q
+
+pub all-fits : (have : ℕ) (s : List ℕ) (l : List NewDevice) (store : List ℕ) (j : ℕ) (b : List ℕ) → addAll have s l store ≡ (j, taken b) → length b ≤ have
+unfolding addAll
+all-fits have s [] store j b h = canonical-exactly have s b .0 (ap (λ (q : ℕ × Outcome (List ℕ)). q .1) h) .3
+all-fits have s (x ∷ l) store j b h = each-fits have s 0 x l store j b h
 
 -- The whole call, on a canonical file, is taken exactly if every payload lies within the second buffer and the chain of adds is taken; its index is 0 then.
 pub all-chain : (have : ℕ) (s : List ℕ) (l : List NewDevice) (store : List ℕ) (j : ℕ) (b : List ℕ) → IsCanonical s → WideNews l → addAll have s l store ≡ (j, taken b) → (j ≡ 0) × Inside store l × Chain Call s (newCalls have store l) b

@@ -1,7 +1,8 @@
 -- Many devices at once: the table of the new entries, adding them one by one, and what one pass over the table computes of it.
 -- Assumes nothing.
+use mathlib.Core.Path.{_≡_}
 use mathlib.Core.List.{List, [], _∷_, _++_, map}
-use mathlib.Core.Bool.{Bool, not, cond, _&&_, _||_}
+use mathlib.Core.Bool.{Bool, true, not, cond, _&&_, _||_}
 use Prim.Native.Nat.{ℕ, zero, suc, _+_, _-_, _*_, _/_, _<_}
 use lib.ListN.{length, take, drop}
 use lib.Dec.{leb}
@@ -10,13 +11,14 @@ use Rattle.answer.specs.Outcome.{Outcome, taken, refused, Checks, checked, afte
 use Rattle.answer.specs.Calls.{asked}
 use Rattle.wire.specs.Numbers.{leAt}
 use Rattle.order.specs.Keyed.{Every, has}
+use Rattle.order.specs.Adding.{Chain}
 use Rattle.entries.specs.Kinds.{payloadMost, devices}
 use Rattle.lists.specs.Lists.{listBytes}
 use Rattle.aerosnap.specs.declared.NewDevice.{NewDevice}
 use Rattle.aerosnap.specs.File.{fileMost, sectionsMost, devicesMost}
 use Rattle.aerosnap.specs.Content.{isAbsent, Content, secs, render, contentAt, canonical}
 use Rattle.aerosnap.specs.Adding.{Item, device, Name, deviceNamed, WideName, grown}
-use Rattle.aerosnap.specs.Edits.{keyOf, addTo}
+use Rattle.aerosnap.specs.Edits.{keyOf, addTo, Call}
 
 -- ---- the table
 
@@ -51,6 +53,14 @@ newItems store = map (newItem store)
 abbrev pub WideNews : List NewDevice → Type 0
 WideNews = Every (λ x. WideName (newName x))
 
+-- every payload lies within the second buffer
+abbrev pub Inside : List ℕ → List NewDevice → Type 0
+Inside store = Every (λ x. isInside store x ≡ true)
+
+-- the calls that the entries stand for, each with the room of the output
+abbrev pub newCalls : ℕ → List ℕ → List NewDevice → List (ℕ × Item)
+newCalls have store = map (λ x. (have, newItem store x))
+
 -- ---- one by one
 
 -- an answer with an index: what is taken goes on, what is refused is refused with that index
@@ -71,6 +81,18 @@ addNew have s store x = after (contentAt s) (λ c. checked ((isInside store x, P
 unfoldable pub addEach : ℕ → List ℕ → ℕ → List NewDevice → List ℕ → ℕ × Outcome (List ℕ)
 addEach have s i [] store = (0, taken s)
 addEach have s i (x ∷ l) store = further (i, addNew have s store x) (λ b. addEach have b (suc i) l store)
+
+-- the entry with the number i is refused: those before it were added one by one, and led to a file
+pub record RefusedAt (have : ℕ) (s : List ℕ) (l : List NewDevice) (store : List ℕ) (i n p : ℕ) : Type 0 where
+  pub before : List NewDevice
+  pub entry : NewDevice
+  pub behind : List NewDevice
+  pub split : l ≡ before ++ (entry ∷ behind)
+  pub number : length before ≡ i
+  pub inside : Inside store before
+  pub file : List ℕ
+  pub added : Chain Call s (newCalls have store before) file
+  pub refuses : addNew have file store entry ≡ refused n p
 
 -- all of them; where there is none, the canonical form
 unfoldable pub addAll : ℕ → List ℕ → List NewDevice → List ℕ → ℕ × Outcome (List ℕ)

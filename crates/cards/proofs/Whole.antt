@@ -17,11 +17,11 @@ use Rattle.entries.specs.Kinds.{devices}
 use Rattle.aerosnap.specs.declared.NewDevice.{NewDevice}
 use Rattle.aerosnap.specs.Content.{Content, render, contentAt}
 use Rattle.aerosnap.specs.Adding.{deviceEntries, grown}
-use Rattle.aerosnap.specs.Many.{newItems, WideNews, further, addAll, Tally}
+use Rattle.aerosnap.specs.Many.{newItems, WideNews, Inside, further, addAll, Tally}
 use Rattle.aerosnap.proofs.Back.{read-back}
 use Rattle.aerosnap.proofs.Refusals.{Refuses}
 use Rattle.aerosnap.proofs.Framed.{length-framed}
-use Rattle.aerosnap.proofs.Together.{Inside, further-taken, further-same, all-refuses}
+use Rattle.aerosnap.proofs.Together.{further-taken, further-same, all-refuses}
 use Rattle.aerosnap.proofs.Counted.{part-length, all-taken, PassGives}
 use Rattle.aerosnap.proofs.Merging.{newEntry, news-devices}
 use Rattle.cards.specs.declared.Card.{Card}
