@@ -25,7 +25,7 @@ use Rattle.aerosnap.proofs.Named.{content-faulty}
 use Rattle.aerosnap.proofs.Counted.{one-pass}
 
 -- rows whose last is the room: a refusal with ROOM is that row's
-last-room : {A : Type 0} (l : Checks) (have size : ℕ) (a : A) {p : ℕ} → Every (λ c. c .1 ≢ ROOM) l → checked (l ++ room have size) (taken a) ≡ refused ROOM p → Pass l × (have < size) × (p ≡ size)
+pub last-room : {A : Type 0} (l : Checks) (have size : ℕ) (a : A) {p : ℕ} → Every (λ c. c .1 ≢ ROOM) l → checked (l ++ room have size) (taken a) ≡ refused ROOM p → Pass l × (have < size) × (p ≡ size)
 last-room {A} [] have size a {p} h e = go (leb size have) refl e
   where
     go : (b : Bool) → leb size have ≡ b → checked ((b, ROOM, size) ∷ []) (taken a) ≡ refused ROOM p → Unit {0} × (have < size) × (p ≡ size)
