@@ -6,4 +6,6 @@ pub mod Content
 pub mod Tables
 pub mod Adding
 pub mod Edits
+pub mod Many
+pub mod Maps
 pub mod Calls

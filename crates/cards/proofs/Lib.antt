@@ -1,2 +1,6 @@
 pub mod Moves
+pub mod Carded
+pub mod Walked
+pub mod Whole
+pub mod Shifts
 pub mod Once

@@ -1,1 +1,3 @@
 pub mod Cards
+pub mod Whole
+pub mod Shifts

@@ -43,7 +43,7 @@ addressCheck a = (leb (deviceOf a) 31 && leb (functionOf a) 7, withdrawn, 0) ∷
 abbrev pub WritesNever : (ℕ → Outcome (List ℕ)) → Type 0
 WritesNever o = (old new : List ℕ) (r : Answer) → Writes (o (length old)) old r new → r .number ≢ withdrawn
 
-pub record Card : Type 0 where
+pub record Refusals : Type 0 where
   -- five bits don't exceed 31, nor three bits 7
   pub device : (a : ℕ) → deviceOf a < 32
   pub function : (a : ℕ) → functionOf a < 8

@@ -20,7 +20,7 @@ use Rattle.dskc.specs.Wrapper as wrapped
 use Rattle.messages.specs.declared.Reading.{Reading}
 use Rattle.messages.specs.Reading as messages
 use Rattle.demands.specs.Demand1.{InTable, Fills}
-use Rattle.demands.specs.Card.{withdrawn, addressCheck, WritesNever, Card}
+use Rattle.demands.specs.Refusals.{withdrawn, addressCheck, WritesNever, Refusals}
 use Rattle.demands.proofs.Demand1.{demand1}
 use Rattle.order.specs.Keyed.{Every}
 use Rattle.aerosnap.proofs.Refusals.{Refuses, checked-refuses}
@@ -96,8 +96,8 @@ set-not k s n i v new r w = go (setCall k s n i v) refl (w .answers)
         let u : _≡_ {A = ℕ} 0 1 = cc in
         omega arith
 
-pub card : Card
-card = record {
+pub refusals : Refusals
+refusals = record {
   device = device-below;
   function = function-below;
   never = never-fails;
