@@ -140,18 +140,21 @@ each-refused have s a (x ∷ l) store j n p w h = go (addNew have s store x) ref
         → ((d : List ℕ) → addEach have d (suc a) l store ≡ (j, refused n p) → (i : ℕ) × (j ≡ suc a + i) × RefusedAt have d l store i n p) → (i : ℕ) × (j ≡ a + i) × RefusedAt have s (x ∷ l) store i n p
     go (taken d) e h f =
         let (i, k, r) = f d h in
-        let (q, t) = new-add have s store x d e in
-        (suc i, omega arith, record {
-          before = x ∷ r .before;
-          entry = r .entry;
-          behind = r .behind;
-          split = ap (λ (m : List NewDevice). x ∷ m) (r .split);
-          number = ap suc (r .number);
-          inside = (q, r .inside);
-          file = r .file;
-          added = (d, record { wide = w .0; accepts = t }, r .added);
-          refuses = r .refuses;
-        })
+        let (q, t) = new-add have s store x d e in (
+          suc i,
+          omega arith,
+          record {
+            before = x ∷ r .before;
+            entry = r .entry;
+            behind = r .behind;
+            split = ap (λ (m : List NewDevice). x ∷ m) (r .split);
+            number = ap suc (r .number);
+            inside = (q, r .inside);
+            file = r .file;
+            added = (d, record { wide = w .0; accepts = t }, r .added);
+            refuses = r .refuses;
+          },
+        )
     go (refused m q) e h f =
         let z : _≡_ {A = Outcome (List ℕ)} (refused m q) (refused n p) = ap (λ (x : ℕ × Outcome (List ℕ)). x .1) h in
         (0, omega (arith, ap (λ (x : ℕ × Outcome (List ℕ)). x .0) h), record { before = []; entry = x; behind = l; split = refl; number = refl; inside = tt; file = s; added = refl; refuses = e ∙ z })

@@ -195,7 +195,7 @@ many-between have k s t store b x y v h q u =
       before = i;
       behind = taken-is (sym (all-again have s c l store 0 b r (wide-table t v) n) ∙ u);
       same = ap (λ (o : Outcome Content). further (0, o) (λ c. further (addAll have s l store) (λ b. (0, carded k c (grown c (newItems store l)) b)))) r
-      ∙ ap (λ (q : ℕ × Outcome (List ℕ)). further q (λ b. (0, carded k c (grown c (newItems store l)) b))) n;
+          ∙ ap (λ (q : ℕ × Outcome (List ℕ)). further q (λ b. (0, carded k c (grown c (newItems store l)) b))) n;
     }
 
 pub many-moves : (have : ℕ) (k j : Card) (s t store : List ℕ) (i : ℕ) (b : List ℕ) (x y : Card) → Bytes t → manyCard have k s t store ≡ (i, taken (b, j)) → TrueCard s x → TrueCard b y → MovesAs x y k j
@@ -207,8 +207,7 @@ pub many-last : (have : ℕ) (k : Card) (s t store : List ℕ) (i p : ℕ) (x y 
     → (manyCard have k s t store ≡ (i, refused CARD p)) ↔ ((i ≡ 0) × First (cardChecks k x y) CARD p)
 many-last have k s t store i p x y b v h q u =
     let g = many-between have k s t store b x y v h q u in
-    let f = carded-first k (g .old) (grown (g .old) (newItems store (newDevices t))) b x y p (g .before) (g .behind) in
-    (
+    let f = carded-first k (g .old) (grown (g .old) (newItems store (newDevices t))) b x y p (g .before) (g .behind) in (
       (λ z. let w = sym (g .same) ∙ z in (sym (ap (λ (q : ℕ × Outcome (List ℕ × Card)). q .0) w), f .0 (ap (λ (q : ℕ × Outcome (List ℕ × Card)). q .1) w))),
       λ (e, z). g .same ∙ (λ x. (sym e x, f .1 z x)),
     )
