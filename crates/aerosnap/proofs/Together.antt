@@ -2,25 +2,24 @@
 -- Assumes nothing.
 use mathlib.Core.Path.{_≡_, refl, sym, _∙_, ap, subst}
 use mathlib.Core.Logic.{_↔_}
-use mathlib.Core.Bool.{Bool, true, false}
-use mathlib.Core.List.{List, [], _∷_, _++_, map, List·Permᴰ, Permᴰ·symm, Perm}
+use mathlib.Core.Bool.{true}
+use mathlib.Core.List.{List, [], _∷_, _++_, List·Permᴰ, Perm}
 use Prim.Native.Nat.{ℕ, zero, suc, _+_, _*_, _/_, _%_, _≤_, _<_}
 use native.Mathlib.Omega.{arith}
 use lib.ListN.{length, length-append}
 use Rattle.answer.specs.Numbers.{ROOM, HAVE, ABSENT, PAYLOAD, isFault}
-use Rattle.answer.specs.Outcome.{Outcome, taken, refused, checked, Pass, after}
+use Rattle.answer.specs.Outcome.{Outcome, taken, refused, checked, after}
 use Rattle.answer.proofs.Checks.{checked-pass, pass-checked}
 use Rattle.answer.proofs.Outcomes.{taken-is, taken-refused, after-taken}
-use Rattle.wire.specs.Numbers.{Bytes, leAt}
+use Rattle.wire.specs.Numbers.{Bytes}
 use Rattle.wire.proofs.Numbers.{leAt-append, leAt-bound}
-use Rattle.order.specs.Keyed.{Every}
-use Rattle.order.specs.Adding.{Chain, items, Roomy}
+use Rattle.order.specs.Adding.{Chain, items}
 use Rattle.order.proofs.Folds.{every-map, every-imp}
 use Rattle.aerosnap.specs.declared.NewDevice.{NewDevice}
 use Rattle.aerosnap.specs.Content.{Content, render, contentAt, canonical, IsCanonical}
-use Rattle.aerosnap.specs.Adding.{Item, Wide, WideName}
+use Rattle.aerosnap.specs.Adding.{Item}
 use Rattle.aerosnap.specs.Edits.{add, addTo, editFile, addItem, Call}
-use Rattle.aerosnap.specs.Many.{newDeviceAt, newDevicesFrom, newDevices, isInside, newName, newItem, newItems, WideNews, Inside, newCalls, further, addNew, addEach, RefusedAt, addAll, many}
+use Rattle.aerosnap.specs.Many.{newDeviceAt, newDevicesFrom, newDevices, isInside, newItem, newItems, WideNews, Inside, newCalls, further, addNew, addEach, RefusedAt, addAll, many}
 use Rattle.aerosnap.proofs.Canonical.{canonical-exactly}
 use Rattle.aerosnap.proofs.Refusals.{Refuses, checked-refuses, after-refuses}
 use Rattle.aerosnap.proofs.Named.{content-refuses, edit-to-refuses, canonical-refuses}
@@ -140,18 +139,21 @@ each-refused have s a (x ∷ l) store j n p w h = go (addNew have s store x) ref
         → ((d : List ℕ) → addEach have d (suc a) l store ≡ (j, refused n p) → (i : ℕ) × (j ≡ suc a + i) × RefusedAt have d l store i n p) → (i : ℕ) × (j ≡ a + i) × RefusedAt have s (x ∷ l) store i n p
     go (taken d) e h f =
         let (i, k, r) = f d h in
-        let (q, t) = new-add have s store x d e in
-        (suc i, omega arith, record {
-          before = x ∷ r .before;
-          entry = r .entry;
-          behind = r .behind;
-          split = ap (λ (m : List NewDevice). x ∷ m) (r .split);
-          number = ap suc (r .number);
-          inside = (q, r .inside);
-          file = r .file;
-          added = (d, record { wide = w .0; accepts = t }, r .added);
-          refuses = r .refuses;
-        })
+        let (q, t) = new-add have s store x d e in (
+          suc i,
+          omega arith,
+          record {
+            before = x ∷ r .before;
+            entry = r .entry;
+            behind = r .behind;
+            split = ap (λ (m : List NewDevice). x ∷ m) (r .split);
+            number = ap suc (r .number);
+            inside = (q, r .inside);
+            file = r .file;
+            added = (d, record { wide = w .0; accepts = t }, r .added);
+            refuses = r .refuses;
+          },
+        )
     go (refused m q) e h f =
         let z : _≡_ {A = Outcome (List ℕ)} (refused m q) (refused n p) = ap (λ (x : ℕ × Outcome (List ℕ)). x .1) h in
         (0, omega (arith, ap (λ (x : ℕ × Outcome (List ℕ)). x .0) h), record { before = []; entry = x; behind = l; split = refl; number = refl; inside = tt; file = s; added = refl; refuses = e ∙ z })

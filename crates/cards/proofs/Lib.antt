@@ -3,4 +3,5 @@ pub mod Carded
 pub mod Walked
 pub mod Whole
 pub mod Shifts
+pub mod Examples
 pub mod Once

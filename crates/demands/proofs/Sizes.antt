@@ -1,18 +1,18 @@
 -- Request 12, from the laws of cards (crates/cards/proofs).
 -- Assumes nothing.
 use mathlib.Core.Path.{_≡_, refl, sym, _∙_, ap, subst}
-use mathlib.Core.Logic.{_≢_, _↔_, _⊎_, inl, inr}
-use mathlib.Core.Bool.{true, _&&_}
-use mathlib.Core.List.{List, [], _∷_, Permᴰ·symm}
-use Prim.Native.Nat.{ℕ, _+_, _-_, _*_, _≤_}
+use mathlib.Core.Logic.{_≢_, _↔_}
+use mathlib.Core.Bool.{true}
+use mathlib.Core.List.{List, [], _∷_}
+use Prim.Native.Nat.{ℕ, _+_, _-_, _*_}
 use native.Mathlib.Omega.{arith}
-use lib.ListN.{length, drop, length-drop}
+use lib.ListN.{length, length-drop}
 use lib.Dec.{leb}
 use borrow.Author.Tests.{leb-true}
 use Rattle.answer.specs.Numbers.{CARD}
-use Rattle.answer.specs.Outcome.{Outcome, taken, refused, Pass, checked, after, First}
+use Rattle.answer.specs.Outcome.{Outcome, taken, refused, Pass, after, First}
 use Rattle.answer.proofs.Checks.{and-true, checked-pass}
-use Rattle.answer.proofs.Outcomes.{taken-is, taken-refused, after-taken}
+use Rattle.answer.proofs.Outcomes.{taken-is}
 use Rattle.answer.proofs.Firsts.{checked-first, after-only}
 use Rattle.wire.specs.Numbers.{Bytes, leAt}
 use Rattle.order.specs.Keyed.{weigh}
@@ -23,7 +23,7 @@ use Rattle.tables.specs.Named.{NamesFramed, Each, IsTable}
 use Rattle.aerosnap.specs.declared.NewDevice.{NewDevice}
 use Rattle.aerosnap.specs.Known.{DEVICES}
 use Rattle.aerosnap.specs.File.{fileOf, fileMost, sectionsMost, devicesMost}
-use Rattle.aerosnap.specs.Content.{Content, entriesIn, contentAt, contentOf, render, canonical}
+use Rattle.aerosnap.specs.Content.{Content, entriesIn, contentAt, contentOf, canonical}
 use Rattle.aerosnap.specs.Adding.{grown}
 use Rattle.aerosnap.specs.Edits.{Edit, WideEdit, apply, editTo, editFile}
 use Rattle.aerosnap.specs.Many.{newDevices, newItems, WideNews, further, addEach, addAll, many}
@@ -195,7 +195,7 @@ many-between have k s t store b x y v h q u =
       before = i;
       behind = taken-is (sym (all-again have s c l store 0 b r (wide-table t v) n) ∙ u);
       same = ap (λ (o : Outcome Content). further (0, o) (λ c. further (addAll have s l store) (λ b. (0, carded k c (grown c (newItems store l)) b)))) r
-      ∙ ap (λ (q : ℕ × Outcome (List ℕ)). further q (λ b. (0, carded k c (grown c (newItems store l)) b))) n;
+          ∙ ap (λ (q : ℕ × Outcome (List ℕ)). further q (λ b. (0, carded k c (grown c (newItems store l)) b))) n;
     }
 
 pub many-moves : (have : ℕ) (k j : Card) (s t store : List ℕ) (i : ℕ) (b : List ℕ) (x y : Card) → Bytes t → manyCard have k s t store ≡ (i, taken (b, j)) → TrueCard s x → TrueCard b y → MovesAs x y k j
@@ -207,8 +207,7 @@ pub many-last : (have : ℕ) (k : Card) (s t store : List ℕ) (i p : ℕ) (x y 
     → (manyCard have k s t store ≡ (i, refused CARD p)) ↔ ((i ≡ 0) × First (cardChecks k x y) CARD p)
 many-last have k s t store i p x y b v h q u =
     let g = many-between have k s t store b x y v h q u in
-    let f = carded-first k (g .old) (grown (g .old) (newItems store (newDevices t))) b x y p (g .before) (g .behind) in
-    (
+    let f = carded-first k (g .old) (grown (g .old) (newItems store (newDevices t))) b x y p (g .before) (g .behind) in (
       (λ z. let w = sym (g .same) ∙ z in (sym (ap (λ (q : ℕ × Outcome (List ℕ × Card)). q .0) w), f .0 (ap (λ (q : ℕ × Outcome (List ℕ × Card)). q .1) w))),
       λ (e, z). g .same ∙ (λ x. (sym e x, f .1 z x)),
     )

@@ -7,16 +7,15 @@ use mathlib.Core.List.{List, []}
 use Prim.Native.Nat.{ℕ, _+_, _*_}
 use lib.ListN.{length}
 use Rattle.answer.specs.Numbers.{CARD, isNumber}
-use Rattle.answer.specs.Outcome.{Outcome, taken, refused, First}
+use Rattle.answer.specs.Outcome.{taken, refused, First}
 use Rattle.wire.specs.Numbers.{Bytes, leAt}
 use Rattle.order.specs.Keyed.{weigh}
 use Rattle.order.specs.Entries.{join}
-use Rattle.aerosnap.specs.Content.{Content, contentAt}
 use Rattle.aerosnap.specs.Edits.{Edit, WideEdit, editFile}
 use Rattle.aerosnap.specs.Many.{many}
 use Rattle.aerosnap.specs.Calls.{checkCall, sectionsCall, devicesCall, canonicalCall}
 use Rattle.cards.specs.declared.Card.{Card}
-use Rattle.cards.specs.Cards.{cardOf, openFile, cardChecks, editCard, bytesBeside}
+use Rattle.cards.specs.Cards.{openFile, cardChecks, editCard, bytesBeside}
 use Rattle.cards.specs.Whole.{manyCard}
 use Rattle.demands.specs.Beside.{TrueCard}
 
@@ -43,7 +42,6 @@ pub record Sizes : Type 0 where
   pub walked : (have : ℕ) (s b : List ℕ) (k : Card) → canonicalCall have s ≡ taken b → TrueCard s k → (k .length ≡ length b) × ((l : List (List ℕ)) × (checkCall b ≡ taken l) × (k .sections ≡ length l))
   pub sections : (have room : ℕ) (s b t : List ℕ) (k : Card) → canonicalCall have s ≡ taken b → TrueCard s k → sectionsCall room b ≡ taken t → length t ≡ 32 * k .sections
   pub devices : (have room : ℕ) (s b t : List ℕ) (k : Card) → Bytes b → canonicalCall have s ≡ taken b → TrueCard s k → devicesCall room b ≡ taken t → DevicesShown k t
-
   -- beside a true card an edit answers as without one: the same bytes, or the same number and place; 28 never comes, and the card that comes back is the true one of the file written
   pub as-without : (have : ℕ) (s : List ℕ) (k : Card) (e : Edit) → TrueCard s k → WideEdit e → bytesBeside (editCard have k s e) ≡ editFile have s e
   pub stays-true : (have : ℕ) (s : List ℕ) (k : Card) (e : Edit) (b : List ℕ) (j : Card) → TrueCard s k → WideEdit e → editCard have k s e ≡ taken (b, j) → TrueCard b j
@@ -54,7 +52,6 @@ pub record Sizes : Type 0 where
   -- 28 comes last: where the edit is taken without a card and one of its numbers leaves its bounds
   pub card : (have : ℕ) (k : Card) (s : List ℕ) (e : Edit) (p : ℕ) (x y : Card) (b : List ℕ) → WideEdit e → TrueCard s x → editFile have s e ≡ taken b → TrueCard b y
       → (editCard have k s e ≡ refused CARD p) ↔ First (cardChecks k x y) CARD p
-
   -- the same of many at once, whose card is asked of the whole, with index 0
   pub many-as-without : (have : ℕ) (s t store : List ℕ) (k : Card) → Bytes t → TrueCard s k
       → (manyCard have k s t store .0 ≡ many have s t store .0) × (bytesBeside (manyCard have k s t store .1) ≡ many have s t store .1)
@@ -64,6 +61,5 @@ pub record Sizes : Type 0 where
   pub many-moves : (have : ℕ) (k j : Card) (s t store : List ℕ) (i : ℕ) (b : List ℕ) (x y : Card) → Bytes t → manyCard have k s t store ≡ (i, taken (b, j)) → TrueCard s x → TrueCard b y → MovesAs x y k j
   pub many-card : (have : ℕ) (k : Card) (s t store : List ℕ) (i p : ℕ) (x y : Card) (b : List ℕ) → Bytes t → TrueCard s x → many have s t store .1 ≡ taken b → TrueCard b y
       → (manyCard have k s t store ≡ (i, refused CARD p)) ↔ ((i ≡ 0) × First (cardChecks k x y) CARD p)
-
   -- a number of the list
   pub on-list : isNumber CARD ≡ true

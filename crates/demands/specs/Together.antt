@@ -4,17 +4,17 @@ use mathlib.Core.Path.{_≡_}
 use mathlib.Core.Logic.{_↔_, _⊎_}
 use mathlib.Core.Bool.{true}
 use mathlib.Core.List.{List, [], _∷_, _++_, List·Permᴰ, Perm}
-use Prim.Native.Nat.{ℕ, _+_, _*_, _/_, _%_, _≤_, _<_}
-use lib.ListN.{length, take, drop}
+use Prim.Native.Nat.{ℕ, _+_, _/_, _%_, _≤_, _<_}
+use lib.ListN.{length, take}
 use Rattle.answer.specs.Numbers.{ROOM, PAYLOAD, isNumber}
-use Rattle.answer.specs.Outcome.{Outcome, taken, refused, room, First}
+use Rattle.answer.specs.Outcome.{taken, refused, room, First}
 use Rattle.wire.specs.Numbers.{Bytes}
 use Rattle.order.specs.Adding.{Chain}
 use Rattle.aerosnap.specs.declared.NewDevice.{NewDevice}
 use Rattle.aerosnap.specs.Content.{Content, contentAt, render, IsCanonical}
 use Rattle.aerosnap.specs.Adding.{grown}
 use Rattle.aerosnap.specs.Edits.{add, apply, editChecks, Call}
-use Rattle.aerosnap.specs.Many.{newDeviceAt, newDevicesFrom, newDevices, isInside, newItem, newItems, Inside, newCalls, further, Beyond, addNew, RefusedAt, many, onePass}
+use Rattle.aerosnap.specs.Many.{newDevices, isInside, newItem, newItems, Inside, newCalls, further, Beyond, addNew, RefusedAt, many, onePass}
 use Rattle.aerosnap.specs.Calls.{canonicalCall}
 use Rattle.cards.specs.declared.Card.{Card}
 use Rattle.cards.specs.declared.Edited.{Edited}
@@ -26,7 +26,6 @@ pub record Together : Type 0 where
   -- the entries of a table, 24 bytes each; a part record at the end is no entry
   pub count : (t : List ℕ) → length (newDevices t) ≡ length t / 24
   pub part : (t u : List ℕ) → length t % 24 ≡ 0 → length u < 24 → newDevices (t ++ u) ≡ newDevices t
-
   -- a table with no entry yields the canonical form, with index 0
   pub none : (have : ℕ) (s t store : List ℕ) → length t < 24 → many have s t store ≡ (0, canonicalCall have s)
   -- else it is taken exactly if every payload lies within the second buffer and adding the entries one by one, each with the room of the output, is taken: with the same bytes, and index 0
@@ -49,7 +48,6 @@ pub record Together : Type 0 where
   -- the final content is the old one and the entries, and the final file its rendering
   pub final : (have : ℕ) (s t store : List ℕ) (i : ℕ) (b : List ℕ) (c : Content) → Bytes t → contentAt s ≡ taken c → many have s t store ≡ (i, taken b)
       → (contentAt b ≡ taken (grown c (newItems store (newDevices t)))) × (render (grown c (newItems store (newDevices t))) ≡ b) × IsCanonical b
-
   -- demand 3 for tables, from a canonical file beside its true card; the sets are of keys and payload bytes, wherever these lie
   pub any-table : (have room : ℕ) (s t u store other : List ℕ) (k : Card) (i : ℕ) (b : List ℕ) (j : Card) → IsCanonical s → TrueCard s k → Bytes t → Bytes u → manyCard have k s t store ≡ (i, taken (b, j))
       → List·Permᴰ (newItems store (newDevices t)) (newItems other (newDevices u)) → Inside other (newDevices u) → length b ≤ room → manyCard room k s u other ≡ (0, taken (b, j))
@@ -60,6 +58,5 @@ pub record Together : Type 0 where
       → manyCard (length old) k s t store ≡ (0, taken (take (r .place) new, r .card))
   pub makes : (s t store : List ℕ) (k : Card) (old new : List ℕ) (r : Edited) (i : ℕ) (b : List ℕ) (j : Card) → manyCard (length old) k s t store ≡ (i, taken (b, j)) → WritesBeside k (manyCard (length old) k s t store) old r new
       → (r .number ≡ 0) × (r .index ≡ 0) × (take (r .place) new ≡ b) × (r .card ≡ j)
-
   -- a number of the list
   pub on-list : isNumber PAYLOAD ≡ true
