@@ -73,6 +73,18 @@ edit-never have s k e n p t w h =
     let (c, r, i) = card-open s k t in
     subst (λ (o : Outcome (List ℕ × Card)). Refuses (λ n. n ≢ CARD) o) (ap (λ (k : Card). editCard have k s e) i ∙ h) (no-card have s c e r w)
 
+-- what is refused without a card is refused so beside every card
+pub refused-beside : (have : ℕ) (k : Card) (s : List ℕ) (e : Edit) (n p : ℕ) → editFile have s e ≡ refused n p → editCard have k s e ≡ refused n p
+unfolding editCard editCardTo editFile
+refused-beside have k s e n p h = go (contentAt s) h
+  where
+    inner : (c : Content) (o : Outcome (List ℕ)) → o ≡ refused n p → after o (carded k c (apply e c)) ≡ refused n p
+    inner c o q = ap (λ (o : Outcome (List ℕ)). after o (carded k c (apply e c))) q
+
+    go : (o : Outcome Content) → after o (λ c. editTo have c e) ≡ refused n p → after o (λ c. editCardTo have k c e) ≡ refused n p
+    go (taken c) q = inner c (editTo have c e) q
+    go (refused m x) q = cc
+
 -- ---- demand 1: numbers
 
 in-table : {A : Type 0} (o : Outcome A) → Refuses (λ n. isNumber n ≡ true) o → InTable o

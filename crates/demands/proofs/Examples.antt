@@ -3,7 +3,9 @@
 use Rattle.aerosnap.proofs.Examples as file
 use Rattle.messages.proofs.Examples as message
 use Rattle.entries.proofs.Examples as entry
+use Rattle.answer.specs.Numbers.{HAVE}
 use Rattle.demands.specs.Examples.{Examples}
+use Rattle.demands.proofs.Beside.{refused-beside}
 
 pub examples : Examples
 examples =
@@ -23,6 +25,7 @@ examples =
       P5-devices = f .P5-devices;
       P6 = f .P6;
       P7 = f .P7;
+      P7-beside = λ k. refused-beside 1000 k _ _ HAVE 0 (f .P7);
       P8 = f .P8;
       P9 = f .P9;
       P9-canonical = f .P9-canonical;

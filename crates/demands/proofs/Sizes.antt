@@ -41,7 +41,7 @@ use Rattle.cards.proofs.Whole.{all-true, all-again, all-bytes, all-no-card}
 use Rattle.demands.specs.Beside.{TrueCard}
 use Rattle.demands.specs.Sizes.{DevicesShown, MovesAs, Sizes}
 use Rattle.demands.proofs.Demand2.{table-rows, demand2}
-use Rattle.demands.proofs.Beside.{edit-as, edit-keeps, edit-never}
+use Rattle.demands.proofs.Beside.{edit-as, edit-keeps, edit-never, refused-beside}
 
 -- ---- opening
 
@@ -232,6 +232,7 @@ sizes = record {
   never = edit-never;
   bytes = card-bytes;
   moves = edit-moves;
+  refused-so = refused-beside;
   card = edit-last;
   many-as-without = many-as;
   many-stays-true = many-keeps;

@@ -9,6 +9,10 @@ use Rattle.answer.specs.Outcome.{taken, refused}
 use Rattle.wire.specs.Numbers.{bytesOf}
 use Rattle.entries.specs.Kinds.{address}
 use Rattle.aerosnap.specs.Calls.{checkCall, sectionsCall, devicesCall, disksCall, canonicalCall, addDeviceCall}
+use Rattle.aerosnap.specs.Adding.{device}
+use Rattle.aerosnap.specs.Edits.{add}
+use Rattle.cards.specs.declared.Card.{Card}
+use Rattle.cards.specs.Cards.{editCard}
 use Rattle.kinds.specs.declared.Message.the-variants.{Nothing, PortReadResp, DiskReadResp}
 use Rattle.messages.specs.declared.Reading.{Reading}
 use Rattle.messages.specs.Reading.{readMessage, reading}
@@ -79,6 +83,8 @@ pub record Examples : Type 0 where
   pub P6 : checkCall (withDevices 39 (u32 2 ++ (oneByte 3 ++ twoBytes 3))) ≡ refused KEY 53
   -- adding (3,1,0) to P5 gives HAVE
   pub P7 : addDeviceCall 1000 threeFourteen 3 1 0 (0xAB ∷ 0xCD ∷ []) ≡ refused HAVE 0
+  -- the same beside any card
+  pub P7-beside : (k : Card) → editCard 1000 k threeFourteen (add (device 3 1 0 (0xAB ∷ 0xCD ∷ []))) ≡ refused HAVE 0
   -- with section length 40, CUT at 16
   pub P8 : checkCall (set fourteenThree 24 40) ≡ refused CUT 16
   -- header and DEVICES with count 0, 36 bytes, has P1 as canonical form
