@@ -16,6 +16,8 @@ use Rattle.answer.proofs.Checks.{pass-checked}
 use Rattle.answer.proofs.Table.{fault-number}
 use Rattle.entries.specs.Kinds.{deviceOf, functionOf}
 use Rattle.aerosnap.specs.Calls.{checkCall}
+use Rattle.snapshot.specs.declared.MetaFields.{MetaFields}
+use Rattle.snapshot.specs.MetaSection.{metaCall, asMeta}
 use Rattle.dskc.specs.Wrapper as wrapped
 use Rattle.messages.specs.declared.Reading.{Reading}
 use Rattle.messages.specs.Reading as messages
@@ -64,6 +66,14 @@ answer-not (refused n p) h r e k = number-not n h (sym (ap (λ (x : Answer). x .
 fills-not : {o : ℕ → Outcome (List ℕ)} → Fills o → WritesNever o
 fills-not {o} f old new r w = answer-not (o (length old)) (f .table (length old)) r (w .answers)
 
+-- META has the number of the file's check
+meta-not : (file : List ℕ) (r : MetaFields) → r ≡ asMeta (metaCall file) → r .number ≢ withdrawn
+meta-not file r e = go (checkCall file) refl (demand1 .check file .faults)
+  where
+    go : (o : Outcome (List (List ℕ))) → checkCall file ≡ o → Faulty o → r .number ≢ withdrawn
+    go (taken l) q h = zero-not (r .number) (demand1 .meta file .zero r e .1 (l, q))
+    go (refused n p) q h = λ k. number-not n (fault-number n h) (sym (ap (λ (m : MetaFields). m .number) (demand1 .meta file .refuses r n p e q)) ∙ k)
+
 -- ---- fields of states
 
 values-number : (l : List (ℕ × ℕ × ℕ × ℕ)) (s : List ℕ) → Every (λ c. isNumber (c .1) ≡ true) (valueChecks l s)
@@ -109,6 +119,7 @@ card = record {
   disks = λ file. fills-not (demand1 .disks file);
   cpus = λ file. fills-not (demand1 .cpus file);
   mmus = λ file. fills-not (demand1 .mmus file);
+  meta = meta-not;
   canonical = λ file. fills-not (demand1 .canonical file);
   add-device = λ file id version flags payload. fills-not (demand1 .add-device file id version flags payload);
   add-disk = λ file id base overlay. fills-not (demand1 .add-disk file id base overlay);

@@ -4,7 +4,7 @@ use mathlib.Core.Path.{_≡_, refl, sym, ap, _∙_}
 use mathlib.Core.Logic.{_≢_, _↔_}
 use mathlib.Core.Bool.{Bool, true, false, cond}
 use mathlib.Core.List.{List, [], _∷_, _++_}
-use Prim.Native.Nat.{ℕ, _≤_, _<_}
+use Prim.Native.Nat.{ℕ, _+_, _≤_, _<_}
 use native.Mathlib.Omega.{arith}
 use borrow.Author.Tests.{leb-true, leb-false, le-leb}
 use lib.Dec.{leb, eqb}
@@ -21,15 +21,17 @@ use Rattle.order.specs.Keyed.{Every, flat, sort}
 use Rattle.order.proofs.Folds.{every-append}
 use Rattle.entries.specs.Kinds.{controllers}
 use Rattle.tables.specs.declared.Table.the-variants.{Controllers}
-use Rattle.aerosnap.specs.Known.{DEVICES, DISKS, CPUS, MMUS}
+use Rattle.aerosnap.specs.Known.{META, DEVICES, DISKS, CPUS, MMUS}
 use Rattle.tables.specs.Tables.{rowsAt}
 use Rattle.aerosnap.specs.File.{fileOf}
-use Rattle.aerosnap.specs.Content.{Content, contentAt, render, canonical}
+use Rattle.aerosnap.specs.Content.{Content, isId, contentAt, render, canonical}
 use Rattle.aerosnap.specs.Tables.{placed, listRows, sectionRows, table}
 use Rattle.aerosnap.specs.Adding.{Item, device, disk, deviceNamed, diskNamed, ownChecks, addChecks}
 use Rattle.aerosnap.specs.Edits.{Edit, add, remove, replace, apply, editChecks, editTo, editFile}
 use Rattle.aerosnap.proofs.Refusals.{Refuses, checked-refuses, after-refuses, refuses-more}
 use Rattle.aerosnap.proofs.Named.{checked-faulty, after-faulty, file-faulty, content-faulty}
+use Rattle.snapshot.specs.declared.MetaFields.{MetaFields}
+use Rattle.snapshot.specs.MetaSection.{metaAt, metaIn, asMeta}
 use Rattle.dskc.specs.Wrapper as wrapped
 use Rattle.kinds.specs.declared.Message.{Message}
 use Rattle.kinds.specs.declared.Message.the-variants.{Nothing}
@@ -44,7 +46,7 @@ use Rattle.messages.specs.Writing.{valueChecks, dataChecks, writeChecks, writte
 use Rattle.numbers.specs.declared.Numbers.{Numbers}
 use Rattle.numbers.specs.declared.Told.{Told}
 use Rattle.numbers.specs.Numbers.{numbersOf, kindIn, allWithin, messageOf, told, writeNumbers}
-use Rattle.demands.specs.Demand1.{Taken, InTable, Answers, Fills, ReadsMessage, TellsMessage, numbersIn, Demand1}
+use Rattle.demands.specs.Demand1.{Taken, InTable, Answers, Fills, ReadsMessage, TellsMessage, numbersIn, TellsMeta, Demand1}
 use Rattle.demands.proofs.Faults.{wrapper-faulty, message-faulty}
 
 -- ---- numbers
@@ -121,6 +123,36 @@ tells o h = record {
   takes = λ r c e t. let q = e ∙ ap toldOf t in (ap (λ (x : Told). x .place) q, ap numbersIn q, ap (λ (x : Told). x .data_place) q, ap (λ (x : Told). x .data_length) q);
   refuses = λ r n p e t. let q = e ∙ ap toldOf t in
       (ap (λ (x : Told). x .number) q, ap (λ (x : Told). x .place) q, ap numbersIn q ∙ nothing-told, ap (λ (x : Told). x .data_place) q, ap (λ (x : Told). x .data_length) q);
+  once = λ r s e f. equal-once e f;
+}
+
+-- ---- META
+
+-- a file that is taken answers 0 at 0, whether it has META or not
+meta-zero : (at : ℕ) (l : List (List ℕ)) → (metaIn at l .number ≡ 0) × (metaIn at l .place ≡ 0)
+unfolding metaIn
+meta-zero at [] = (refl, refl)
+meta-zero at (e ∷ l) = go (isId META e) (meta-zero (at + length e) l)
+  where
+    go : (b : Bool) → (metaIn (at + length e) l .number ≡ 0) × (metaIn (at + length e) l .place ≡ 0)
+        → (cond b (metaAt (at + 16) (drop 16 e)) (metaIn (at + length e) l) .number ≡ 0) × (cond b (metaAt (at + 16) (drop 16 e)) (metaIn (at + length e) l) .place ≡ 0)
+    go true h = (refl, refl)
+    go false h = h
+
+-- what is answered of META, by the outcome of the check
+abbrev metaOf : Outcome (List (List ℕ)) → MetaFields
+metaOf o = asMeta (after o (λ l. taken (metaIn 16 l)))
+
+meta-number : (o : Outcome (List (List ℕ))) → Faulty o → (r : MetaFields) → r ≡ metaOf o → (r .number ≡ 0) ↔ Taken o
+meta-number (taken l) h r e = ((λ z. (l, refl)), λ _. ap (λ (m : MetaFields). m .number) e ∙ meta-zero 16 l .0)
+meta-number (refused n p) h r e = ((λ z. absurd (omega (arith, ap (λ (m : MetaFields). m .number) e, fault-some n h))), λ (a, t). absurd (taken-refused (sym t)))
+
+tells-meta : (file : List ℕ) → TellsMeta file
+tells-meta file = record {
+  faults = after-faulty (fileOf file) (λ l. taken (metaIn 16 l)) (file-faulty file) (λ l. tt);
+  zero = meta-number (fileOf file) (file-faulty file);
+  takes = λ r e (l, t). ap (λ (m : MetaFields). m .place) (e ∙ ap metaOf t) ∙ meta-zero 16 l .1;
+  refuses = λ r n p e t. e ∙ ap metaOf t;
   once = λ r s e f. equal-once e f;
 }
 
@@ -281,6 +313,7 @@ demand1 = record {
   disks = λ file. fills _ (table-core (λ l. flat (listRows DISKS) (placed 16 l)) file);
   cpus = λ file. fills _ (table-core (λ l. flat (listRows CPUS) (placed 16 l)) file);
   mmus = λ file. fills _ (table-core (λ l. flat (listRows MMUS) (placed 16 l)) file);
+  meta = tells-meta;
   canonical = λ file. fills _ (canonical-core file);
   add-device = λ file id version flags payload. fills _ (edit-core file (add (device id version flags payload)));
   add-disk = λ file id base overlay. fills _ (edit-core file (add (disk id base overlay)));

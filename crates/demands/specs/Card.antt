@@ -13,6 +13,8 @@ use Rattle.answer.specs.Outcome.{Outcome, Checks, checked, Pass}
 use Rattle.answer.specs.Calls.{asked, verdict, Writes}
 use Rattle.entries.specs.Kinds.{deviceOf, functionOf}
 use Rattle.aerosnap.specs.Calls.{checkCall, sectionsCall, devicesCall, disksCall, cpusCall, mmusCall, canonicalCall, addDeviceCall, addDiskCall, removeDeviceCall, removeDiskCall, replaceDeviceCall}
+use Rattle.snapshot.specs.declared.MetaFields.{MetaFields}
+use Rattle.snapshot.specs.MetaSection.{metaCall, asMeta}
 use Rattle.dskc.specs.Wrapper as wrapped
 use Rattle.kinds.specs.declared.Message.{Message}
 use Rattle.messages.specs.declared.Reading.{Reading}
@@ -58,6 +60,7 @@ pub record Card : Type 0 where
   pub disks : (file : List ℕ) → WritesNever (λ have. disksCall have file)
   pub cpus : (file : List ℕ) → WritesNever (λ have. cpusCall have file)
   pub mmus : (file : List ℕ) → WritesNever (λ have. mmusCall have file)
+  pub meta : (file : List ℕ) (r : MetaFields) → r ≡ asMeta (metaCall file) → r .number ≢ withdrawn
   pub canonical : (file : List ℕ) → WritesNever (λ have. canonicalCall have file)
   pub add-device : (file : List ℕ) (id version flags : ℕ) (payload : List ℕ) → WritesNever (λ have. addDeviceCall have file id version flags payload)
   pub add-disk : (file : List ℕ) (id : ℕ) (base overlay : List ℕ) → WritesNever (λ have. addDiskCall have file id base overlay)
