@@ -35,14 +35,19 @@ use Rattle.fields.proofs.Bytes.{before, behind, read-back}
 use Rattle.fields.proofs.Splices.{splice-back}
 use Rattle.fields.proofs.Outcomes.{set-tried, set-right}
 use Rattle.sheet.specs.declared.CpuSheet.{CpuSheet}
-use Rattle.sheet.specs.declared.MmuSheet.{MmuSheet}
+use Rattle.mmu_sheet.specs.declared.MmuSheet.{MmuSheet}
 use Rattle.sheet.specs.declared.CpuShown.{CpuShown}
-use Rattle.sheet.specs.declared.MmuShown.{MmuShown}
-use Rattle.sheet.specs.Sheet.{cpuOf, fieldsOver, cpuOver, mmuOf, mmuOver}
-use Rattle.sheet.specs.Members.{cpuMember, mmuMember}
-use Rattle.sheet.specs.Calls.{matches, cpuCount, cpuShown, mmuShown, cpuCall, mmuCall, cpuOverChecks, cpuOverCall, mmuOverCall}
-use Rattle.sheet.proofs.Back.{cpu-over-plain, cpu-over-extended, mmu-over}
-use Rattle.sheet.proofs.Ties.{cpu-ties, mmu-ties}
+use Rattle.mmu_sheet.specs.declared.MmuShown.{MmuShown}
+use Rattle.sheet.specs.Sheet.{cpuOf, fieldsOver, cpuOver}
+use Rattle.sheet.specs.Members.{cpuMember}
+use Rattle.sheet.specs.Calls.{matches, cpuCount, cpuShown, cpuCall, cpuOverChecks, cpuOverCall}
+use Rattle.mmu_sheet.specs.Sheet.{mmuOf, mmuOver}
+use Rattle.mmu_sheet.specs.Members.{mmuMember}
+use Rattle.mmu_sheet.specs.Calls.{mmuShown, mmuCall, mmuOverCall}
+use Rattle.sheet.proofs.Back.{cpu-over-plain, cpu-over-extended}
+use Rattle.mmu_sheet.proofs.Back.{mmu-over}
+use Rattle.sheet.proofs.Ties.{cpu-ties}
+use Rattle.mmu_sheet.proofs.Ties.{mmu-ties}
 use Rattle.demands.specs.Sheet as stated
 use Rattle.demands.specs.Sheet.{Accepted, Has}
 

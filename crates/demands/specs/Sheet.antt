@@ -1,6 +1,6 @@
 -- Request 6 of document 02, the register sheet: fields read and set, sheets read and written back, and the access word.
 -- They are statements only; proofs/ has their proofs. The layout stands in crates/fields/specs (Layout), the calls in crates/fields/specs (Fields) and
--- crates/sheet/specs (Calls), which member of a sheet is which field beside them (Members). By its promise a call answers its outcome and leaves what `changed` says.
+-- crates/sheet/specs and crates/mmu_sheet/specs (Calls), which member of a sheet is which field beside them (Members). By its promise a call answers its outcome and leaves what `changed` says.
 -- Assumes nothing.
 use mathlib.Core.Path.{_≡_}
 use mathlib.Core.Logic.{_↔_, _⊎_}
@@ -21,12 +21,15 @@ use Rattle.fields.specs.declared.State.the-variants.{Cpu, Mmu}
 use Rattle.fields.specs.Layout.{rowAt}
 use Rattle.fields.specs.Fields.{stateChecks, placeOf, hasIn, bytesAt, fieldChecks, fieldCall, setTo, setChecks, setCall, Changes}
 use Rattle.sheet.specs.declared.CpuSheet.{CpuSheet}
-use Rattle.sheet.specs.declared.MmuSheet.{MmuSheet}
+use Rattle.mmu_sheet.specs.declared.MmuSheet.{MmuSheet}
 use Rattle.sheet.specs.declared.CpuShown.{CpuShown}
-use Rattle.sheet.specs.declared.MmuShown.{MmuShown}
-use Rattle.sheet.specs.Sheet.{cpuOf, fieldsOver, cpuOver, mmuOf, mmuOver}
-use Rattle.sheet.specs.Members.{cpuMember, mmuMember}
-use Rattle.sheet.specs.Calls.{cpuCount, cpuShown, mmuShown, cpuCall, mmuCall, cpuOverChecks, cpuOverCall, mmuOverCall}
+use Rattle.mmu_sheet.specs.declared.MmuShown.{MmuShown}
+use Rattle.sheet.specs.Sheet.{cpuOf, fieldsOver, cpuOver}
+use Rattle.sheet.specs.Members.{cpuMember}
+use Rattle.sheet.specs.Calls.{cpuCount, cpuShown, cpuCall, cpuOverChecks, cpuOverCall}
+use Rattle.mmu_sheet.specs.Sheet.{mmuOf, mmuOver}
+use Rattle.mmu_sheet.specs.Members.{mmuMember}
+use Rattle.mmu_sheet.specs.Calls.{mmuShown, mmuCall, mmuOverCall}
 
 -- a state is accepted: its length, and its values
 abbrev pub Accepted : State → List ℕ → Type 0
