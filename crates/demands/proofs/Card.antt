@@ -10,7 +10,7 @@ use lib.ListN.{length}
 use borrow.Author.Tests.{le-leb}
 use Rattle.answer.specs.declared.Answer.{Answer}
 use Rattle.answer.specs.Numbers.{SHAPE, VALUE, isAmong, isNumber}
-use Rattle.answer.specs.Outcome.{Outcome, taken, refused, Faulty, Pass, room, fitting}
+use Rattle.answer.specs.Outcome.{Outcome, taken, refused, Faulty, Pass}
 use Rattle.answer.specs.Calls.{verdict, answer}
 use Rattle.answer.proofs.Checks.{pass-checked}
 use Rattle.answer.proofs.Table.{fault-number}
@@ -24,11 +24,8 @@ use Rattle.messages.specs.Reading as messages
 use Rattle.demands.specs.Demand1.{InTable, Fills}
 use Rattle.demands.specs.Card.{withdrawn, addressCheck, WritesNever, Card}
 use Rattle.demands.proofs.Demand1.{demand1}
-use Rattle.order.specs.Keyed.{Every}
-use Rattle.aerosnap.proofs.Refusals.{Refuses, checked-refuses}
 use Rattle.fields.specs.declared.State.{State}
-use Rattle.fields.specs.Layout.{rowAt}
-use Rattle.fields.specs.Fields.{listed, valueChecks, bytesAt, fieldChecks, fieldCall, setCall, stored, Changes}
+use Rattle.fields.specs.Fields.{setCall, stored, Changes}
 use Rattle.demands.proofs.Rings.{rings}
 use Rattle.demands.proofs.Ready.{ready}
 use Rattle.demands.proofs.Sheet.{sheet}
@@ -76,24 +73,6 @@ meta-not file r e = go (checkCall file) refl (demand1 .check file .faults)
 
 -- ---- fields of states
 
-values-number : (l : List (ℕ × ℕ × ℕ × ℕ)) (s : List ℕ) → Every (λ c. isNumber (c .1) ≡ true) (valueChecks l s)
-values-number [] s = tt
-values-number (x ∷ l) s = (refl, values-number l s)
-
-field-number : (k : State) (have : ℕ) (s : List ℕ) (n i : ℕ) → Refuses (λ m. isNumber m ≡ true) (fieldCall k have s n i)
-unfolding fieldCall fieldChecks
-field-number k have s n i =
-    let b : List ℕ = bytesAt (rowAt k n) i s in
-    checked-refuses (λ m. isNumber m ≡ true) (fieldChecks k (rowAt k n) i s) (fitting have b) (refl, (refl, values-number (listed k (length s)) s))
-    (checked-refuses (λ m. isNumber m ≡ true) (room have (length b)) (taken b) (refl, tt) tt)
-
-refuses-table : (o : Outcome (List ℕ)) → Refuses (λ m. isNumber m ≡ true) o → InTable o
-refuses-table (taken b) h = tt
-refuses-table (refused n p) h = h
-
-field-not : (k : State) (s : List ℕ) (n i : ℕ) → WritesNever (λ have. fieldCall k have s n i)
-field-not k s n i old new r w = answer-not (fieldCall k (length old) s n i) (refuses-table (fieldCall k (length old) s n i) (field-number k (length old) s n i)) r (w .answers)
-
 -- a set has only SHAPE and VALUE
 set-not : (k : State) (s : List ℕ) (n i : ℕ) (v new : List ℕ) (r : Answer) → Changes (length v) (setCall k s n i v) s r new → r .number ≢ withdrawn
 set-not k s n i v new r w = go (setCall k s n i v) refl (w .answers)
@@ -139,6 +118,6 @@ card = record {
   fill = λ b q start end m new r w k. let z = rw k at (rings .calls .fill q start end m .stays b new r w (λ i. omega arith) .0) in let y : _≡_ {A = ℕ} 0 1 = cc in omega arith;
   commit = λ b q start end new r w k. let z = rw k at (rings .calls .commit q start end .stays b new r w (λ i. omega arith) .0) in let y : _≡_ {A = ℕ} 0 1 = cc in omega arith;
   take = λ b q new r w k. let z = rw k at (rings .calls .take q .stays b new r w (λ i. omega arith) .0) in let y : _≡_ {A = ℕ} 0 1 = cc in omega arith;
-  field = field-not;
+  field = λ k s n i. fills-not (sheet .reading k .fills s n i);
   set = set-not;
 }

@@ -52,21 +52,21 @@ use Rattle.demands.proofs.Faults.{wrapper-faulty, message-faulty}
 -- ---- numbers
 
 -- a number of the list other than ROOM
-abbrev Plain : ℕ → Type 0
+abbrev pub Plain : ℕ → Type 0
 Plain n = (isNumber n ≡ true) × (n ≢ ROOM)
 
 -- the outcome of a call before its room is looked at
-abbrev Unroomed : {A : Type 0} → Outcome A → Type 0
+abbrev pub Unroomed : {A : Type 0} → Outcome A → Type 0
 Unroomed o = Refuses Plain o
 
-plain : (n : ℕ) → isFault n ≡ true → Plain n
+pub plain : (n : ℕ) → isFault n ≡ true → Plain n
 plain n h = (fault-number n h, fault-no-room n h)
 
 faulty-unroomed : {A : Type 0} (o : Outcome A) → Faulty o → Unroomed o
 faulty-unroomed o h = refuses-more (λ n. isFault n ≡ true) Plain plain o h
 
 -- each of the checks has such a number
-abbrev Rows : Checks → Type 0
+abbrev pub Rows : Checks → Type 0
 Rows = Every (λ c. Plain (c .1))
 
 -- ---- calls that write nothing
@@ -159,10 +159,10 @@ tells-meta file = record {
 -- ---- calls that write
 
 -- what a call is to write, or its first refusal before the room for it is looked at
-record Core (o : ℕ → Outcome (List ℕ)) : Type 0 where
-  core : Outcome (List ℕ)
-  apart : Unroomed core
-  same : (have : ℕ) → o have ≡ after core (fitting have)
+pub record Core (o : ℕ → Outcome (List ℕ)) : Type 0 where
+  pub core : Outcome (List ℕ)
+  pub apart : Unroomed core
+  pub same : (have : ℕ) → o have ≡ after core (fitting have)
 
 -- the numbers of an answer and of what it leaves
 number-is : {o : Outcome (List ℕ)} {old new : List ℕ} {r : Answer} → Writes o old r new → r .number ≡ answer o .number
@@ -206,7 +206,7 @@ fitted-room (taken b) h old new r w z = go (leb (length b) (length old)) refl w
         (omega (arith, leb-false (length b) (length old) e), (b, rw (le-leb (length b) (r .place) (omega arith)), sym p))
 fitted-room (refused n p) h old new r w z = absurd (h .1 (sym (number-is w) ∙ z))
 
-fills : (o : ℕ → Outcome (List ℕ)) → Core o → Fills o
+pub fills : (o : ℕ → Outcome (List ℕ)) → Core o → Fills o
 fills o k = record {
   table = λ have. rw (k .same have) (fitted-table have (k .core) (k .apart));
   stays = λ old new r w h. refused-stays (o (length old)) old new r w h;
