@@ -4,7 +4,7 @@ use mathlib.Core.Path.{_≡_, refl, sym, ap, _∙_}
 use mathlib.Core.Logic.{_≢_, _↔_}
 use mathlib.Core.Bool.{Bool, true, false, cond}
 use mathlib.Core.List.{List, [], _∷_, _++_}
-use Prim.Native.Nat.{ℕ, _≤_, _<_}
+use Prim.Native.Nat.{ℕ, _+_, _≤_, _<_}
 use native.Mathlib.Omega.{arith}
 use borrow.Author.Tests.{leb-true, leb-false, le-leb}
 use lib.Dec.{leb, eqb}
@@ -21,15 +21,17 @@ use Rattle.order.specs.Keyed.{Every, flat, sort}
 use Rattle.order.proofs.Folds.{every-append}
 use Rattle.entries.specs.Kinds.{controllers}
 use Rattle.tables.specs.declared.Table.the-variants.{Controllers}
-use Rattle.aerosnap.specs.Known.{DEVICES, DISKS, CPUS, MMUS}
+use Rattle.aerosnap.specs.Known.{META, DEVICES, DISKS, CPUS, MMUS}
 use Rattle.tables.specs.Tables.{rowsAt}
 use Rattle.aerosnap.specs.File.{fileOf}
-use Rattle.aerosnap.specs.Content.{Content, contentAt, render, canonical}
+use Rattle.aerosnap.specs.Content.{Content, isId, contentAt, render, canonical}
 use Rattle.aerosnap.specs.Tables.{placed, listRows, sectionRows, table}
 use Rattle.aerosnap.specs.Adding.{Item, device, disk, deviceNamed, diskNamed, ownChecks, addChecks}
 use Rattle.aerosnap.specs.Edits.{Edit, add, remove, replace, apply, editChecks, editTo, editFile}
 use Rattle.aerosnap.proofs.Refusals.{Refuses, checked-refuses, after-refuses, refuses-more}
 use Rattle.aerosnap.proofs.Named.{checked-faulty, after-faulty, file-faulty, content-faulty}
+use Rattle.snapshot.specs.declared.MetaFields.{MetaFields}
+use Rattle.snapshot.specs.MetaSection.{metaAt, metaIn, asMeta}
 use Rattle.dskc.specs.Wrapper as wrapped
 use Rattle.kinds.specs.declared.Message.{Message}
 use Rattle.kinds.specs.declared.Message.the-variants.{Nothing}
@@ -44,27 +46,27 @@ use Rattle.messages.specs.Writing.{valueChecks, dataChecks, writeChecks, writte
 use Rattle.numbers.specs.declared.Numbers.{Numbers}
 use Rattle.numbers.specs.declared.Told.{Told}
 use Rattle.numbers.specs.Numbers.{numbersOf, kindIn, allWithin, messageOf, told, writeNumbers}
-use Rattle.demands.specs.Demand1.{Taken, InTable, Answers, Fills, ReadsMessage, TellsMessage, numbersIn, Demand1}
+use Rattle.demands.specs.Demand1.{Taken, InTable, Answers, Fills, ReadsMessage, TellsMessage, numbersIn, TellsMeta, Demand1}
 use Rattle.demands.proofs.Faults.{wrapper-faulty, message-faulty}
 
 -- ---- numbers
 
 -- a number of the list other than ROOM
-abbrev Plain : ℕ → Type 0
+abbrev pub Plain : ℕ → Type 0
 Plain n = (isNumber n ≡ true) × (n ≢ ROOM)
 
 -- the outcome of a call before its room is looked at
-abbrev Unroomed : {A : Type 0} → Outcome A → Type 0
+abbrev pub Unroomed : {A : Type 0} → Outcome A → Type 0
 Unroomed o = Refuses Plain o
 
-plain : (n : ℕ) → isFault n ≡ true → Plain n
+pub plain : (n : ℕ) → isFault n ≡ true → Plain n
 plain n h = (fault-number n h, fault-no-room n h)
 
 faulty-unroomed : {A : Type 0} (o : Outcome A) → Faulty o → Unroomed o
 faulty-unroomed o h = refuses-more (λ n. isFault n ≡ true) Plain plain o h
 
 -- each of the checks has such a number
-abbrev Rows : Checks → Type 0
+abbrev pub Rows : Checks → Type 0
 Rows = Every (λ c. Plain (c .1))
 
 -- ---- calls that write nothing
@@ -124,13 +126,43 @@ tells o h = record {
   once = λ r s e f. equal-once e f;
 }
 
+-- ---- META
+
+-- a file that is taken answers 0 at 0, whether it has META or not
+meta-zero : (at : ℕ) (l : List (List ℕ)) → (metaIn at l .number ≡ 0) × (metaIn at l .place ≡ 0)
+unfolding metaIn
+meta-zero at [] = (refl, refl)
+meta-zero at (e ∷ l) = go (isId META e) (meta-zero (at + length e) l)
+  where
+    go : (b : Bool) → (metaIn (at + length e) l .number ≡ 0) × (metaIn (at + length e) l .place ≡ 0)
+        → (cond b (metaAt (at + 16) (drop 16 e)) (metaIn (at + length e) l) .number ≡ 0) × (cond b (metaAt (at + 16) (drop 16 e)) (metaIn (at + length e) l) .place ≡ 0)
+    go true h = (refl, refl)
+    go false h = h
+
+-- what is answered of META, by the outcome of the check
+abbrev metaOf : Outcome (List (List ℕ)) → MetaFields
+metaOf o = asMeta (after o (λ l. taken (metaIn 16 l)))
+
+meta-number : (o : Outcome (List (List ℕ))) → Faulty o → (r : MetaFields) → r ≡ metaOf o → (r .number ≡ 0) ↔ Taken o
+meta-number (taken l) h r e = ((λ z. (l, refl)), λ _. ap (λ (m : MetaFields). m .number) e ∙ meta-zero 16 l .0)
+meta-number (refused n p) h r e = ((λ z. absurd (omega (arith, ap (λ (m : MetaFields). m .number) e, fault-some n h))), λ (a, t). absurd (taken-refused (sym t)))
+
+tells-meta : (file : List ℕ) → TellsMeta file
+tells-meta file = record {
+  faults = after-faulty (fileOf file) (λ l. taken (metaIn 16 l)) (file-faulty file) (λ l. tt);
+  zero = meta-number (fileOf file) (file-faulty file);
+  takes = λ r e (l, t). ap (λ (m : MetaFields). m .place) (e ∙ ap metaOf t) ∙ meta-zero 16 l .1;
+  refuses = λ r n p e t. e ∙ ap metaOf t;
+  once = λ r s e f. equal-once e f;
+}
+
 -- ---- calls that write
 
 -- what a call is to write, or its first refusal before the room for it is looked at
-record Core (o : ℕ → Outcome (List ℕ)) : Type 0 where
-  core : Outcome (List ℕ)
-  apart : Unroomed core
-  same : (have : ℕ) → o have ≡ after core (fitting have)
+pub record Core (o : ℕ → Outcome (List ℕ)) : Type 0 where
+  pub core : Outcome (List ℕ)
+  pub apart : Unroomed core
+  pub same : (have : ℕ) → o have ≡ after core (fitting have)
 
 -- the numbers of an answer and of what it leaves
 number-is : {o : Outcome (List ℕ)} {old new : List ℕ} {r : Answer} → Writes o old r new → r .number ≡ answer o .number
@@ -174,7 +206,7 @@ fitted-room (taken b) h old new r w z = go (leb (length b) (length old)) refl w
         (omega (arith, leb-false (length b) (length old) e), (b, rw (le-leb (length b) (r .place) (omega arith)), sym p))
 fitted-room (refused n p) h old new r w z = absurd (h .1 (sym (number-is w) ∙ z))
 
-fills : (o : ℕ → Outcome (List ℕ)) → Core o → Fills o
+pub fills : (o : ℕ → Outcome (List ℕ)) → Core o → Fills o
 fills o k = record {
   table = λ have. rw (k .same have) (fitted-table have (k .core) (k .apart));
   stays = λ old new r w h. refused-stays (o (length old)) old new r w h;
@@ -281,6 +313,7 @@ demand1 = record {
   disks = λ file. fills _ (table-core (λ l. flat (listRows DISKS) (placed 16 l)) file);
   cpus = λ file. fills _ (table-core (λ l. flat (listRows CPUS) (placed 16 l)) file);
   mmus = λ file. fills _ (table-core (λ l. flat (listRows MMUS) (placed 16 l)) file);
+  meta = tells-meta;
   canonical = λ file. fills _ (canonical-core file);
   wrapper-check = λ wrapper. answers (wrapped.wrapperOf wrapper) (wrapper-faulty wrapper);
   controllers = λ wrapper. fills _ (read-core (wrapped.wrapperOf wrapper) (rowsAt Controllers 16 (drop 16 wrapper)) (wrapper-faulty wrapper));

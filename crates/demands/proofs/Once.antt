@@ -36,8 +36,12 @@ pub use Rattle.rings.proofs.Once.{reserve-once, fill-once, commit-once, take-on
 pub use Rattle.access.proofs.Once.{parts-once}
 -- fields: right_length; judge; field; set; cpu_field; mmu_field; cpu_set; mmu_set
 pub use Rattle.fields.proofs.Once.{right-length-once, judge-once, field-once, set-once, cpu-field-once, mmu-field-once, cpu-set-once, mmu-set-once}
--- sheet: make_sse; xmm_of; cpu; mmu; cpu_over; mmu_over
-pub use Rattle.sheet.proofs.Once.{make-sse-once, xmm-of-once, cpu-once, mmu-once, cpu-over-once, mmu-over-once}
+-- registers: words; put_words; segment_at; put_segment
+pub use Rattle.registers.proofs.Once.{words-once, put-words-once, segment-at-once, put-segment-once}
+-- sheet: make_sse; xmm_of; cpu; cpu_over
+pub use Rattle.sheet.proofs.Once.{make-sse-once, xmm-of-once, cpu-once, cpu-over-once}
+-- mmu_sheet: mmu; mmu_over
+pub use Rattle.mmu_sheet.proofs.Once.{mmu-once, mmu-over-once}
 -- payloads: index
 pub use Rattle.payloads.proofs.Once.{index-once as payloads-index-once}
 -- sections: small; scan; is_list; check_and_find; count_entries

@@ -10,12 +10,14 @@ use lib.ListN.{length}
 use borrow.Author.Tests.{le-leb}
 use Rattle.answer.specs.declared.Answer.{Answer}
 use Rattle.answer.specs.Numbers.{SHAPE, VALUE, isAmong, isNumber}
-use Rattle.answer.specs.Outcome.{Outcome, taken, refused, Faulty, Pass, room, fitting}
+use Rattle.answer.specs.Outcome.{Outcome, taken, refused, Faulty, Pass}
 use Rattle.answer.specs.Calls.{verdict, answer}
 use Rattle.answer.proofs.Checks.{pass-checked}
 use Rattle.answer.proofs.Table.{fault-number}
 use Rattle.entries.specs.Kinds.{deviceOf, functionOf}
 use Rattle.aerosnap.specs.Calls.{checkCall}
+use Rattle.snapshot.specs.declared.MetaFields.{MetaFields}
+use Rattle.snapshot.specs.MetaSection.{metaCall, asMeta}
 use Rattle.dskc.specs.Wrapper as wrapped
 use Rattle.messages.specs.declared.Reading.{Reading}
 use Rattle.messages.specs.Reading as messages
@@ -27,11 +29,8 @@ use Rattle.cards.specs.declared.Card.{Card}
 use Rattle.cards.specs.declared.Edited.{Edited}
 use Rattle.cards.specs.Cards.{openAnswer, answerBeside, editCard}
 use Rattle.cards.specs.Calls.{openCall}
-use Rattle.order.specs.Keyed.{Every}
-use Rattle.aerosnap.proofs.Refusals.{Refuses, checked-refuses}
 use Rattle.fields.specs.declared.State.{State}
-use Rattle.fields.specs.Layout.{rowAt}
-use Rattle.fields.specs.Fields.{listed, valueChecks, bytesAt, fieldChecks, fieldCall, setCall, stored, Changes}
+use Rattle.fields.specs.Fields.{setCall, stored, Changes}
 use Rattle.demands.proofs.Rings.{rings}
 use Rattle.demands.proofs.Ready.{ready}
 use Rattle.demands.proofs.Sheet.{sheet}
@@ -77,25 +76,15 @@ beside-not : (k : Card) (o : Outcome (List ℕ × Card)) → InTable o → (r : 
 beside-not k (taken t) h r e z = zero-not (r .number) (ap (λ (x : Edited). x .number) e) z
 beside-not k (refused n p) h r e z = number-not n h (sym (ap (λ (x : Edited). x .number) e) ∙ z)
 
+-- META has the number of the file's check
+meta-not : (file : List ℕ) (r : MetaFields) → r ≡ asMeta (metaCall file) → r .number ≢ withdrawn
+meta-not file r e = go (checkCall file) refl (demand1 .check file .faults)
+  where
+    go : (o : Outcome (List (List ℕ))) → checkCall file ≡ o → Faulty o → r .number ≢ withdrawn
+    go (taken l) q h = zero-not (r .number) (demand1 .meta file .zero r e .1 (l, q))
+    go (refused n p) q h = λ k. number-not n (fault-number n h) (sym (ap (λ (m : MetaFields). m .number) (demand1 .meta file .refuses r n p e q)) ∙ k)
+
 -- ---- fields of states
-
-values-number : (l : List (ℕ × ℕ × ℕ × ℕ)) (s : List ℕ) → Every (λ c. isNumber (c .1) ≡ true) (valueChecks l s)
-values-number [] s = tt
-values-number (x ∷ l) s = (refl, values-number l s)
-
-field-number : (k : State) (have : ℕ) (s : List ℕ) (n i : ℕ) → Refuses (λ m. isNumber m ≡ true) (fieldCall k have s n i)
-unfolding fieldCall fieldChecks
-field-number k have s n i =
-    let b : List ℕ = bytesAt (rowAt k n) i s in
-    checked-refuses (λ m. isNumber m ≡ true) (fieldChecks k (rowAt k n) i s) (fitting have b) (refl, (refl, values-number (listed k (length s)) s))
-    (checked-refuses (λ m. isNumber m ≡ true) (room have (length b)) (taken b) (refl, tt) tt)
-
-refuses-table : (o : Outcome (List ℕ)) → Refuses (λ m. isNumber m ≡ true) o → InTable o
-refuses-table (taken b) h = tt
-refuses-table (refused n p) h = h
-
-field-not : (k : State) (s : List ℕ) (n i : ℕ) → WritesNever (λ have. fieldCall k have s n i)
-field-not k s n i old new r w = answer-not (fieldCall k (length old) s n i) (refuses-table (fieldCall k (length old) s n i) (field-number k (length old) s n i)) r (w .answers)
 
 -- a set has only SHAPE and VALUE
 set-not : (k : State) (s : List ℕ) (n i : ℕ) (v new : List ℕ) (r : Answer) → Changes (length v) (setCall k s n i v) s r new → r .number ≢ withdrawn
@@ -122,6 +111,7 @@ refusals = record {
   disks = λ file. fills-not (demand1 .disks file);
   cpus = λ file. fills-not (demand1 .cpus file);
   mmus = λ file. fills-not (demand1 .mmus file);
+  meta = meta-not;
   canonical = λ file. fills-not (demand1 .canonical file);
   opens = λ file. open-not (openCall file) (demand1-beside .opens file .faults);
   edit = λ card file e old new r w. beside-not card (editCard (length old) card file e) (demand1-beside .edit file e .table (length old) card) r (w .answers);
@@ -138,6 +128,6 @@ refusals = record {
   fill = λ b q start end m new r w k. let z = rw k at (rings .calls .fill q start end m .stays b new r w (λ i. omega arith) .0) in let y : _≡_ {A = ℕ} 0 1 = cc in omega arith;
   commit = λ b q start end new r w k. let z = rw k at (rings .calls .commit q start end .stays b new r w (λ i. omega arith) .0) in let y : _≡_ {A = ℕ} 0 1 = cc in omega arith;
   take = λ b q new r w k. let z = rw k at (rings .calls .take q .stays b new r w (λ i. omega arith) .0) in let y : _≡_ {A = ℕ} 0 1 = cc in omega arith;
-  field = field-not;
+  field = λ k s n i. fills-not (sheet .reading k .fills s n i);
   set = set-not;
 }

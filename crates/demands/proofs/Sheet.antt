@@ -1,7 +1,7 @@
 -- Request 6: fields read and set, sheets read and written back, the access word.
 -- Assumes nothing.
 use mathlib.Core.Path.{_≡_, refl, sym, ap, _∙_, subst}
-use mathlib.Core.Logic.{_↔_, _⊎_, inl, inr}
+use mathlib.Core.Logic.{_≢_, _↔_, _⊎_, inl, inr}
 use mathlib.Core.Bool.{Bool, true, false, _&&_, _||_, cond}
 use mathlib.Core.List.{List, [], _∷_, _++_, append-nil}
 use Prim.Native.Nat.{ℕ, _+_, _-_, _*_, _≤_, _<_}
@@ -14,7 +14,7 @@ use Rattle.answer.specs.declared.Answer.{Answer}
 use Rattle.answer.specs.Numbers.{SHAPE, VALUE, isAmong}
 use Rattle.answer.specs.Outcome.{Outcome, taken, refused, Checks, checked, Pass, First, room, fitting}
 use Rattle.answer.specs.Calls.{asked}
-use Rattle.answer.proofs.Checks.{pass-checked, checked-pass, checked-append, asked-pass, and-true}
+use Rattle.answer.proofs.Checks.{pass-checked, checked-pass, checked-append, checked-after, asked-pass, and-true}
 use Rattle.answer.proofs.Outcomes.{taken-is, taken-refused}
 use Rattle.answer.proofs.Firsts.{checked-first}
 use Rattle.wire.specs.Numbers.{Bytes, leAt, bytesOf}
@@ -30,21 +30,28 @@ use Rattle.fields.specs.declared.State.{State}
 use Rattle.fields.specs.declared.State.the-variants.{Cpu, Mmu}
 use Rattle.fields.specs.declared.Row.{Row}
 use Rattle.fields.specs.Layout.{rowAt}
-use Rattle.fields.specs.Fields.{rightLength, listed, valueChecks, stateChecks, placeOf, hasIn, bytesAt, fieldChecks, fieldCall, setTo, setChecks, setCall, changed, Changes}
+use Rattle.fields.specs.Fields.{rightLength, listed, valueChecks, stateChecks, placeOf, hasIn, bytesAt, fieldChecks, fieldCall, setTo, setChecks, setCall, stored, changed, Changes}
 use Rattle.fields.proofs.Bytes.{before, behind, read-back}
 use Rattle.fields.proofs.Splices.{splice-back}
 use Rattle.fields.proofs.Outcomes.{set-tried, set-right}
 use Rattle.sheet.specs.declared.CpuSheet.{CpuSheet}
-use Rattle.sheet.specs.declared.MmuSheet.{MmuSheet}
+use Rattle.mmu_sheet.specs.declared.MmuSheet.{MmuSheet}
 use Rattle.sheet.specs.declared.CpuShown.{CpuShown}
-use Rattle.sheet.specs.declared.MmuShown.{MmuShown}
-use Rattle.sheet.specs.Sheet.{cpuOf, fieldsOver, cpuOver, mmuOf, mmuOver}
-use Rattle.sheet.specs.Members.{cpuMember, mmuMember}
-use Rattle.sheet.specs.Calls.{matches, cpuCount, cpuShown, mmuShown, cpuCall, mmuCall, cpuOverChecks, cpuOverCall, mmuOverCall}
-use Rattle.sheet.proofs.Back.{cpu-over-plain, cpu-over-extended, mmu-over}
-use Rattle.sheet.proofs.Ties.{cpu-ties, mmu-ties}
+use Rattle.mmu_sheet.specs.declared.MmuShown.{MmuShown}
+use Rattle.sheet.specs.Sheet.{cpuOf, fieldsOver, cpuOver}
+use Rattle.sheet.specs.Members.{cpuMember}
+use Rattle.sheet.specs.Calls.{matches, cpuCount, cpuShown, cpuCall, cpuOverChecks, cpuOverCall}
+use Rattle.mmu_sheet.specs.Sheet.{mmuOf, mmuOver}
+use Rattle.mmu_sheet.specs.Members.{mmuMember}
+use Rattle.mmu_sheet.specs.Calls.{mmuShown, mmuCall, mmuOverCall}
+use Rattle.sheet.proofs.Back.{cpu-over-plain, cpu-over-extended}
+use Rattle.mmu_sheet.proofs.Back.{mmu-over}
+use Rattle.sheet.proofs.Ties.{cpu-ties}
+use Rattle.mmu_sheet.proofs.Ties.{mmu-ties}
 use Rattle.demands.specs.Sheet as stated
 use Rattle.demands.specs.Sheet.{Accepted, Has}
+use Rattle.aerosnap.proofs.Refusals.{checked-refuses}
+use Rattle.demands.proofs.Demand1.{Plain, plain, Rows, Core, fills}
 
 -- ---- states that are accepted
 
@@ -367,11 +374,42 @@ mmu-over-back s t new x r b a c e k =
     let o : mmuOverCall (x .sheet) t ≡ taken s = ap (λ (y : MmuSheet). mmuOverCall y t) shown ∙ mmu-over-is s t b a c in
     (ap (λ (y : Answer). y .number) (k .answers) ∙ rw o, k .leaves ∙ ap (λ (y : Outcome (List ℕ)). changed y t) o)
 
+-- ---- Demand 1 of them
+
+value-rows : (l : List (ℕ × ℕ × ℕ × ℕ)) (s : List ℕ) → Rows (valueChecks l s)
+value-rows [] s = tt
+value-rows (x ∷ l) s = (plain 15 refl, value-rows l s)
+
+field-core : (k : State) (s : List ℕ) (n i : ℕ) → Core (λ have. fieldCall k have s n i)
+unfolding fieldCall fieldChecks
+field-core k s n i =
+    let b : List ℕ = bytesAt (rowAt k n) i s in
+    let rows : Checks = fieldChecks k (rowAt k n) i s in
+    record {
+      core = checked rows (taken b);
+      apart = checked-refuses Plain rows (taken b) (plain 11 refl, (plain 11 refl, value-rows (listed k (length s)) s)) tt;
+      same = λ have. sym (checked-after rows (taken b) (fitting have));
+    }
+
+place-stays : (count : ℕ) (o : Outcome (List ℕ)) (s new : List ℕ) (r : Answer) → Changes count o s r new → r .number ≢ 0 → new ≡ s
+place-stays count (taken t) s new r c h = absurd (h (ap (λ (y : Answer). y .number) (c .answers)))
+place-stays count (refused m p) s new r c h = c .leaves
+
+place-refuses : (count : ℕ) (o : Outcome (List ℕ)) (s new : List ℕ) (r : Answer) (m p : ℕ) → Changes count o s r new → o ≡ refused m p → (r .number ≡ m) × (r .place ≡ p) × (new ≡ s)
+place-refuses count o s new r m p c e =
+    let q : r ≡ record { number = m; place = p } = c .answers ∙ ap (stored count) e in
+    (ap (λ (y : Answer). y .number) q, ap (λ (y : Answer). y .place) q, c .leaves ∙ ap (λ (y : Outcome (List ℕ)). changed y s) e)
+
+place-takes : (count : ℕ) (o : Outcome (List ℕ)) (s new t : List ℕ) (r : Answer) → Changes count o s r new → o ≡ taken t → (r .number ≡ 0) × (r .place ≡ count) × (new ≡ t)
+place-takes count o s new t r c e =
+    let q : r ≡ record { number = 0; place = count } = c .answers ∙ ap (stored count) e in
+    (ap (λ (y : Answer). y .number) q, ap (λ (y : Answer). y .place) q, c .leaves ∙ ap (λ (y : Outcome (List ℕ)). changed y s) e)
+
 -- ---- all of it
 
 pub sheet : stated.Sheet
 sheet = record {
-  reading = λ k. record { takes = λ have n i s x. (read-to k n i s have x, read-from k n i s have x); refuses = λ have n i s m p. read-refuses k n i s have m p };
+  reading = λ k. record { fills = λ s n i. fills _ (field-core k s n i); takes = λ have n i s x. (read-to k n i s have x, read-from k n i s have x); refuses = λ have n i s m p. read-refuses k n i s have m p };
   setting = λ k. record {
     takes = λ n i v s t. (set-to k n i v s t, set-from k n i v s t);
     refuses = λ n i v s m p. set-refuses k n i v s m p;
@@ -380,6 +418,7 @@ sheet = record {
     back = λ n i have v s t e. set-back k n i v s have t e;
     same = λ n i have v s e. set-same k n i have v s e;
   };
+  in-place = record { stays = place-stays; refuses = place-refuses; takes = place-takes };
   cpu = record {
     takes = λ s c. (cpu-to s c, cpu-from s c);
     refuses = cpu-refuses;

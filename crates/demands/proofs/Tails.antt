@@ -70,7 +70,7 @@ meta-more x t h = ap done (complete metaForm x t h)
 
 -- ---- kept
 
-meta-stays : (e : List ℕ) → idOf e ≡ META → tidy e ≡ e ∷ []
+pub meta-stays : (e : List ℕ) → idOf e ≡ META → tidy e ≡ e ∷ []
 meta-stays e h = ap (λ (i : ℕ). tidied (bodyOf i (versionOf e)) e) h
 
 tail-written : (id v : ℕ) (l : List (List ℕ)) (b : ℕ) (t : List ℕ) → listed id v l (b ∷ t) ≡ framed id v 0 (listBytes l ++ (b ∷ t)) ∷ []

@@ -13,6 +13,8 @@ use Rattle.answer.specs.Numbers.{ROOM, isNumber}
 use Rattle.answer.specs.Outcome.{Outcome, taken, refused, Faulty}
 use Rattle.answer.specs.Calls.{verdict, Writes}
 use Rattle.aerosnap.specs.Calls.{checkCall, sectionsCall, devicesCall, disksCall, cpusCall, mmusCall, canonicalCall}
+use Rattle.snapshot.specs.declared.MetaFields.{MetaFields}
+use Rattle.snapshot.specs.MetaSection.{silent, metaCall, asMeta}
 use Rattle.dskc.specs.Wrapper as wrapped
 use Rattle.kinds.specs.declared.Message.{Message}
 use Rattle.kinds.specs.declared.Message.the-variants.{Nothing}
@@ -81,6 +83,14 @@ pub record TellsMessage (o : Outcome messages.Content) : Type 0 where
       → (r .number ≡ n) × (r .place ≡ p) × (numbersIn r ≡ record { tag = 0; a = 0; b = 0; c = 0; d = 0 }) × (r .data_place ≡ 0) × (r .data_length ≡ 0)
   pub once : (r s : Told) → r ≡ told (messages.reading o) → s ≡ told (messages.reading o) → r ≡ s
 
+-- reading META: number and place are those of the file's check, and a refusal answers nothing else (what it says: Meta.antt)
+pub record TellsMeta (file : List ℕ) : Type 0 where
+  pub faults : Faulty (metaCall file)
+  pub zero : (r : MetaFields) → r ≡ asMeta (metaCall file) → (r .number ≡ 0) ↔ Taken (checkCall file)
+  pub takes : (r : MetaFields) → r ≡ asMeta (metaCall file) → Taken (checkCall file) → r .place ≡ 0
+  pub refuses : (r : MetaFields) (n p : ℕ) → r ≡ asMeta (metaCall file) → checkCall file ≡ refused n p → r ≡ silent n p
+  pub once : (r s : MetaFields) → r ≡ asMeta (metaCall file) → s ≡ asMeta (metaCall file) → r ≡ s
+
 -- Each public call of `snapshot`, `dskc`, `aipc` and `numbers`; those of the C boundary (`cimbrolau`) promise the same, word for word, and stand beside them. Rings: Rings.antt. Edits and `open`: Beside.antt.
 pub record Demand1 : Type 0 where
   -- snapshot::check, cimbrolau_check
@@ -95,6 +105,8 @@ pub record Demand1 : Type 0 where
   pub cpus : (file : List ℕ) → Fills (λ have. cpusCall have file)
   -- snapshot::mmus, cimbrolau_mmus
   pub mmus : (file : List ℕ) → Fills (λ have. mmusCall have file)
+  -- snapshot::meta, cimbrolau_meta
+  pub meta : (file : List ℕ) → TellsMeta file
   -- snapshot::canonical, cimbrolau_canonical
   pub canonical : (file : List ℕ) → Fills (λ have. canonicalCall have file)
   -- dskc::check, cimbrolau_wrapper_check

@@ -18,6 +18,8 @@ use Rattle.cards.specs.Cards.{openAnswer, WritesBeside}
 use Rattle.cards.specs.Calls.{openCall, editCall}
 use Rattle.entries.specs.Kinds.{deviceOf, functionOf}
 use Rattle.aerosnap.specs.Calls.{checkCall, sectionsCall, devicesCall, disksCall, cpusCall, mmusCall, canonicalCall}
+use Rattle.snapshot.specs.declared.MetaFields.{MetaFields}
+use Rattle.snapshot.specs.MetaSection.{metaCall, asMeta}
 use Rattle.dskc.specs.Wrapper as wrapped
 use Rattle.kinds.specs.declared.Message.{Message}
 use Rattle.messages.specs.declared.Reading.{Reading}
@@ -63,6 +65,7 @@ pub record Refusals : Type 0 where
   pub disks : (file : List ℕ) → WritesNever (λ have. disksCall have file)
   pub cpus : (file : List ℕ) → WritesNever (λ have. cpusCall have file)
   pub mmus : (file : List ℕ) → WritesNever (λ have. mmusCall have file)
+  pub meta : (file : List ℕ) (r : MetaFields) → r ≡ asMeta (metaCall file) → r .number ≢ withdrawn
   pub canonical : (file : List ℕ) → WritesNever (λ have. canonicalCall have file)
   pub opens : (file : List ℕ) (r : Edited) → r ≡ openAnswer (openCall file) → r .number ≢ withdrawn
   -- every edit

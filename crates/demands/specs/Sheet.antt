@@ -1,9 +1,9 @@
 -- Request 6 of document 02, the register sheet: fields read and set, sheets read and written back, and the access word.
 -- They are statements only; proofs/ has their proofs. The layout stands in crates/fields/specs (Layout), the calls in crates/fields/specs (Fields) and
--- crates/sheet/specs (Calls), which member of a sheet is which field beside them (Members). By its promise a call answers its outcome and leaves what `changed` says.
+-- crates/sheet/specs and crates/mmu_sheet/specs (Calls), which member of a sheet is which field beside them (Members). By its promise a call answers its outcome and leaves what `changed` says.
 -- Assumes nothing.
 use mathlib.Core.Path.{_≡_}
-use mathlib.Core.Logic.{_↔_, _⊎_}
+use mathlib.Core.Logic.{_≢_, _↔_, _⊎_}
 use mathlib.Core.Bool.{true}
 use mathlib.Core.List.{List, [], _∷_, _++_}
 use Prim.Native.Nat.{ℕ, _+_, _≤_, _<_}
@@ -21,12 +21,16 @@ use Rattle.fields.specs.declared.State.the-variants.{Cpu, Mmu}
 use Rattle.fields.specs.Layout.{rowAt}
 use Rattle.fields.specs.Fields.{stateChecks, placeOf, hasIn, bytesAt, fieldChecks, fieldCall, setTo, setChecks, setCall, Changes}
 use Rattle.sheet.specs.declared.CpuSheet.{CpuSheet}
-use Rattle.sheet.specs.declared.MmuSheet.{MmuSheet}
+use Rattle.mmu_sheet.specs.declared.MmuSheet.{MmuSheet}
 use Rattle.sheet.specs.declared.CpuShown.{CpuShown}
-use Rattle.sheet.specs.declared.MmuShown.{MmuShown}
-use Rattle.sheet.specs.Sheet.{cpuOf, fieldsOver, cpuOver, mmuOf, mmuOver}
-use Rattle.sheet.specs.Members.{cpuMember, mmuMember}
-use Rattle.sheet.specs.Calls.{cpuCount, cpuShown, mmuShown, cpuCall, mmuCall, cpuOverChecks, cpuOverCall, mmuOverCall}
+use Rattle.mmu_sheet.specs.declared.MmuShown.{MmuShown}
+use Rattle.sheet.specs.Sheet.{cpuOf, fieldsOver, cpuOver}
+use Rattle.sheet.specs.Members.{cpuMember}
+use Rattle.sheet.specs.Calls.{cpuCount, cpuShown, cpuCall, cpuOverChecks, cpuOverCall}
+use Rattle.mmu_sheet.specs.Sheet.{mmuOf, mmuOver}
+use Rattle.mmu_sheet.specs.Members.{mmuMember}
+use Rattle.mmu_sheet.specs.Calls.{mmuShown, mmuCall, mmuOverCall}
+use Rattle.demands.specs.Demand1.{Fills}
 
 -- a state is accepted: its length, and its values
 abbrev pub Accepted : State → List ℕ → Type 0
@@ -39,6 +43,8 @@ Has k n i s = hasIn (rowAt k n) i (length s) ≡ true
 -- ---- one field, of either kind of state
 
 pub record Reading (k : State) : Type 0 where
+  -- Demand 1: its numbers, every byte of lent memory, ROOM
+  pub fills : (s : List ℕ) (n i : ℕ) → Fills (λ have. fieldCall k have s n i)
   -- the field's bytes exactly if the state is accepted and has it, and there is room
   pub takes : (have n i : ℕ) (s x : List ℕ) → (fieldCall k have s n i ≡ taken x) ↔ (Accepted k s × Has k n i s × (length x ≤ have) × (x ≡ bytesAt (rowAt k n) i s))
   -- else the first check that fails, ROOM last
@@ -58,6 +64,13 @@ pub record Setting (k : State) : Type 0 where
   pub back : (n i have : ℕ) (v s t : List ℕ) → setCall k s n i v ≡ taken t → fieldCall k have t n i ≡ fitting have v
   -- what is read, set again, changes nothing
   pub same : (n i have : ℕ) (v s : List ℕ) → fieldCall k have s n i ≡ taken v → setCall k s n i v ≡ taken s
+
+-- a call that changes a state in place, a set or a sheet written over it: refused, it leaves the state as it was, and number and place are those of the first check
+-- that fails; taken, it names how many bytes it stored
+pub record InPlace : Type 0 where
+  pub stays : (count : ℕ) (o : Outcome (List ℕ)) (s new : List ℕ) (r : Answer) → Changes count o s r new → r .number ≢ 0 → new ≡ s
+  pub refuses : (count : ℕ) (o : Outcome (List ℕ)) (s new : List ℕ) (r : Answer) (m p : ℕ) → Changes count o s r new → o ≡ refused m p → (r .number ≡ m) × (r .place ≡ p) × (new ≡ s)
+  pub takes : (count : ℕ) (o : Outcome (List ℕ)) (s new t : List ℕ) (r : Answer) → Changes count o s r new → o ≡ taken t → (r .number ≡ 0) × (r .place ≡ count) × (new ≡ t)
 
 -- ---- whole sheets
 
@@ -97,6 +110,7 @@ pub record AccessWords : Type 0 where
 pub record Sheet : Type 0 where
   pub reading : (k : State) → Reading k
   pub setting : (k : State) → Setting k
+  pub in-place : InPlace
   pub cpu : CpuSheets
   pub mmu : MmuSheets
   pub access : AccessWords

@@ -17,14 +17,13 @@ use Rattle.wire.specs.Parts.{splice, put}
 use Rattle.wire.proofs.Parts.{put-fits}
 use Rattle.entries.specs.States.{cpuLength, extends}
 use Rattle.entries.proofs.States.{two-wide}
-use Rattle.fields.specs.declared.State.the-variants.{Cpu, Mmu}
+use Rattle.fields.specs.declared.State.the-variants.{Cpu}
 use Rattle.fields.specs.Fields.{rightLength, stateChecks, Changes}
 use Rattle.fields.proofs.Splices.{kept}
-use Rattle.fields.proofs.Outcomes.{changes-refused, changes-taken}
+use Rattle.fields.proofs.Outcomes.{changes-refused}
 use Rattle.sheet.specs.declared.CpuSheet.{CpuSheet}
-use Rattle.sheet.specs.declared.MmuSheet.{MmuSheet}
-use Rattle.sheet.specs.Sheet.{cpuOf, fieldsOver, cpuOver, mmuOf, mmuOver}
-use Rattle.sheet.specs.Calls.{matches, cpuCount, cpuShown, mmuShown, cpuCall, mmuCall, cpuOverChecks, cpuOverCall, mmuOverCall}
+use Rattle.sheet.specs.Sheet.{cpuOf, fieldsOver, cpuOver}
+use Rattle.sheet.specs.Calls.{matches, cpuCount, cpuShown, cpuCall, cpuOverChecks, cpuOverCall}
 
 -- ---- lengths
 
@@ -42,17 +41,9 @@ module _ (s : List ℕ) {number place : ℕ} where
   unfolding cpuCall
   cpu-fault e f = rw (asked-stop (stateChecks Cpu s) (taken (cpuOf s)) e, f)
 
-  pub mmu-fault : {c : MmuSheet} → refused number place ≡ asked (stateChecks Mmu s) → c ≡ mmuOf (replicate 264 0) → record { number = number; place = place; sheet = c } ≡ mmuShown (mmuCall s)
-  unfolding mmuCall
-  mmu-fault e f = rw (asked-stop (stateChecks Mmu s) (taken (mmuOf s)) e, f)
-
 pub cpu-fine : (s : List ℕ) {c : CpuSheet} → taken tt ≡ asked (stateChecks Cpu s) → c ≡ cpuOf s → record { number = 0; place = 0; sheet = c } ≡ cpuShown (cpuCall s)
 unfolding cpuCall
 cpu-fine s e f = rw (pass-checked (stateChecks Cpu s) (taken (cpuOf s)) (asked-pass (stateChecks Cpu s) e), f)
-
-pub mmu-fine : (s : List ℕ) {c : MmuSheet} → taken tt ≡ asked (stateChecks Mmu s) → c ≡ mmuOf s → record { number = 0; place = 0; sheet = c } ≡ mmuShown (mmuCall s)
-unfolding mmuCall
-mmu-fine s e f = rw (pass-checked (stateChecks Mmu s) (taken (mmuOf s)) (asked-pass (stateChecks Mmu s) e), f)
 
 -- ---- writing over a state
 
@@ -103,11 +94,3 @@ over-length c s e = changes-refused (rw e)
 pub over-apart : (c : CpuSheet) (s : List ℕ) → rightLength Cpu s ≡ true → matches (c .extension) (length s) ≡ false → Changes (cpuCount (length s)) (cpuOverCall c s) s (record { number = SHAPE; place = 0 }) s
 unfolding cpuOverCall cpuOverChecks
 over-apart c s e f = changes-refused (rw (e, f))
-
-pub mmu-over-fine : (m : MmuSheet) (s : List ℕ) {new : List ℕ} → rightLength Mmu s ≡ true → new ≡ mmuOver m s → Changes 264 (mmuOverCall m s) s (record { number = 0; place = 264 }) new
-unfolding mmuOverCall
-mmu-over-fine m s e f = changes-taken (rw e) f
-
-pub mmu-over-length : (m : MmuSheet) (s : List ℕ) → rightLength Mmu s ≡ false → Changes 264 (mmuOverCall m s) s (record { number = SHAPE; place = 0 }) s
-unfolding mmuOverCall
-mmu-over-length m s e = changes-refused (rw e)

@@ -1,6 +1,5 @@
 pub mod Deep
 pub mod Rows
-pub mod Arrays
 pub mod Back
 pub mod Ties
 pub mod Answers

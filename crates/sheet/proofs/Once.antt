@@ -10,10 +10,8 @@ use Rattle.fields.specs.Fields.{Changes}
 use Rattle.fields.proofs.Once.{changes-once}
 use Rattle.sheet.specs.declared.Sse.{Sse}
 use Rattle.sheet.specs.declared.CpuSheet.{CpuSheet}
-use Rattle.sheet.specs.declared.MmuSheet.{MmuSheet}
 use Rattle.sheet.specs.declared.CpuShown.{CpuShown}
-use Rattle.sheet.specs.declared.MmuShown.{MmuShown}
-use Rattle.sheet.specs.Calls.{cpuCount, cpuShown, mmuShown, cpuCall, mmuCall, cpuOverCall, mmuOverCall}
+use Rattle.sheet.specs.Calls.{cpuCount, cpuShown, cpuCall, cpuOverCall}
 
 pub make-sse-once : (n : ℕ) (x : List (List ℕ)) {r s : Sse} → r ≡ record { mxcsr = n; xmm = x } → s ≡ record { mxcsr = n; xmm = x } → r ≡ s
 make-sse-once n x e f = equal-once e f
@@ -24,12 +22,6 @@ xmm-of-once x e f = equal-once e f
 pub cpu-once : (b : List ℕ) {r s : CpuShown} → r ≡ cpuShown (cpuCall b) → s ≡ cpuShown (cpuCall b) → r ≡ s
 cpu-once b e f = equal-once e f
 
-pub mmu-once : (b : List ℕ) {r s : MmuShown} → r ≡ mmuShown (mmuCall b) → s ≡ mmuShown (mmuCall b) → r ≡ s
-mmu-once b e f = equal-once e f
-
 module _ (b : List ℕ) {r s : Answer} {new now : List ℕ} where
   pub cpu-over-once : (c : CpuSheet) → Changes (cpuCount (length b)) (cpuOverCall c b) b r new → Changes (cpuCount (length b)) (cpuOverCall c b) b s now → (r ≡ s) × (new ≡ now)
   cpu-over-once c x y = changes-once x y
-
-  pub mmu-over-once : (m : MmuSheet) → Changes 264 (mmuOverCall m b) b r new → Changes 264 (mmuOverCall m b) b s now → (r ≡ s) × (new ≡ now)
-  mmu-over-once m x y = changes-once x y

@@ -1,4 +1,4 @@
--- The calls on sheets: what is asked, in its order, and what is answered.
+-- The calls on CPU sheets: what is asked, in its order, and what is answered.
 -- Assumes nothing.
 use mathlib.Core.Bool.{Bool, true, false, cond}
 use mathlib.Core.List.{List, [], _∷_}
@@ -7,31 +7,22 @@ use lib.Dec.{leb, ltb}
 use lib.ListN.{length, replicate}
 use Rattle.answer.specs.Numbers.{SHAPE}
 use Rattle.answer.specs.Outcome.{Outcome, taken, refused, Checks, checked}
-use Rattle.fields.specs.declared.State.the-variants.{Cpu, Mmu}
+use Rattle.fields.specs.declared.State.the-variants.{Cpu}
 use Rattle.fields.specs.Fields.{rightLength, stateChecks}
 use Rattle.sheet.specs.declared.Extension.{Extension}
 use Rattle.sheet.specs.declared.CpuSheet.{CpuSheet}
-use Rattle.sheet.specs.declared.MmuSheet.{MmuSheet}
 use Rattle.sheet.specs.declared.CpuShown.{CpuShown}
-use Rattle.sheet.specs.declared.MmuShown.{MmuShown}
-use Rattle.sheet.specs.Sheet.{cpuOf, cpuOver, mmuOf, mmuOver}
+use Rattle.sheet.specs.Sheet.{cpuOf, cpuOver}
 
 -- ---- reading: the length, then the values
 
 unfoldable pub cpuCall : List ℕ → Outcome CpuSheet
 cpuCall s = checked (stateChecks Cpu s) (taken (cpuOf s))
 
-unfoldable pub mmuCall : List ℕ → Outcome MmuSheet
-mmuCall s = checked (stateChecks Mmu s) (taken (mmuOf s))
-
 -- number, place and sheet; beside a refusal the sheet of a state of zeros
 abbrev pub cpuShown : Outcome CpuSheet → CpuShown
 cpuShown (taken c) = record { number = 0; place = 0; sheet = c }
 cpuShown (refused n p) = record { number = n; place = p; sheet = cpuOf (replicate 1183 0) }
-
-abbrev pub mmuShown : Outcome MmuSheet → MmuShown
-mmuShown (taken m) = record { number = 0; place = 0; sheet = m }
-mmuShown (refused n p) = record { number = n; place = p; sheet = mmuOf (replicate 264 0) }
 
 -- ---- writing over a state: its length, that sheet and state have the extension or both have none, then the state as it would be
 
@@ -50,6 +41,3 @@ cpuOverChecks c s =
 
 unfoldable pub cpuOverCall : CpuSheet → List ℕ → Outcome (List ℕ)
 cpuOverCall c s = checked (cpuOverChecks c s) (taken (cpuOver c s))
-
-unfoldable pub mmuOverCall : MmuSheet → List ℕ → Outcome (List ℕ)
-mmuOverCall m s = checked ((rightLength Mmu s, SHAPE, 0) ∷ []) (taken (mmuOver m s))

@@ -5,8 +5,7 @@ use Prim.Native.Nat.{ℕ, _*_}
 use lib.ListN.{take, drop, getD}
 use Rattle.wire.specs.Numbers.{bytesOf}
 use Rattle.sheet.specs.declared.CpuSheet.{CpuSheet}
-use Rattle.sheet.specs.declared.MmuSheet.{MmuSheet}
-use Rattle.sheet.specs.Sheet.{noSegment}
+use Rattle.registers.specs.Registers.{noSegment, noMember}
 
 abbrev pub cpuMembers : CpuSheet → List (ℕ → List ℕ)
 cpuMembers c =
@@ -38,27 +37,6 @@ cpuMembers c =
     ∷ (λ i. bytesOf 1 (c .extension .vector))
     ∷ []
 
-abbrev pub mmuMembers : MmuSheet → List (ℕ → List ℕ)
-mmuMembers m =
-    (λ i. bytesOf 8 (getD (m .control) i 0))
-    ∷ (λ i. bytesOf 8 (getD (m .debug) i 0))
-    ∷ (λ i. bytesOf 8 (getD (m .msr) i 0))
-    ∷ (λ i. bytesOf 8 (m .gdtr .base))
-    ∷ (λ i. bytesOf 2 (m .gdtr .limit))
-    ∷ (λ i. bytesOf 8 (m .idtr .base))
-    ∷ (λ i. bytesOf 2 (m .idtr .limit))
-    ∷ (λ i. bytesOf 2 (getD (m .system) i noSegment .selector))
-    ∷ (λ i. bytesOf 8 (getD (m .system) i noSegment .base))
-    ∷ (λ i. bytesOf 4 (getD (m .system) i noSegment .limit))
-    ∷ (λ i. bytesOf 4 (getD (m .system) i noSegment .access))
-    ∷ []
-
 -- the bytes of field n, index i
-abbrev pub noMember : ℕ → List ℕ
-noMember i = []
-
 unfoldable pub cpuMember : CpuSheet → ℕ → ℕ → List ℕ
 cpuMember c n i = getD (cpuMembers c) n noMember i
-
-unfoldable pub mmuMember : MmuSheet → ℕ → ℕ → List ℕ
-mmuMember m n i = getD (mmuMembers m) n noMember i

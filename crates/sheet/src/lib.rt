@@ -1,10 +1,15 @@
-// CPU and MMU states of version 2 as sheets: structs of their fields by value, read from a state's bytes and written over them.
+// CPU states of version 2 as sheets: structs of their fields by value, read from a state's bytes and written over them.
 // The sixteen vector registers are an array of arrays. Which field stands where is said by `fields`; proofs/Ties.antt has the law.
 use answer::Answer;
 use answer::SHAPE;
 use answer::TAKEN;
 use answer::Test;
 use fields::State;
+use registers::Segment;
+use registers::put_segment;
+use registers::put_words;
+use registers::segment_at;
+use registers::words;
 use wire::put_u8;
 use wire::put_u16;
 use wire::put_u32;
@@ -15,29 +20,22 @@ use wire::u32_at;
 use wire::u64_at;
 ghost use mathlib.Core.Path.{_≡_};
 ghost use mathlib.Core.Bool.{Bool};
-ghost use Prim.Native.Nat.{_+_, _≤_, _<_, min};
+ghost use Prim.Native.Nat.{_+_, _≤_, min};
 ghost use lib.ListN.{length, take, drop};
 ghost use lib.Dec.{leb};
 ghost use Rattle.answer.specs.Outcome.{taken, checked};
 ghost use Rattle.wire.specs.Parts.{splice, put};
-ghost use Rattle.fields.specs.declared.State.the-variants.{Cpu, Mmu};
+ghost use Rattle.fields.specs.declared.State.the-variants.{Cpu};
 ghost use Rattle.fields.specs.Fields.{stateChecks, Changes};
 ghost use Rattle.sheet.specs.Vectors.{rows, joined};
-ghost use Rattle.sheet.specs.Sheet.{gprsOf, frontOf, segmentAt, segmentsOf, mathOf, stOf, sseOf, imageOf, extensionOf, cpuOf, gprsOver, frontOver, segmentOver, segmentsOver, mathOver, sseOver, extensionOver, cpuOver, fieldsOver, controlOf, debugOf, msrsOf, boundAt, systemOf, mmuOf, controlOver, debugOver, msrsOver, boundOver, systemOver, mmuOver};
-ghost use Rattle.sheet.specs.Calls.{matches, cpuCount, cpuShown, mmuShown, cpuCall, mmuCall, cpuOverCall, mmuOverCall};
+ghost use Rattle.sheet.specs.Sheet.{frontOf, segmentsOf, mathOf, stOf, sseOf, imageOf, extensionOf, cpuOf, frontOver, segmentsOver, mathOver, sseOver, extensionOver, cpuOver, fieldsOver};
+ghost use Rattle.sheet.specs.Calls.{matches, cpuCount, cpuShown, cpuCall, cpuOverCall};
 
 pub struct Front {
     pub rip: u64,
     pub rflags: u64,
     pub mode: u8,
     pub halted: u8,
-}
-
-pub struct Segment {
-    pub selector: u16,
-    pub base: u64,
-    pub limit: u32,
-    pub access: u32,
 }
 
 pub struct Math {
@@ -78,33 +76,11 @@ pub struct CpuSheet {
     pub extension: Extension,
 }
 
-// Base and limit of a descriptor table.
-pub struct Bound {
-    pub base: u64,
-    pub limit: u16,
-}
-
-// `system` has LDTR and TR.
-pub struct MmuSheet {
-    pub control: [u64; 5],
-    pub debug: [u64; 8],
-    pub msr: [u64; 13],
-    pub gdtr: Bound,
-    pub idtr: Bound,
-    pub system: [Segment; 2],
-}
-
 // Number and place, and the sheet; beside a refusal the sheet of a state of zeros.
 pub struct CpuShown {
     pub number: u32,
     pub place: u64,
     pub sheet: CpuSheet,
-}
-
-pub struct MmuShown {
-    pub number: u32,
-    pub place: u64,
-    pub sheet: MmuSheet,
 }
 
 // ---- the vector registers
@@ -165,18 +141,6 @@ pub fn xmm_of(s: Sse) -> [[u8; 16]; 16]
 
 // ---- reading a CPU state
 
-fn gprs(s: &[u8]) -> [u64; 16]
-    ensures { λ r. ⌜ r ≡ gprsOf (now (s .entry)) ⌝ }
-{
-    let mut a = [0u64; 16];
-    let mut i = 0;
-    while i < 16 {
-        a[i] = u64_at(s, i * 8);
-        i += 1;
-    }
-    a
-}
-
 fn front_of(s: &[u8]) -> Front
     ensures { λ r. ⌜ r ≡ frontOf (now (s .entry)) ⌝ }
 {
@@ -185,18 +149,6 @@ fn front_of(s: &[u8]) -> Front
         rflags: u64_at(s, 136),
         mode: u8_at(s, 144),
         halted: u8_at(s, 145),
-    }
-}
-
-fn segment_at(s: &[u8], at: usize) -> Segment
-    requires { ⌜ at < 1024 ⌝ }
-    ensures { λ r. ⌜ r ≡ segmentAt (now (s .entry)) at ⌝ }
-{
-    Segment {
-        selector: u16_at(s, at),
-        base: u64_at(s, at + 2),
-        limit: u32_at(s, at + 10),
-        access: u32_at(s, at + 14),
     }
 }
 
@@ -212,7 +164,7 @@ fn segments(s: &[u8]) -> [Segment; 6]
     let mut a = [none; 6];
     let mut i = 0;
     while i < 6 {
-        a[i] = segment_at(s, i * 18 + 146);
+        a[i] = segment_at(s, (i * 18 + 146) as u32);
         i += 1;
     }
     a
@@ -283,7 +235,8 @@ fn read_cpu(s: &[u8]) -> CpuSheet
     requires { ⌜ 1183 ≤ length (now s) ⌝ }
     ensures { λ r. ⌜ r ≡ cpuOf (now (s .entry)) ⌝ }
 {
-    let gpr = gprs(s);
+    let mut gpr = [0u64; 16];
+    words(s, 0, &mut gpr);
     let front = front_of(s);
     let sixes = segments(s);
     let math = math_of(s);
@@ -305,16 +258,6 @@ fn read_cpu(s: &[u8]) -> CpuSheet
 
 // ---- writing over a CPU state
 
-fn put_gprs(s: &mut [u8], a: [u64; 16])
-    ensures { λ _. ⌜ now (s .exit) ≡ gprsOver a (now (s .entry)) ⌝ }
-{
-    let mut i = 0;
-    while i < 16 {
-        put_u64(s, i * 8, a[i]);
-        i += 1;
-    }
-}
-
 fn put_front(s: &mut [u8], f: Front)
     ensures { λ _. ⌜ now (s .exit) ≡ frontOver f (now (s .entry)) ⌝ }
 {
@@ -324,22 +267,12 @@ fn put_front(s: &mut [u8], f: Front)
     put_u8(s, 145, f.halted);
 }
 
-fn put_segment(s: &mut [u8], at: usize, g: Segment)
-    requires { ⌜ at < 1024 ⌝ }
-    ensures { λ _. ⌜ now (s .exit) ≡ segmentOver at g (now (s .entry)) ⌝ }
-{
-    put_u16(s, at, g.selector);
-    put_u64(s, at + 2, g.base);
-    put_u32(s, at + 10, g.limit);
-    put_u32(s, at + 14, g.access);
-}
-
 fn put_segments(s: &mut [u8], a: [Segment; 6])
     ensures { λ _. ⌜ now (s .exit) ≡ segmentsOver a (now (s .entry)) ⌝ }
 {
     let mut i = 0;
     while i < 6 {
-        put_segment(s, i * 18 + 146, a[i]);
+        put_segment(s, (i * 18 + 146) as u32, a[i]);
         i += 1;
     }
 }
@@ -400,7 +333,7 @@ fn write_cpu(s: &mut [u8], c: CpuSheet)
     let sse = c.sse;
     let image = c.image;
     let extension = c.extension;
-    put_gprs(s, gpr);
+    put_words(s, 0, &gpr);
     put_front(s, front);
     put_segments(s, sixes);
     put_math(s, math);
@@ -408,158 +341,6 @@ fn write_cpu(s: &mut [u8], c: CpuSheet)
     put_sse(s, sse);
     put_image(s, image);
     put_extension(s, extension);
-}
-
-// ---- reading an MMU state
-
-fn control_of(s: &[u8]) -> [u64; 5]
-    ensures { λ r. ⌜ r ≡ controlOf (now (s .entry)) ⌝ }
-{
-    let mut a = [0u64; 5];
-    let mut i = 0;
-    while i < 5 {
-        a[i] = u64_at(s, i * 8);
-        i += 1;
-    }
-    a
-}
-
-fn debug_of(s: &[u8]) -> [u64; 8]
-    ensures { λ r. ⌜ r ≡ debugOf (now (s .entry)) ⌝ }
-{
-    let mut a = [0u64; 8];
-    let mut i = 0;
-    while i < 8 {
-        a[i] = u64_at(s, i * 8 + 40);
-        i += 1;
-    }
-    a
-}
-
-fn msrs_of(s: &[u8]) -> [u64; 13]
-    ensures { λ r. ⌜ r ≡ msrsOf (now (s .entry)) ⌝ }
-{
-    let mut a = [0u64; 13];
-    let mut i = 0;
-    while i < 13 {
-        a[i] = u64_at(s, i * 8 + 104);
-        i += 1;
-    }
-    a
-}
-
-fn bound_at(s: &[u8], at: usize) -> Bound
-    requires { ⌜ at < 1024 ⌝ }
-    ensures { λ r. ⌜ r ≡ boundAt (now (s .entry)) at ⌝ }
-{
-    Bound {
-        base: u64_at(s, at),
-        limit: u16_at(s, at + 8),
-    }
-}
-
-fn system_of(s: &[u8]) -> [Segment; 2]
-    ensures { λ r. ⌜ r ≡ systemOf (now (s .entry)) ⌝ }
-{
-    let none = Segment {
-        selector: 0,
-        base: 0,
-        limit: 0,
-        access: 0,
-    };
-    let mut a = [none; 2];
-    let mut i = 0;
-    while i < 2 {
-        a[i] = segment_at(s, i * 18 + 228);
-        i += 1;
-    }
-    a
-}
-
-fn read_mmu(s: &[u8]) -> MmuSheet
-    ensures { λ r. ⌜ r ≡ mmuOf (now (s .entry)) ⌝ }
-{
-    let control = control_of(s);
-    let debug = debug_of(s);
-    let msr = msrs_of(s);
-    let gdtr = bound_at(s, 208);
-    let idtr = bound_at(s, 218);
-    let system = system_of(s);
-    MmuSheet {
-        control,
-        debug,
-        msr,
-        gdtr,
-        idtr,
-        system,
-    }
-}
-
-// ---- writing over an MMU state
-
-fn put_control(s: &mut [u8], a: [u64; 5])
-    ensures { λ _. ⌜ now (s .exit) ≡ controlOver a (now (s .entry)) ⌝ }
-{
-    let mut i = 0;
-    while i < 5 {
-        put_u64(s, i * 8, a[i]);
-        i += 1;
-    }
-}
-
-fn put_debug(s: &mut [u8], a: [u64; 8])
-    ensures { λ _. ⌜ now (s .exit) ≡ debugOver a (now (s .entry)) ⌝ }
-{
-    let mut i = 0;
-    while i < 8 {
-        put_u64(s, i * 8 + 40, a[i]);
-        i += 1;
-    }
-}
-
-fn put_msrs(s: &mut [u8], a: [u64; 13])
-    ensures { λ _. ⌜ now (s .exit) ≡ msrsOver a (now (s .entry)) ⌝ }
-{
-    let mut i = 0;
-    while i < 13 {
-        put_u64(s, i * 8 + 104, a[i]);
-        i += 1;
-    }
-}
-
-fn put_bound(s: &mut [u8], at: usize, b: Bound)
-    requires { ⌜ at < 1024 ⌝ }
-    ensures { λ _. ⌜ now (s .exit) ≡ boundOver at b (now (s .entry)) ⌝ }
-{
-    put_u64(s, at, b.base);
-    put_u16(s, at + 8, b.limit);
-}
-
-fn put_system(s: &mut [u8], a: [Segment; 2])
-    ensures { λ _. ⌜ now (s .exit) ≡ systemOver a (now (s .entry)) ⌝ }
-{
-    let mut i = 0;
-    while i < 2 {
-        put_segment(s, i * 18 + 228, a[i]);
-        i += 1;
-    }
-}
-
-fn write_mmu(s: &mut [u8], m: MmuSheet)
-    ensures { λ _. ⌜ now (s .exit) ≡ mmuOver m (now (s .entry)) ⌝ }
-{
-    let control = m.control;
-    let debug = m.debug;
-    let msr = m.msr;
-    let gdtr = m.gdtr;
-    let idtr = m.idtr;
-    let system = m.system;
-    put_control(s, control);
-    put_debug(s, debug);
-    put_msrs(s, msr);
-    put_bound(s, 208, gdtr);
-    put_bound(s, 218, idtr);
-    put_system(s, system);
 }
 
 // ---- the calls
@@ -581,31 +362,6 @@ pub fn cpu(state: &[u8]) -> CpuShown
         Test::Fine => {
             let sheet = read_cpu(state);
             CpuShown {
-                number: TAKEN,
-                place: 0,
-                sheet,
-            }
-        }
-    }
-}
-
-// The sheet of an MMU state.
-pub fn mmu(state: &[u8]) -> MmuShown
-    ensures { λ r. ⌜ r ≡ mmuShown (mmuCall (now (state .entry))) ⌝ }
-{
-    match fields::judge(State::Mmu, state) {
-        Test::Fault(number, place) => {
-            let zeros = [0u8; 264];
-            let sheet = read_mmu(&zeros);
-            MmuShown {
-                number,
-                place: place as u64,
-                sheet,
-            }
-        }
-        Test::Fine => {
-            let sheet = read_mmu(state);
-            MmuShown {
                 number: TAKEN,
                 place: 0,
                 sheet,
@@ -680,23 +436,6 @@ pub fn cpu_over(sheet: CpuSheet, state: &mut [u8]) -> Answer
         return Answer {
             number: SHAPE,
             place: 0,
-        };
-    }
-    Answer {
-        number: SHAPE,
-        place: 0,
-    }
-}
-
-// A sheet over an MMU state.
-pub fn mmu_over(sheet: MmuSheet, state: &mut [u8]) -> Answer
-    ensures { λ r. ⌜ Changes 264 (mmuOverCall sheet (now (state .entry))) (now (state .entry)) r (now (state .exit)) ⌝ }
-{
-    if fields::right_length(State::Mmu, state) {
-        write_mmu(state, sheet);
-        return Answer {
-            number: TAKEN,
-            place: 264,
         };
     }
     Answer {

@@ -20,7 +20,7 @@ use Rattle.sections.proofs.Found.{spot-stop, spot-taken, Sited, Here, none-ther
 use Rattle.snapshot.specs.declared.MetaFields.{MetaFields}
 use Rattle.snapshot.specs.MetaSection.{silent, absent, timeIn, labelIn, metaAt, metaIn, metaCall, asMeta}
 
-none-said : (at : ℕ) (l : List (List ℕ)) → keep (isId META) l ≡ [] → metaIn at l ≡ silent 0 0
+pub none-said : (at : ℕ) (l : List (List ℕ)) → keep (isId META) l ≡ [] → metaIn at l ≡ silent 0 0
 unfolding metaIn
 none-said at [] h = refl
 none-said at (e ∷ l) h = go (isId META e) h (none-said (at + length e) l)
@@ -30,7 +30,7 @@ none-said at (e ∷ l) h = go (isId META e) h (none-said (at + length e) l)
     go true h r = let z : _≡_ {A = ℕ} 0 1 = cc in absurd (omega arith)
     go false h r = r h
 
-one-said : (at : ℕ) (l : List (List ℕ)) {e : List ℕ} → keep (isId META) l ≡ e ∷ [] → metaIn at l ≡ metaAt (placeOf META at l + 16) (drop 16 e)
+pub one-said : (at : ℕ) (l : List (List ℕ)) {e : List ℕ} → keep (isId META) l ≡ e ∷ [] → metaIn at l ≡ metaAt (placeOf META at l + 16) (drop 16 e)
 unfolding metaIn placeOf
 one-said at [] h = let z : _≡_ {A = ℕ} 0 1 = cc in absurd (omega arith)
 one-said at (x ∷ l) {e} h = go (isId META x) h (one-said (at + length x) l)

@@ -150,7 +150,7 @@ fn disk_rows(case: Case, tell: Tell) {
     ));
 }
 
-/// The tables of CPUs and MMUs, and fields of one state.
+/// The tables of CPUs and MMUs, META, and fields of one state of each kind.
 fn states(tell: Tell) {
     for order in Order::ALL {
         let file = inputs::cpus(256, order);
@@ -159,8 +159,25 @@ fn states(tell: Tell) {
         tell(reading_row("cpus", &case, raw::cpus, reference::cpus));
         tell(reading_row("mmus", &case, raw::mmus, reference::mmus));
     }
+    let file = inputs::ram(1024);
+    let case = Case { file: &file, input: "1 KiB, RAM".to_string(), reading: 1.25, writing: 1.2 };
+    tell(reading_row(
+        "meta",
+        &case,
+        |file, out| {
+            let meta = raw::meta(file);
+            out[..8].copy_from_slice(&meta.id.to_le_bytes());
+            raw::Answer { number: meta.number, place: meta.place }
+        },
+        |file, out| {
+            let (answer, meta) = reference::meta(file);
+            out[..8].copy_from_slice(&meta.map_or(0, |meta| meta.id).to_le_bytes());
+            answer
+        },
+    ));
+    // A state is copied before it is set, by both.
     let state = inputs::cpu_state();
-    let input = "a state of 1191 bytes".to_string();
+    let input = format!("a state of {} bytes", state.len());
     let case = Case { file: &state, input, reading: 1.0, writing: 1.2 };
     tell(reading_row(
         "cpu_field",
@@ -168,19 +185,45 @@ fn states(tell: Tell) {
         |state, out| raw::cpu_field(state, 20, 15, out),
         |state, out| reference::cpu_field(state, 20, 15, out),
     ));
-    // The state is copied before it is set, by both.
     tell(reading_row(
         "cpu_set",
         &case,
-        |state, out| {
-            out[..1191].copy_from_slice(state);
-            raw::cpu_set(&mut out[..1191], 1, 0, &[0x11; 8])
-        },
-        |state, out| {
-            out[..1191].copy_from_slice(state);
-            reference::cpu_set(&mut out[..1191], 1, 0, &[0x11; 8])
-        },
+        |state, out| raw::cpu_set(copied(state, out), 1, 0, &[0x11; 8]),
+        |state, out| reference::cpu_set(copied(state, out), 1, 0, &[0x11; 8]),
     ));
+    let state = vec![0x44; 264];
+    let input = format!("a state of {} bytes", state.len());
+    let case = Case { file: &state, input, reading: 1.0, writing: 1.2 };
+    tell(reading_row(
+        "mmu_field",
+        &case,
+        |state, out| raw::mmu_field(state, 2, 12, out),
+        |state, out| reference::mmu_field(state, 2, 12, out),
+    ));
+    tell(reading_row(
+        "mmu_set",
+        &case,
+        |state, out| raw::mmu_set(copied(state, out), 0, 2, &[0x11; 8]),
+        |state, out| reference::mmu_set(copied(state, out), 0, 2, &[0x11; 8]),
+    ));
+    access_row(tell);
+}
+
+/// A copy of a state in the buffer.
+fn copied<'a>(state: &[u8], out: &'a mut [u8]) -> &'a mut [u8] {
+    let copy = &mut out[..state.len()];
+    copy.copy_from_slice(state);
+    copy
+}
+
+/// The parts of an access word.
+fn access_row(tell: Tell) {
+    let contestants = [
+        contestant(|_| raw::access(black_box(0x0001_A09B))),
+        contestant(|_| reference::access(black_box(0x0001_A09B))),
+    ];
+    let outcome = contest(&contestants, &mut []);
+    tell(row("access", "a word", "reference", 1.25, &outcome));
 }
 
 fn reading_row(

@@ -19,9 +19,8 @@ pub const COMMAND: Command = Command {
     help: "\
 Prints `same content` and ends with status 0 if the two snapshots have one canonical form: then they hold
 the same devices, disks and all else, in whatever order they were saved. Else it prints `other content`, a
-line for each section, device and disk that only one of them has or that differs, with the first byte of
-its payload that does, and ends with status 1. CPUS and MMUS are compared as the canonical form has them,
-in the order of their ids.
+line for each section, device, disk, CPU and MMU that only one of them has or that differs, with the first
+byte of its payload or state that does, and ends with status 1.
 ",
     options: &[JSON],
     run,
@@ -66,15 +65,15 @@ fn canonical(name: &OsStr) -> Result<Vec<u8>, Failure> {
 /// A part of a snapshot by what it is called: parts of two files that are called the same are compared.
 struct Part<'a> {
     name: String,
-    /// What stands in it, each with a word for it: a payload, or the texts of a disk.
+    /// What stands in it, each with a word for it: a payload, the texts of a disk, a state.
     holds: Vec<(&'static str, &'a [u8])>,
 }
 
 /// Whether calls read a section's entries, so that they are compared one by one.
 const IS_READ: fn(&Section) -> bool =
-    |section| matches!(names::section(section.id), Some("DEVICES" | "DISKS"));
+    |section| matches!(names::section(section.id), Some("DEVICES" | "DISKS" | "CPUS" | "MMUS"));
 
-/// The parts of a canonical form: its sections but those whose entries are read, then its devices and its disks.
+/// The parts of a canonical form: its sections but those whose entries are read, then its devices, disks, CPUs and MMUs.
 fn parts(form: &[u8]) -> Result<Vec<Part<'_>>, Failure> {
     let mut parts = sections(form, |section| !IS_READ(section))?;
     for device in snapshot::devices(form)? {
@@ -85,6 +84,15 @@ fn parts(form: &[u8]) -> Result<Vec<Part<'_>>, Failure> {
         let [base, overlay] = [disk.base(form), disk.overlay(form)].map(Option::unwrap_or_default);
         let holds = vec![("base", base.as_bytes()), ("overlay", overlay.as_bytes())];
         parts.push(Part { name: format!("disk {}", disk.id), holds });
+    }
+    for cpu in snapshot::cpus(form)? {
+        let [state, blob] = [cpu.state(form), cpu.blob(form)].map(Option::unwrap_or_default);
+        let holds = vec![("state", state), ("blob", blob)];
+        parts.push(Part { name: format!("CPU {}", cpu.apic), holds });
+    }
+    for mmu in snapshot::mmus(form)? {
+        let holds = vec![("state", mmu.state(form).unwrap_or_default())];
+        parts.push(Part { name: format!("MMU {}", mmu.apic), holds });
     }
     Ok(parts)
 }
@@ -154,9 +162,9 @@ impl Found {
                 .number("length_a", one.len() as u64)
                 .number("length_b", other.len() as u64);
             let more = match (*what, one.len() == other.len()) {
-                ("payload", true) => String::new(),
-                ("payload", false) => format!(" ({} bytes and {})", one.len(), other.len()),
-                _ => format!(": {} and {}", data(one), data(other)),
+                ("base" | "overlay", _) => format!(": {} and {}", data(one), data(other)),
+                (_, true) => String::new(),
+                (_, false) => format!(" ({} bytes and {})", one.len(), other.len()),
             };
             self.lines
                 .line(object, format_args!("{name}: other {what} from its byte {first} on{more}"));

@@ -155,6 +155,11 @@ pub fn of_input(input: &[u8]) -> impl FnOnce(Refusal) -> Failure + '_ {
     |refusal| of(refusal, input, |_| None)
 }
 
+/// The same, with what stands at the place.
+pub fn of_part(input: &[u8], what: String) -> impl FnOnce(Refusal) -> Failure + '_ {
+    move |refusal| of(refusal, input, |_| Some(what.clone()))
+}
+
 /// A refusal of a call on this snapshot. If it is the snapshot's own, with where its place lies and the bytes around it; at
 /// place 0 of an add stands nothing of the file.
 pub fn of_snapshot(file: &[u8]) -> impl FnOnce(Refusal) -> Failure + '_ {

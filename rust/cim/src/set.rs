@@ -1,11 +1,11 @@
 //! `cim set`: a snapshot with one field of a CPU or of its MMU exchanged.
 
 use crate::command::{with, Command, JSON, KEEP};
-use crate::failure::{of_input, of_snapshot, Failure};
+use crate::failure::{of_input, of_part, of_snapshot, Failure};
 use crate::files;
 use crate::registers::{self, Field};
 use crate::shown::name_of;
-use crate::states;
+use crate::states::{self, State};
 use crate::words::Words;
 use cimbrolau::{sheet, snapshot};
 use std::ffi::OsStr;
@@ -40,8 +40,21 @@ fn number(word: &str) -> Option<u128> {
     }
 }
 
-/// The field and the number of NAME=VALUE.
-fn wished(word: &OsStr) -> Result<(Field, u128), Failure> {
+/// What is wished by NAME=VALUE.
+struct Wish {
+    name: String,
+    field: Field,
+    value: u128,
+}
+
+impl Wish {
+    /// Where the field stands, for a refusal, whose place counts from the state's start.
+    fn place(&self, what: &str, state: &State) -> String {
+        format!("{} of {}, whose state starts at {}", self.name, state.words(what), state.offset)
+    }
+}
+
+fn wished(word: &OsStr) -> Result<Wish, Failure> {
     let text = word.to_str().unwrap_or("?");
     let (name, value) = text
         .split_once('=')
@@ -55,7 +68,7 @@ fn wished(word: &OsStr) -> Result<(Field, u128), Failure> {
     let value = number(value).ok_or_else(|| {
         Failure::Usage(format!("`{}` is no number of up to 128 bits", name_of(OsStr::new(value))))
     })?;
-    Ok((field, value))
+    Ok(Wish { name: name.to_ascii_lowercase(), field, value })
 }
 
 /// The bytes of a number in a field of some bytes.
@@ -72,27 +85,29 @@ fn bytes(value: u128, width: usize) -> Result<Vec<u8>, Failure> {
 
 fn run(words: &Words) -> Result<(), Failure> {
     let [name, out] = words.plain("FILE and OUT")?;
-    let (field, value) = wished(words.needed("--field")?)?;
+    let wish = wished(words.needed("--field")?)?;
     let target = files::claim(words, out)?;
     let mut file = files::read(name, snapshot::MOST_BYTES)?;
     snapshot::check(&file).map_err(of_snapshot(&file))?;
     let apic = words.option("--cpu");
-    match field {
+    match wish.field {
         Field::Cpu(field, index) => {
-            let state = states::one(states::cpus(&file)?, "CPU", apic)?;
-            let state = &mut file[state.range()];
+            let stands = states::one(states::cpus(&file)?, "CPU", apic)?;
+            let state = &mut file[stands.range()];
             let before = state.to_vec();
             let width = sheet::cpu_field(state, field, index).map_err(of_input(&before))?.len();
-            let value = bytes(value, width)?;
-            sheet::set_cpu(state, field, index, &value).map_err(of_input(&before))?;
+            let value = bytes(wish.value, width)?;
+            let refused = of_part(&before, wish.place("CPU", &stands));
+            sheet::set_cpu(state, field, index, &value).map_err(refused)?;
         }
         Field::Mmu(field, index) => {
-            let state = states::one(states::mmus(&file)?, "MMU", apic)?;
-            let state = &mut file[state.range()];
+            let stands = states::one(states::mmus(&file)?, "MMU", apic)?;
+            let state = &mut file[stands.range()];
             let before = state.to_vec();
             let width = sheet::mmu_field(state, field, index).map_err(of_input(&before))?.len();
-            let value = bytes(value, width)?;
-            sheet::set_mmu(state, field, index, &value).map_err(of_input(&before))?;
+            let value = bytes(wish.value, width)?;
+            let refused = of_part(&before, wish.place("MMU", &stands));
+            sheet::set_mmu(state, field, index, &value).map_err(refused)?;
         }
     }
     snapshot::check(&file).map_err(of_snapshot(&file))?;

@@ -297,6 +297,33 @@ fn sheets_of_the_cpu_that_is_meant() {
 }
 
 #[test]
+fn diff_tells_which_cpu_and_which_mmu_differ() {
+    let at = folder("diff-states");
+    put(&at, "states", STATES);
+    let set = |from: &str, to: &str, cpu: &str, field: &str| {
+        run(&at, &["set", from, to, "--cpu", cpu, "--field", field])
+    };
+    prints(set("states", "one", "0", "rip=5"), "3010 bytes written to one\n");
+    prints(set("one", "two", "1", "cr3=7"), "3010 bytes written to two\n");
+    let told = "other content\n\
+        CPU 0: other state from its byte 128 on\n\
+        MMU 1: other state from its byte 16 on\n";
+    let output = run(&at, &["diff", "states", "two"]);
+    assert_eq!((output.status.code(), &*String::from_utf8_lossy(&output.stdout)), (Some(1), told));
+    // The canonical form has them in another order, and the same content.
+    run(&at, &["canon", "states", "canonical"]);
+    prints(run(&at, &["diff", "states", "canonical"]), "same content\n");
+    put(&at, "none", &STATES[..16]);
+    let told = "other content\n\
+        CPU 0: only in states\n\
+        CPU 1: only in states\n\
+        MMU 0: only in states\n\
+        MMU 1: only in states\n";
+    let output = run(&at, &["diff", "states", "none"]);
+    assert_eq!((output.status.code(), &*String::from_utf8_lossy(&output.stdout)), (Some(1), told));
+}
+
+#[test]
 fn set_changes_one_field_and_no_other_byte() {
     let at = folder("set");
     put(&at, "states", STATES);
@@ -318,7 +345,7 @@ fn set_changes_one_field_and_no_other_byte() {
     let all = fs::read(at.join("new")).unwrap();
     let place = (0..all.len()).find(|at| all[*at] != STATES[*at]).unwrap();
     different(&[place]);
-    let refused = "refused 15 VALUE at 144 (0x90): byte or number outside its values\n\
+    let refused = "refused 15 VALUE at 144 (0x90): byte or number outside its values: mode of CPU 1, whose state starts at 44\n\
         bytes from 136: 02 00 00 00 00 00 00 00 [02] 01 00 00 00 00 00 00 00\n";
     fails(set("mode=4"), refused, 1);
     for (field, told) in [

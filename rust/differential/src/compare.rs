@@ -13,6 +13,7 @@ use crate::library;
 use crate::make::DeviceKey;
 use crate::random::Random;
 use crate::rings::RingCalls;
+use crate::sheets::SheetCalls;
 
 const ROOM: u32 = 16;
 pub(crate) const MARGIN: usize = 16;
@@ -29,6 +30,8 @@ pub struct Comparison {
     pub answers: Counts,
     /// The calls that the reference's are compared with on regions; the library's but where a control plants errors.
     pub rings: RingCalls,
+    /// The same on states.
+    pub sheets: SheetCalls,
     /// Whether exactly the memory needed is lent, as for outputs too long to write often.
     pub exact: bool,
     /// The library's and the reference's lent memory, with margins.
@@ -90,6 +93,7 @@ impl Comparison {
             calls: 0,
             answers: Counts::default(),
             rings: library::RINGS,
+            sheets: library::SHEETS,
             exact: false,
             ours: vec![],
             theirs: vec![],

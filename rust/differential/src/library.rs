@@ -5,6 +5,7 @@ use reference::{Access, Answer, Cursors, Meta, Pair, Readiness, Reading, Record}
 
 use crate::record::{changes, looks, number, writes, Bytes, Fields};
 use crate::rings::RingCalls;
+use crate::sheets::SheetCalls;
 
 /// The library's answer as the reference has it: each has a type of its own.
 macro_rules! answer {
@@ -237,6 +238,9 @@ fn ring_take(region: &mut [u8], queue: u32) -> Record {
 }
 
 // ---- sheets
+
+/// The calls on states.
+pub const SHEETS: SheetCalls = SheetCalls { cpu_field, mmu_field, cpu_set, mmu_set, access };
 
 pub fn cpu_field(state: &[u8], field: u32, index: u32, out: &mut [u8]) -> Answer {
     writes("cpu_field", &[Bytes(state), number(field), number(index)], out, |out| {

@@ -1,9 +1,8 @@
 //! A field of a state, read and set by the library and by the reference.
 
-use reference::Answer;
+use reference::{Access, Answer};
 
 use crate::compare::Comparison;
-use crate::library;
 
 /// The two kinds of state.
 #[derive(Clone, Copy, Debug, PartialEq, Eq)]
@@ -15,18 +14,37 @@ pub enum State {
 type Get = fn(&[u8], u32, u32, &mut [u8]) -> Answer;
 type Set = fn(&mut [u8], u32, u32, &[u8]) -> Answer;
 
-impl State {
-    fn gets(self) -> (Get, Get) {
-        match self {
-            State::Cpu => (library::cpu_field, reference::cpu_field),
-            State::Mmu => (library::mmu_field, reference::mmu_field),
+/// The calls on states.
+#[derive(Clone, Copy)]
+pub struct SheetCalls {
+    pub cpu_field: Get,
+    pub mmu_field: Get,
+    pub cpu_set: Set,
+    pub mmu_set: Set,
+    pub access: fn(u32) -> Access,
+}
+
+/// The reference's.
+pub const REFERENCE: SheetCalls = SheetCalls {
+    cpu_field: reference::cpu_field,
+    mmu_field: reference::mmu_field,
+    cpu_set: reference::cpu_set,
+    mmu_set: reference::mmu_set,
+    access: reference::access,
+};
+
+impl SheetCalls {
+    fn get(self, kind: State) -> Get {
+        match kind {
+            State::Cpu => self.cpu_field,
+            State::Mmu => self.mmu_field,
         }
     }
 
-    fn sets(self) -> (Set, Set) {
-        match self {
-            State::Cpu => (library::cpu_set, reference::cpu_set),
-            State::Mmu => (library::mmu_set, reference::mmu_set),
+    fn set(self, kind: State) -> Set {
+        match kind {
+            State::Cpu => self.cpu_set,
+            State::Mmu => self.mmu_set,
         }
     }
 }
@@ -43,7 +61,7 @@ impl Comparison {
     ) -> Answer {
         self.inputs += 1;
         self.calls += 1;
-        let (get, want) = kind.gets();
+        let (get, want) = (self.sheets.get(kind), REFERENCE.get(kind));
         let (mut ours, mut theirs) = (vec![0xA5; room + 16], vec![0xA5; room + 16]);
         let given = get(state, field, index, &mut ours[8..8 + room]);
         let wanted = want(state, field, index, &mut theirs[8..8 + room]);
@@ -66,7 +84,7 @@ impl Comparison {
     ) -> Answer {
         self.inputs += 1;
         self.calls += 1;
-        let (set, want) = kind.sets();
+        let (set, want) = (self.sheets.set(kind), REFERENCE.set(kind));
         let (mut ours, mut theirs) = (state.to_vec(), state.to_vec());
         let given = set(&mut ours, field, index, value);
         let wanted = want(&mut theirs, field, index, value);
@@ -85,7 +103,7 @@ impl Comparison {
     pub fn access(&mut self, word: u32) {
         self.inputs += 1;
         self.calls += 1;
-        let (given, wanted) = (library::access(word), reference::access(word));
+        let (given, wanted) = ((self.sheets.access)(word), (REFERENCE.access)(word));
         if given != wanted {
             self.fail("access", &[&word.to_le_bytes()], &format!("{given:?} {wanted:?}"));
         }

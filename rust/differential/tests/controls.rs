@@ -1,23 +1,45 @@
-//! Controls: errors planted in the reference's rings in the library's place, each of which the groups of the
-//! differential test that it concerns have to find.
+//! Controls: errors planted in the reference in the library's place, each of which the groups of the differential test
+//! that it concerns have to find.
 
 #[allow(dead_code)]
 #[path = "differential/rings.rs"]
 mod rings;
+#[allow(dead_code)]
+#[path = "differential/sheets.rs"]
+mod sheets;
 
 use std::panic::{catch_unwind, AssertUnwindSafe};
 
 use differential::compare::Comparison;
-use differential::planted;
-use differential::rings::{RingCalls, REFERENCE};
+use differential::planted::{rings as in_rings, sheets as in_sheets};
+use differential::rings::RingCalls;
+use differential::sheets::SheetCalls;
+use differential::{rings as on_rings, sheets as on_states};
 
 type Group = fn(&mut Comparison);
 
+/// What stands in the library's place.
+trait Planted: Copy {
+    fn put(self, run: &mut Comparison);
+}
+
+impl Planted for RingCalls {
+    fn put(self, run: &mut Comparison) {
+        run.rings = self;
+    }
+}
+
+impl Planted for SheetCalls {
+    fn put(self, run: &mut Comparison) {
+        run.sheets = self;
+    }
+}
+
 /// Each group finds the error.
-fn found_by(groups: &[Group], planted: RingCalls) {
+fn found_by(groups: &[Group], planted: impl Planted) {
     for (at, group) in groups.iter().enumerate() {
         let mut run = Comparison::new("planted", 7);
-        run.rings = planted;
+        planted.put(&mut run);
         let ended = catch_unwind(AssertUnwindSafe(|| group(&mut run)));
         let told = ended.err().and_then(|why| why.downcast::<String>().ok());
         let told = told.unwrap_or_else(|| panic!("group {at} does not find the error"));
@@ -30,36 +52,42 @@ fn nothing_is_found_in_the_reference_itself() {
     let groups: [Group; 4] = [rings::distances, rings::takes, rings::commits, rings::wild_lives];
     for group in groups {
         let mut run = Comparison::new("itself", 7);
-        run.rings = REFERENCE;
+        run.rings = on_rings::REFERENCE;
+        group(&mut run);
+    }
+    let groups: [Group; 3] = [sheets::every_length, sheets::random, sheets::access_words];
+    for group in groups {
+        let mut run = Comparison::new("itself", 7);
+        run.sheets = on_states::REFERENCE;
         group(&mut run);
     }
 }
 
 #[test]
 fn cursors_too_far_apart_by_one_step() {
-    found_by(&[rings::distances], planted::CURSORS_TOO_FAR_APART_BY_ONE_STEP);
+    found_by(&[rings::distances], in_rings::CURSORS_TOO_FAR_APART_BY_ONE_STEP);
 }
 
 #[test]
 fn distances_whose_sum_wraps() {
-    found_by(&[rings::distances], planted::DISTANCES_WHOSE_SUM_WRAPS);
+    found_by(&[rings::distances], in_rings::DISTANCES_WHOSE_SUM_WRAPS);
 }
 
 #[test]
 fn a_meeting_at_another_field() {
-    found_by(&[rings::meetings, rings::damaged], planted::A_MEETING_AT_ANOTHER_FIELD);
+    found_by(&[rings::meetings, rings::damaged], in_rings::A_MEETING_AT_ANOTHER_FIELD);
 }
 
 #[test]
 fn a_report_that_is_cut() {
-    found_by(&[rings::valid, rings::lives], planted::A_REPORT_THAT_IS_CUT);
+    found_by(&[rings::valid, rings::lives], in_rings::A_REPORT_THAT_IS_CUT);
 }
 
 #[test]
 fn a_ring_that_is_never_quite_full() {
     found_by(
         &[rings::reservations, rings::lives, rings::wild_lives],
-        planted::A_RING_THAT_IS_NEVER_QUITE_FULL,
+        in_rings::A_RING_THAT_IS_NEVER_QUITE_FULL,
     );
 }
 
@@ -67,49 +95,134 @@ fn a_ring_that_is_never_quite_full() {
 fn a_skip_that_is_not_counted() {
     found_by(
         &[rings::reservations, rings::lives, rings::wild_lives],
-        planted::A_SKIP_THAT_IS_NOT_COUNTED,
+        in_rings::A_SKIP_THAT_IS_NOT_COUNTED,
     );
 }
 
 #[test]
 fn half_that_is_refused() {
-    found_by(&[rings::reservations, rings::wild_lives], planted::HALF_THAT_IS_REFUSED);
+    found_by(&[rings::reservations, rings::wild_lives], in_rings::HALF_THAT_IS_REFUSED);
 }
 
 #[test]
 fn a_skip_without_a_marker() {
-    found_by(&[rings::fills, rings::lives], planted::A_SKIP_WITHOUT_A_MARKER);
+    found_by(&[rings::fills, rings::lives], in_rings::A_SKIP_WITHOUT_A_MARKER);
 }
 
 #[test]
 fn a_skip_that_is_cleared() {
-    found_by(&[rings::fills, rings::lives], planted::A_SKIP_THAT_IS_CLEARED);
+    found_by(&[rings::fills, rings::lives], in_rings::A_SKIP_THAT_IS_CLEARED);
 }
 
 #[test]
 fn padding_that_is_not_cleared() {
     found_by(
         &[rings::fills, rings::lives, rings::wild_lives],
-        planted::PADDING_THAT_IS_NOT_CLEARED,
+        in_rings::PADDING_THAT_IS_NOT_CLEARED,
     );
 }
 
 #[test]
 fn a_commit_before_its_turn() {
-    found_by(&[rings::commits, rings::lives], planted::A_COMMIT_BEFORE_ITS_TURN);
+    found_by(&[rings::commits, rings::lives], in_rings::A_COMMIT_BEFORE_ITS_TURN);
 }
 
 #[test]
 fn a_head_that_stays_before_the_skip() {
-    found_by(&[rings::takes, rings::lives], planted::A_HEAD_THAT_STAYS_BEFORE_THE_SKIP);
+    found_by(&[rings::takes, rings::lives], in_rings::A_HEAD_THAT_STAYS_BEFORE_THE_SKIP);
 }
 
 #[test]
 fn a_record_past_commit() {
-    found_by(&[rings::takes, rings::wild_lives], planted::A_RECORD_PAST_COMMIT);
+    found_by(&[rings::takes, rings::wild_lives], in_rings::A_RECORD_PAST_COMMIT);
 }
 
 #[test]
 fn a_place_that_counts_from_the_ring() {
-    found_by(&[rings::takes, rings::lives], planted::A_PLACE_THAT_COUNTS_FROM_THE_RING);
+    found_by(&[rings::takes, rings::lives], in_rings::A_PLACE_THAT_COUNTS_FROM_THE_RING);
+}
+
+#[test]
+fn an_index_too_many() {
+    found_by(&[sheets::every_field, sheets::random], in_sheets::AN_INDEX_TOO_MANY);
+}
+
+#[test]
+fn a_segment_of_its_neighbour() {
+    found_by(&[sheets::every_field, sheets::random], in_sheets::A_SEGMENT_OF_ITS_NEIGHBOUR);
+}
+
+#[test]
+fn an_extension_that_is_always_there() {
+    found_by(
+        &[sheets::every_field, sheets::every_value, sheets::every_length],
+        in_sheets::AN_EXTENSION_THAT_IS_ALWAYS_THERE,
+    );
+}
+
+#[test]
+fn a_state_that_is_not_judged() {
+    found_by(&[sheets::every_value, sheets::random], in_sheets::A_STATE_THAT_IS_NOT_JUDGED);
+}
+
+#[test]
+fn a_longer_state_that_is_not_asked() {
+    found_by(
+        &[sheets::every_value, sheets::every_length],
+        in_sheets::A_LONGER_STATE_THAT_IS_NOT_ASKED,
+    );
+}
+
+#[test]
+fn room_before_the_values() {
+    found_by(&[sheets::every_value], in_sheets::ROOM_BEFORE_THE_VALUES);
+}
+
+#[test]
+fn a_value_that_is_cut() {
+    found_by(
+        &[sheets::every_field, sheets::every_width, sheets::random],
+        in_sheets::A_VALUE_THAT_IS_CUT,
+    );
+}
+
+#[test]
+fn a_refused_value_that_stays() {
+    found_by(
+        &[sheets::every_field, sheets::every_value, sheets::random],
+        in_sheets::A_REFUSED_VALUE_THAT_STAYS,
+    );
+}
+
+#[test]
+fn a_value_out_of_its_range() {
+    found_by(&[sheets::every_value], in_sheets::A_VALUE_OUT_OF_ITS_RANGE);
+}
+
+#[test]
+fn bytes_past_1191_that_are_cleared() {
+    found_by(
+        &[sheets::every_field, sheets::every_length, sheets::every_width],
+        in_sheets::BYTES_PAST_1191_THAT_ARE_CLEARED,
+    );
+}
+
+#[test]
+fn an_mmu_limit_of_four_bytes() {
+    found_by(&[sheets::every_field, sheets::every_width], in_sheets::AN_MMU_LIMIT_OF_FOUR_BYTES);
+}
+
+#[test]
+fn an_mmu_set_that_does_nothing() {
+    found_by(&[sheets::every_field, sheets::random], in_sheets::AN_MMU_SET_THAT_DOES_NOTHING);
+}
+
+#[test]
+fn a_level_of_one_bit() {
+    found_by(&[sheets::access_words], in_sheets::A_LEVEL_OF_ONE_BIT);
+}
+
+#[test]
+fn a_rest_that_is_lost() {
+    found_by(&[sheets::access_words], in_sheets::A_REST_THAT_IS_LOST);
 }

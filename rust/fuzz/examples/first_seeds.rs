@@ -25,8 +25,9 @@ fn main() {
         write("wrappers", number, &make::wrapper(random).bytes);
         write("regions", number, &regions::any(random).bytes);
     }
-    // The samples, whose devices and disks the adds meet.
+    // The samples, whose devices and disks the adds meet, and one with META, CPUs and MMUs.
     write("files", 41, include_bytes!("../../../samples/panel.aerosnap"));
+    write("files", 42, include_bytes!("../../../samples/states.aerosnap"));
     write("regions", 18, include_bytes!("../../../samples/panel.region"));
     // Almost as many sections as a file may have; one ring in each state, at the end of its data and of the numbers.
     write("files", 40, &[&made_of_none()[..], &[0; 16 * 62]].concat());
@@ -47,6 +48,11 @@ fn main() {
         write("states", number, &make::cpu_state(random, 2, extended));
     }
     write("states", 2, &make::mmu_state(random, 2));
+    // A state that a newer saver wrote: 63 bytes behind the extension's length.
+    let mut longer = make::cpu_state(random, 2, true);
+    longer[1183] = 63;
+    longer.resize(1187 + 63, 0xA7);
+    write("states", 3, &longer);
     let tags = [
         0x0000, 0x0001, 0x0100, 0x0101, 0x0102, 0x0103, 0x0104, 0x0105, 0x1000, 0x1100, 0x1101,
         0x1102, 0x1103, 0x1104, 0x1105, 0x1200, 0x1300, 0x1301, 0x1302, 0x1303, 0x1400, 0x1500,

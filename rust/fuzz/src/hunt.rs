@@ -59,7 +59,8 @@ pub fn hunt(subject: &Subject, seeds: &[Vec<u8>], number: u64, until: Until) -> 
                 break;
             }
             Ok(trace) => {
-                if seen.insert(trace) {
+                // A seed is kept, whatever it is answered.
+                if seen.insert(trace) || hunt.inputs <= seeds.len() as u64 {
                     hunt.kept.push(input);
                 }
             }

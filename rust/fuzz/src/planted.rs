@@ -2,9 +2,9 @@
 
 use differential::planted;
 use reference::answer::{CUT, KEY, MANY, SECVER, TEXT, VALUE};
-use reference::Answer;
+use reference::{Answer, Meta};
 
-use crate::subject::{files, messages, regions, states, wrappers, Call, Subject};
+use crate::subject::{files, messages, meta, regions, states, wrappers, Call, Subject};
 
 const TAKEN: Answer = Answer { number: 0, place: 0 };
 
@@ -19,7 +19,9 @@ fn with(mut subject: Subject, call: &str, error: Call) -> Subject {
 /// All of them, by name: those of the differential tests, and some in files, wrappers and messages.
 pub fn all() -> Vec<(&'static str, Subject)> {
     let mut all: Vec<(&str, Subject)> =
-        planted::ALL.iter().map(|(name, calls)| (*name, regions(*calls))).collect();
+        planted::rings::ALL.iter().map(|(name, calls)| (*name, regions(*calls))).collect();
+    let sheets = planted::sheets::ALL.iter().chain(planted::sheets::WORDS);
+    all.extend(sheets.map(|(name, calls)| (*name, states(*calls))));
     let check = |error: fn(&[u8], Answer) -> Answer| -> Subject {
         with(files(), "check", Box::new(move |file, _| error(file, reference::check(file))))
     };
@@ -91,24 +93,60 @@ pub fn all() -> Vec<(&'static str, Subject)> {
                 "controllers",
                 Box::new(|wrapper, out| {
                     let answer = reference::controllers(wrapper, out);
-                    if answer.number == 0 {
-                        let records = out[..answer.place as usize].chunks_exact_mut(32);
-                        for (number, record) in (0u32..).zip(records) {
-                            record[24..28].copy_from_slice(&number.to_le_bytes());
-                        }
-                    }
-                    answer
+                    let mut number = 0u32;
+                    each_record(answer, out, |record| {
+                        record[24..28].copy_from_slice(&number.to_le_bytes());
+                        number += 1;
+                    })
                 }),
             ),
         ),
         (
-            "a register that the state lacks",
+            "a state's place that is its entry's",
             with(
-                states(),
-                "cpu_field",
-                Box::new(|state, out| {
-                    let (field, index) = (u32::from(state.first().copied().unwrap_or(0)) % 28, 0);
-                    reference::cpu_field(state, field, index, out)
+                files(),
+                "mmus",
+                Box::new(|file, out| {
+                    let answer = reference::mmus(file, out);
+                    each_record(answer, out, |record| {
+                        let place = u64::from_le_bytes(record[8..16].try_into().unwrap());
+                        record[8..16].copy_from_slice(&(place - 4).to_le_bytes());
+                    })
+                }),
+            ),
+        ),
+        (
+            "a blob whose length is not told",
+            with(
+                files(),
+                "cpus",
+                Box::new(|file, out| {
+                    let answer = reference::cpus(file, out);
+                    each_record(answer, out, |record| record[16..24].fill(0))
+                }),
+            ),
+        ),
+        (
+            "META of a file that is refused behind it",
+            with(
+                files(),
+                "meta",
+                meta(|file| match reference::meta(file) {
+                    (Answer { number: CUT, place }, _) => reference::meta(&file[..place as usize]),
+                    told => told,
+                }),
+            ),
+        ),
+        (
+            "a label's place that is its length's",
+            with(
+                files(),
+                "meta",
+                meta(|file| {
+                    let (answer, said) = reference::meta(file);
+                    let label = said.and_then(|said| said.label);
+                    let label = label.map(|(place, length)| (place - 4, length));
+                    (answer, said.map(|said| Meta { label, ..said }))
                 }),
             ),
         ),
@@ -128,6 +166,13 @@ pub fn all() -> Vec<(&'static str, Subject)> {
         ),
     ]);
     all
+}
+
+/// Does something to each record of a table that was written; the answer stays.
+fn each_record(answer: Answer, out: &mut [u8], spoil: impl FnMut(&mut [u8])) -> Answer {
+    let written = if answer.number == 0 { answer.place as usize } else { 0 };
+    out[..written].chunks_exact_mut(32).for_each(spoil);
+    answer
 }
 
 /// The length that a section's header says.

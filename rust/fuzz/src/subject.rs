@@ -3,8 +3,9 @@
 use differential::library;
 use differential::random::Random;
 use differential::rings::{RingCalls, REFERENCE};
+use differential::sheets::SheetCalls;
 use reference::answer::ROOM;
-use reference::{Answer, Reading};
+use reference::{Access, Answer, Meta, Reading};
 
 /// A call on an input with lent memory.
 pub type Call = Box<dyn Fn(&[u8], &mut [u8]) -> Answer>;
@@ -62,11 +63,33 @@ pub fn files() -> Subject {
             pair!("disks", side => side::disks),
             pair!("cpus", side => side::cpus),
             pair!("mmus", side => side::mmus),
+            Pair {
+                name: "meta",
+                ours: meta(library::meta),
+                theirs: meta(reference::meta),
+                lends: Lends::Input(48),
+            },
             pair!("canonical", side => side::canonical),
             pair!("add_device", side => |file, out| side::add_device(file, 3, 1, 0, b"new", out)),
             pair!("add_disk", side => |file, out| side::add_disk(file, 256, b"base", b"", out)),
         ],
     }
+}
+
+/// The call that reads META, which stores what it says behind as many bytes as the file has: id, parent, time, and the
+/// label's place and length, all ones for what is not there.
+pub fn meta(meta: fn(&[u8]) -> (Answer, Option<Meta>)) -> Call {
+    Box::new(move |file, out| {
+        let (answer, said) = meta(file);
+        let numbers = said.map_or([u64::MAX; 6], |Meta { id, parent, time, label }| {
+            let (place, length) = label.unwrap_or((u64::MAX, u64::MAX));
+            [1, id, parent.unwrap_or(u64::MAX), time, place, length]
+        });
+        for (part, number) in out[file.len()..].chunks_exact_mut(8).zip(numbers) {
+            part.copy_from_slice(&number.to_le_bytes());
+        }
+        answer
+    })
 }
 
 /// Disk-controller wrappers.
@@ -123,47 +146,80 @@ pub fn messages() -> Subject {
     }
 }
 
-/// CPU and MMU states: a field read, and a field set in a copy of the state.
-pub fn states() -> Subject {
+/// CPU and MMU states, with these calls in the library's place: a field read, a field set in a copy of the state, and the
+/// state's first bytes as an access word.
+pub fn states(calls: SheetCalls) -> Subject {
+    type Get = fn(&[u8], u32, u32, &mut [u8]) -> Answer;
     type Set = fn(&mut [u8], u32, u32, &[u8]) -> Answer;
-    let set = |set: Set| -> Call {
+    let get = |get: Get| -> Call {
         Box::new(move |state, out| {
-            let (field, index) = field_of(state);
-            out.copy_from_slice(state);
-            // A value of one of the widths that fields have.
-            let width =
-                state.get(2).map_or(0, |byte| [1, 2, 4, 8, 16, 512][usize::from(*byte) % 6]);
-            let width = width.min(state.len());
-            set(out, field, index, &state[..width])
+            let Asked { field, index, .. } = asked_of(state);
+            get(state, field, index, out)
         })
     };
-    let sets = |name, ours: Set, theirs: Set| Pair {
-        name,
-        ours: set(ours),
-        theirs: set(theirs),
-        lends: Lends::Input(0),
+    let set = |set: Set| -> Call {
+        Box::new(move |state, out| {
+            let Asked { field, index, width } = asked_of(state);
+            out.copy_from_slice(state);
+            set(out, field, index, &state[..width.min(state.len())])
+        })
     };
+    let access = |access: fn(u32) -> Access| -> Call {
+        Box::new(move |state, out| {
+            let mut word = [0; 4];
+            word.iter_mut().zip(state).for_each(|(byte, given)| *byte = *given);
+            let parts = access(u32::from_le_bytes(word));
+            let numbers = [
+                parts.kind,
+                parts.level,
+                parts.present,
+                parts.long_mode,
+                parts.size,
+                parts.granularity,
+                parts.unusable,
+                parts.rest,
+            ];
+            for (part, number) in out[state.len()..].chunks_exact_mut(4).zip(numbers) {
+                part.copy_from_slice(&number.to_le_bytes());
+            }
+            Answer { number: 0, place: 0 }
+        })
+    };
+    let pair = |name, lends, ours, theirs| Pair { name, ours, theirs, lends };
     Subject {
         name: "states",
         pairs: vec![
-            pair!("cpu_field", side => |state, out| {
-                let (field, index) = field_of(state);
-                side::cpu_field(state, field, index, out)
-            }),
-            pair!("mmu_field", side => |state, out| {
-                let (field, index) = field_of(state);
-                side::mmu_field(state, field, index, out)
-            }),
-            sets("cpu_set", library::cpu_set, reference::cpu_set),
-            sets("mmu_set", library::mmu_set, reference::mmu_set),
+            pair("cpu_field", Lends::Needed, get(calls.cpu_field), get(reference::cpu_field)),
+            pair("mmu_field", Lends::Needed, get(calls.mmu_field), get(reference::mmu_field)),
+            pair("cpu_set", Lends::Input(0), set(calls.cpu_set), set(reference::cpu_set)),
+            pair("mmu_set", Lends::Input(0), set(calls.mmu_set), set(reference::mmu_set)),
+            pair("access", Lends::Input(32), access(calls.access), access(reference::access)),
         ],
     }
 }
 
-/// A field and an index, by the state's first bytes.
-fn field_of(state: &[u8]) -> (u32, u32) {
-    let byte = |at: usize| u32::from(state.get(at).copied().unwrap_or(0));
-    (byte(0) % 28, byte(1) % 18)
+/// The library's calls on states.
+pub fn library_states() -> Subject {
+    states(library::SHEETS)
+}
+
+/// What is asked of a state: a field, an index, and for a set how many of the state's bytes are its value.
+struct Asked {
+    field: u32,
+    index: u32,
+    width: usize,
+}
+
+/// By all bytes of the state, so that each change of it asks for something else: half of the indices are 0, and the widths
+/// are those that fields have.
+fn asked_of(state: &[u8]) -> Asked {
+    let sum = state.iter().fold(0, |sum, byte| mixed(sum, u64::from(*byte) + 1));
+    let [field, zero, index, width] = [0, 16, 32, 48].map(|at| (sum >> at) as u16);
+    Asked {
+        field: u32::from(field % 28),
+        index: if zero & 1 == 0 { 0 } else { u32::from(index % 18) },
+        width: [1, 2, 4, 8, 16, 512][usize::from(width % 6)],
+    }
 }
 
 /// Regions, with these calls in the library's place.

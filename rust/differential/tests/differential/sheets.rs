@@ -55,7 +55,8 @@ pub fn every_field(run: &mut Comparison) {
     }
 }
 
-/// Each byte that is listed, at every value: as it stands in a state, and as it is set; beside a second one that is wrong.
+/// Each byte that is listed, at every value: as it stands in a state, read with room and with none, and as it is set;
+/// beside a second one that is wrong.
 pub fn every_value(run: &mut Comparison) {
     let listed = [144, 145, 260, 1183, 1184, 1185, 1186, 1187, 1188, 1189, 1190];
     for length in [1183, 1191, 1203] {
@@ -66,6 +67,7 @@ pub fn every_value(run: &mut Comparison) {
                 bytes[place] = value;
                 for field in [0, 3, 4, 12, 20, 22, 23, 24, 25] {
                     run.field(Cpu, &bytes, field, 0, 16);
+                    run.field(Cpu, &bytes, field, 0, 0);
                     run.set(Cpu, &bytes, field, 0, &[1]);
                     run.set(Cpu, &good, field, 0, &[value]);
                 }
@@ -125,7 +127,7 @@ pub fn random(run: &mut Comparison) {
         }
         let field = run.random.below(fields as usize + 1) as u32;
         let index = run.random.below(17) as u32;
-        let width = widths()[run.random.below(6)];
+        let width = widths()[run.random.below(7)];
         let value: Vec<u8> = (0..width).map(|_| run.random.u8()).collect();
         run.field(kind, &bytes, field, index, width);
         run.set(kind, &bytes, field, index, &value);

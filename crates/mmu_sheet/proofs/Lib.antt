@@ -1,0 +1,4 @@
+pub mod Back
+pub mod Ties
+pub mod Answers
+pub mod Once

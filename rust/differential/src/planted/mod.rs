@@ -1,0 +1,4 @@
+//! Errors planted in the reference, to stand in the library's place: what looks for differences has to find each.
+
+pub mod rings;
+pub mod sheets;
