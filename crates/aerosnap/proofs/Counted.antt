@@ -1,20 +1,20 @@
 -- Many at once in one pass: the numbers that are carried from entry to entry are those of the files that would be written, so that nothing is written before all is known.
 -- Assumes nothing.
 use mathlib.Core.Path.{_≡_, refl, sym, _∙_, ap}
-use mathlib.Core.Bool.{Bool, true, false, not, cond, _&&_, _||_}
-use mathlib.Core.List.{List, [], _∷_, _++_, map}
-use Prim.Native.Nat.{ℕ, zero, suc, _+_, _-_, _*_, _≤_}
+use mathlib.Core.Bool.{Bool, true, false, not, cond, _||_}
+use mathlib.Core.List.{List, [], _∷_, _++_}
+use Prim.Native.Nat.{ℕ, suc, _+_, _-_, _*_, _≤_}
 use native.Mathlib.Omega.{arith}
 use lib.ListN.{length, take, drop, length-drop, length-append}
 use lib.Seq.{length-take-le}
 use lib.Dec.{leb, eqb}
 use borrow.Author.Tests.{leb-true}
 use Rattle.answer.specs.Numbers.{SIZE, MANY, LIMIT, HAVE, PAYLOAD}
-use Rattle.answer.specs.Outcome.{Outcome, taken, refused, Checks, checked, Pass, after, room, fitting}
+use Rattle.answer.specs.Outcome.{Outcome, taken, refused, Checks, checked, after, room, fitting}
 use Rattle.answer.specs.Calls.{asked}
-use Rattle.answer.proofs.Checks.{checked-pass, pass-checked, checked-append, checked-after, and-true}
-use Rattle.answer.proofs.Outcomes.{taken-is, taken-refused, after-taken}
-use Rattle.order.specs.Keyed.{Every, weigh, insert, has, puts}
+use Rattle.answer.proofs.Checks.{checked-pass, checked-append, checked-after, and-true}
+use Rattle.answer.proofs.Outcomes.{taken-is, taken-refused}
+use Rattle.order.specs.Keyed.{weigh, has, puts}
 use Rattle.order.proofs.Keys.{fresh-has}
 use Rattle.order.proofs.Inserts.{insert-perm, weigh-insert, length-insert}
 use Rattle.order.proofs.Without.{has-cons, has-perm}
@@ -24,8 +24,8 @@ use Rattle.lists.proofs.Written.{length-list}
 use Rattle.aerosnap.specs.declared.NewDevice.{NewDevice}
 use Rattle.aerosnap.specs.File.{fileMost, sectionsMost, devicesMost}
 use Rattle.aerosnap.specs.Content.{isAbsent, Content, secs, render, contentAt, canonical}
-use Rattle.aerosnap.specs.Adding.{Item, device, Wide, entryOf, withItem, there, ownChecks, addChecks, grown}
-use Rattle.aerosnap.specs.Edits.{add, apply, editTo, addTo}
+use Rattle.aerosnap.specs.Adding.{device, Wide, entryOf, withItem, there, ownChecks, addChecks, grown}
+use Rattle.aerosnap.specs.Edits.{add, editTo, addTo}
 use Rattle.aerosnap.specs.Many.{isInside, newItem, newItems, WideNews, Inside, further, addNew, addEach, addAll, Tally, opened, grow, passChecks, newKey, isSeen, pass, onePass}
 use Rattle.aerosnap.proofs.Framed.{length-framed}
 use Rattle.aerosnap.proofs.Canon.{presence, Canon}

@@ -3,7 +3,7 @@
 use mathlib.Core.Path.{_≡_, refl, sym, _∙_, ap}
 use mathlib.Core.Option.{Option, some, none}
 use mathlib.Core.Bool.{Bool, true, false, not, cond, _&&_, _||_}
-use mathlib.Core.List.{List, [], _∷_, _++_, List·Permᴰ, List·Permᴰ·nil, List·Permᴰ·cons, List·Permᴰ·swap, List·Permᴰ·trans, Permᴰ·refl, Permᴰ·symm}
+use mathlib.Core.List.{List, [], _∷_, List·Permᴰ, List·Permᴰ·nil, List·Permᴰ·cons, List·Permᴰ·swap, List·Permᴰ·trans, Permᴰ·refl, Permᴰ·symm}
 use Prim.Native.Nat.{ℕ}
 use native.Mathlib.Omega.{arith}
 use lib.Dec.{eqb}
@@ -11,15 +11,15 @@ use borrow.Author.Tests.{eqb-true, eq-eqb, not-true}
 use Rattle.answer.specs.Numbers.{HAVE}
 use Rattle.answer.specs.Outcome.{taken}
 use Rattle.answer.proofs.Checks.{and-true, append-pass}
-use Rattle.order.specs.Keyed.{Every, flat, keep, sort, has, Apart}
+use Rattle.order.specs.Keyed.{Every, flat, sort, has, Apart}
 use Rattle.order.proofs.Perms.{perm-flat, apart-perm}
 use Rattle.order.proofs.Keys.{fresh-has, asc-apart}
 use Rattle.order.proofs.Sorts.{sort-perm, sort-unique}
 use Rattle.entries.specs.Kinds.{devices, disks}
 use Rattle.aerosnap.specs.Content.{render}
 use Rattle.aerosnap.specs.Adding.{Item, device, disk, Name, deviceNamed, diskNamed, nameOf, Wide, entryOf, ownChecks, deviceEntries, diskEntries}
-use Rattle.aerosnap.specs.Edits.{keyOf, Edit, add, remove, replace, target}
-use Rattle.aerosnap.specs.Maps.{sameName, Map, find, isFound, holds, NamesApart, others, mapAfter, heldThen, AllElse, countRow, devicesRow, sectionsRow, sizeRow, mapEdit, mapContent, mapFile}
+use Rattle.aerosnap.specs.Edits.{Edit, add, remove, replace, target}
+use Rattle.aerosnap.specs.Maps.{sameName, Map, find, isFound, holds, NamesApart, others, mapAfter, heldThen, AllElse, countRow, devicesRow, sectionsRow, sizeRow, mapEdit, mapFile}
 use Rattle.aerosnap.proofs.Edited.{key-name}
 use Rattle.aerosnap.proofs.Mapped.{eqb-sym, holds-first, holds-device, holds-disk, State, map-taken}
 

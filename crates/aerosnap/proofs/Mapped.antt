@@ -1,21 +1,21 @@
 -- The plain map: it answers each edit as the file does, and the file is the canonical form of its state and all else.
 -- Assumes nothing.
 use mathlib.Core.Path.{_≡_, refl, sym, _∙_, ap, subst}
-use mathlib.Core.Option.{Option, some, none}
+use mathlib.Core.Option.{some}
 use mathlib.Core.Bool.{Bool, true, false, not, cond, _&&_, _||_}
 use mathlib.Core.List.{List, [], _∷_, _++_}
-use Prim.Native.Nat.{ℕ, suc, _+_, _*_, _≤_, _<_, min}
+use Prim.Native.Nat.{ℕ, _+_, _*_, _≤_, _<_, min}
 use native.Mathlib.Omega.{arith}
 use lib.ListN.{length, length-append}
 use lib.Dec.{eqb, leb}
 use borrow.Author.Tests.{eqb-true, eq-eqb, ne-eqb}
 use Rattle.answer.specs.Numbers.{SIZE, MANY, LIMIT, HAVE, ABSENT}
-use Rattle.answer.specs.Outcome.{Outcome, taken, refused, Checks, checked, Pass, after, fitting}
+use Rattle.answer.specs.Outcome.{taken, Checks, checked, Pass, after, fitting}
 use Rattle.answer.proofs.Checks.{checked-pass, pass-checked, checked-after, and-true}
 use Rattle.answer.proofs.Outcomes.{taken-is}
 use Rattle.wire.specs.Numbers.{leAt, bytesOf}
 use Rattle.wire.proofs.Numbers.{le-bytesOf}
-use Rattle.order.specs.Keyed.{Every, keep, weigh, insert, sort, has, without}
+use Rattle.order.specs.Keyed.{Every, weigh, insert, sort, has, without}
 use Rattle.order.proofs.Folds.{every-imp}
 use Rattle.order.proofs.Keeps.{every-keep}
 use Rattle.order.proofs.Perms.{perm-length, perm-weigh}
@@ -25,9 +25,9 @@ use Rattle.entries.specs.Kinds.{payloadMost, devices, disks}
 use Rattle.lists.specs.Lists.{listBytes}
 use Rattle.lists.proofs.Written.{length-list}
 use Rattle.aerosnap.specs.File.{fileMost, sectionsMost, devicesMost}
-use Rattle.aerosnap.specs.Content.{isAbsent, Content, secs, render}
+use Rattle.aerosnap.specs.Content.{Content, secs}
 use Rattle.aerosnap.specs.Adding.{Item, device, disk, Name, deviceNamed, diskNamed, nameOf, WideName, Wide, withLength, entryOf, ownChecks, there, deviceEntries, diskEntries}
-use Rattle.aerosnap.specs.Edits.{keyOf, stands, Edit, add, remove, replace, target, WideEdit, apply, editChecks, editTo, editFile}
+use Rattle.aerosnap.specs.Edits.{keyOf, stands, Edit, add, remove, replace, WideEdit, apply, editChecks, editTo, editFile}
 use Rattle.aerosnap.specs.Maps.{sameName, Map, find, isFound, holds, others, mapAfter, AllElse, oneDevice, deviceSize, oneDisk, diskSize, mapSections, mapSize, mapChecks, mapEdit, mapContent, mapFile}
 use Rattle.aerosnap.proofs.Framed.{framed-reads, length-framed}
 use Rattle.aerosnap.proofs.Canon.{presence, Canon, length-secs, length-render}

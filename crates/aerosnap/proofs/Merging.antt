@@ -2,26 +2,24 @@
 -- give those of the result. And the numbers that the pass ends with are those of the result.
 -- Assumes nothing.
 use mathlib.Core.Path.{_≡_, refl, sym, _∙_, ap}
-use mathlib.Core.Bool.{Bool, cond}
 use mathlib.Core.List.{List, [], _∷_, _++_, map}
-use Prim.Native.Nat.{ℕ, zero, suc, _+_, _-_, _*_, _/_, _≤_}
+use Prim.Native.Nat.{ℕ, zero, suc, _+_, _-_, _/_}
 use native.Mathlib.Omega.{arith}
-use lib.ListN.{length, take, drop}
-use Rattle.answer.specs.Outcome.{Outcome, taken}
+use lib.ListN.{length, drop}
 use Rattle.wire.specs.Numbers.{Bytes, leAt}
 use Rattle.wire.proofs.Numbers.{leAt-drop, leAt-bound}
-use Rattle.order.specs.Keyed.{Every, weigh, sort, Asc, Apart}
+use Rattle.order.specs.Keyed.{sort, Apart}
 use Rattle.order.proofs.Folds.{every-all}
 use Rattle.order.proofs.Perms.{apart-perm}
 use Rattle.order.proofs.Keys.{asc-apart}
 use Rattle.order.proofs.Sorts.{sort-perm, map-sort}
 use Rattle.order.proofs.Merged.{merge, merge-sort}
 use Rattle.entries.specs.Kinds.{devices}
-use Rattle.lists.specs.Lists.{keyAt, listBytes}
+use Rattle.lists.specs.Lists.{keyAt}
 use Rattle.aerosnap.specs.declared.NewDevice.{NewDevice}
-use Rattle.aerosnap.specs.Content.{Content, secs, render, contentAt}
-use Rattle.aerosnap.specs.Adding.{Item, entryOf, deviceEntries, diskEntries, grown}
-use Rattle.aerosnap.specs.Many.{newDeviceAt, newDevicesFrom, newDevices, newName, newItem, newItems, WideNews, Tally, opened, grow, newKey, pass}
+use Rattle.aerosnap.specs.Content.{Content}
+use Rattle.aerosnap.specs.Adding.{entryOf, deviceEntries, diskEntries, grown}
+use Rattle.aerosnap.specs.Many.{newDeviceAt, newDevicesFrom, newDevices, newItem, newItems, newKey}
 use Rattle.aerosnap.proofs.Framed.{framed-reads}
 use Rattle.aerosnap.proofs.Canon.{Canon}
 use Rattle.aerosnap.proofs.Edited.{key-name}

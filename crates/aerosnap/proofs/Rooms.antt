@@ -2,17 +2,17 @@
 -- Assumes nothing.
 use mathlib.Core.Path.{_≡_, refl, sym, _∙_, ap}
 use mathlib.Core.Logic.{_≢_}
-use mathlib.Core.Bool.{Bool, true, false, not, _||_}
+use mathlib.Core.Bool.{Bool, true, false}
 use mathlib.Core.List.{List, [], _∷_, _++_}
-use Prim.Native.Nat.{ℕ, suc, _+_, _*_, _≤_, _<_}
+use Prim.Native.Nat.{ℕ, suc, _+_, _<_}
 use native.Mathlib.Omega.{arith}
 use lib.ListN.{length, take}
 use lib.Dec.{leb}
 use borrow.Author.Tests.{leb-true, leb-false, le-leb}
 use Rattle.answer.specs.Numbers.{ROOM}
-use Rattle.answer.specs.Outcome.{Outcome, taken, refused, Faulty, Checks, checked, Pass, after, room, fitting}
+use Rattle.answer.specs.Outcome.{Outcome, taken, refused, Faulty, Checks, checked, Pass, room}
 use Rattle.answer.specs.Calls.{asked}
-use Rattle.answer.proofs.Checks.{checked-pass, pass-checked, append-pass, pass-append}
+use Rattle.answer.proofs.Checks.{checked-pass, pass-checked, pass-append}
 use Rattle.answer.proofs.Outcomes.{taken-refused}
 use Rattle.answer.proofs.Table.{fault-no-room}
 use Rattle.order.specs.Keyed.{Every, has}

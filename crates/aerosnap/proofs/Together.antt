@@ -2,25 +2,24 @@
 -- Assumes nothing.
 use mathlib.Core.Path.{_≡_, refl, sym, _∙_, ap, subst}
 use mathlib.Core.Logic.{_↔_}
-use mathlib.Core.Bool.{Bool, true, false}
-use mathlib.Core.List.{List, [], _∷_, _++_, map, List·Permᴰ, Permᴰ·symm, Perm}
+use mathlib.Core.Bool.{true}
+use mathlib.Core.List.{List, [], _∷_, _++_, List·Permᴰ, Perm}
 use Prim.Native.Nat.{ℕ, zero, suc, _+_, _*_, _/_, _%_, _≤_, _<_}
 use native.Mathlib.Omega.{arith}
 use lib.ListN.{length, length-append}
 use Rattle.answer.specs.Numbers.{ROOM, HAVE, ABSENT, PAYLOAD, isFault}
-use Rattle.answer.specs.Outcome.{Outcome, taken, refused, checked, Pass, after}
+use Rattle.answer.specs.Outcome.{Outcome, taken, refused, checked, after}
 use Rattle.answer.proofs.Checks.{checked-pass, pass-checked}
 use Rattle.answer.proofs.Outcomes.{taken-is, taken-refused, after-taken}
-use Rattle.wire.specs.Numbers.{Bytes, leAt}
+use Rattle.wire.specs.Numbers.{Bytes}
 use Rattle.wire.proofs.Numbers.{leAt-append, leAt-bound}
-use Rattle.order.specs.Keyed.{Every}
-use Rattle.order.specs.Adding.{Chain, items, Roomy}
+use Rattle.order.specs.Adding.{Chain, items}
 use Rattle.order.proofs.Folds.{every-map, every-imp}
 use Rattle.aerosnap.specs.declared.NewDevice.{NewDevice}
 use Rattle.aerosnap.specs.Content.{Content, render, contentAt, canonical, IsCanonical}
-use Rattle.aerosnap.specs.Adding.{Item, Wide, WideName}
+use Rattle.aerosnap.specs.Adding.{Item}
 use Rattle.aerosnap.specs.Edits.{add, addTo, editFile, addItem, Call}
-use Rattle.aerosnap.specs.Many.{newDeviceAt, newDevicesFrom, newDevices, isInside, newName, newItem, newItems, WideNews, Inside, newCalls, further, addNew, addEach, RefusedAt, addAll, many}
+use Rattle.aerosnap.specs.Many.{newDeviceAt, newDevicesFrom, newDevices, isInside, newItem, newItems, WideNews, Inside, newCalls, further, addNew, addEach, RefusedAt, addAll, many}
 use Rattle.aerosnap.proofs.Canonical.{canonical-exactly}
 use Rattle.aerosnap.proofs.Refusals.{Refuses, checked-refuses, after-refuses}
 use Rattle.aerosnap.proofs.Named.{content-refuses, edit-to-refuses, canonical-refuses}

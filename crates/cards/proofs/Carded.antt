@@ -2,15 +2,15 @@
 -- Assumes nothing.
 use mathlib.Core.Path.{_≡_, refl, sym, _∙_, ap}
 use mathlib.Core.Logic.{_≢_}
-use mathlib.Core.Bool.{true, not, _&&_}
+use mathlib.Core.Bool.{true, not}
 use mathlib.Core.List.{List, [], _∷_}
 use Prim.Native.Nat.{ℕ, _+_, _-_, _≤_}
 use native.Mathlib.Omega.{arith}
 use lib.ListN.{length, length-append}
-use lib.Dec.{leb, eqb}
-use borrow.Author.Tests.{leb-true, le-leb}
+use lib.Dec.{eqb}
+use borrow.Author.Tests.{le-leb}
 use Rattle.answer.specs.Numbers.{CARD, faults, isFault}
-use Rattle.answer.specs.Outcome.{Outcome, taken, refused, Pass, checked, after}
+use Rattle.answer.specs.Outcome.{Outcome, taken, refused, Pass, after}
 use Rattle.answer.proofs.Checks.{pass-checked, checked-pass}
 use Rattle.answer.proofs.Outcomes.{taken-is, after-taken}
 use Rattle.answer.proofs.Table.{among-all}
@@ -19,8 +19,8 @@ use Rattle.entries.specs.Kinds.{devices}
 use Rattle.lists.specs.Lists.{listBytes}
 use Rattle.lists.proofs.Written.{length-list}
 use Rattle.aerosnap.specs.File.{fileMost, sectionsMost, devicesMost}
-use Rattle.aerosnap.specs.Content.{Content, secs, render, contentAt}
-use Rattle.aerosnap.specs.Edits.{Edit, WideEdit, apply, editChecks, editTo, editFile}
+use Rattle.aerosnap.specs.Content.{Content, contentAt}
+use Rattle.aerosnap.specs.Edits.{Edit, WideEdit, apply, editTo, editFile}
 use Rattle.aerosnap.proofs.Canon.{Canon, length-render}
 use Rattle.aerosnap.proofs.Back.{read-back}
 use Rattle.aerosnap.proofs.Canonical.{content-is}

@@ -3,4 +3,6 @@ pub mod Carded
 pub mod Walked
 pub mod Whole
 pub mod Shifts
+pub mod Examples
+pub mod Answers
 pub mod Once

@@ -2,8 +2,8 @@
 -- Assumes nothing.
 use mathlib.Core.Path.{_≡_, refl, sym, _∙_, ap, subst}
 use mathlib.Core.Bool.{Bool, false, cond}
-use mathlib.Core.List.{List, [], _∷_, _++_}
-use Prim.Native.Nat.{ℕ, _+_, _≤_}
+use mathlib.Core.List.{List, [], _∷_}
+use Prim.Native.Nat.{ℕ, _≤_}
 use native.Mathlib.Omega.{arith}
 use lib.ListN.{length, take, drop}
 use lib.Seq.{take-append-seam}
@@ -13,19 +13,18 @@ use Rattle.answer.specs.Outcome.{Outcome, taken, refused, after}
 use Rattle.answer.specs.Calls.{memory}
 use Rattle.answer.proofs.Outcomes.{taken-is}
 use Rattle.wire.specs.Numbers.{Bytes}
-use Rattle.order.specs.Keyed.{weigh, sort}
+use Rattle.order.specs.Keyed.{weigh}
 use Rattle.order.proofs.Perms.{perm-weigh}
 use Rattle.order.proofs.Sorts.{sort-perm}
 use Rattle.entries.specs.Kinds.{devices}
-use Rattle.aerosnap.specs.Content.{Content, contentAt, IsCanonical}
+use Rattle.aerosnap.specs.Content.{contentAt, IsCanonical}
 use Rattle.aerosnap.specs.Adding.{device, disk, deviceEntries}
-use Rattle.aerosnap.specs.Edits.{Edit, WideEdit, apply, editFile}
-use Rattle.aerosnap.specs.Maps.{Map, NamesApart, AllElse, oneDevice, payloadLength, mapAfter, mapSections, mapSize, mapEdit, mapContent, mapFile}
+use Rattle.aerosnap.specs.Edits.{Edit, WideEdit, apply}
+use Rattle.aerosnap.specs.Maps.{Map, AllElse, payloadLength, mapAfter, mapSize, mapEdit, mapContent, mapFile}
 use Rattle.aerosnap.proofs.Framed.{length-framed}
 use Rattle.aerosnap.proofs.Back.{read-back}
 use Rattle.aerosnap.proofs.Named.{Named, edit-named}
 use Rattle.aerosnap.proofs.Mapped.{State, counted, apply-map, edit-map, map-taken, state-after}
-use Rattle.aerosnap.proofs.Lookups.{state-apart}
 use Rattle.aerosnap.proofs.Pairs.{file-map}
 use Rattle.cards.specs.declared.Card.{Card}
 use Rattle.cards.specs.declared.Edited.{Edited}

@@ -4,7 +4,7 @@ use mathlib.Core.Path.{_≡_, refl, sym, _∙_, ap, subst}
 use mathlib.Core.List.{List}
 use Prim.Native.Nat.{ℕ}
 use lib.ListN.{length}
-use Rattle.answer.specs.Outcome.{Outcome, taken}
+use Rattle.answer.specs.Outcome.{taken}
 use Rattle.answer.proofs.Outcomes.{taken-is}
 use Rattle.order.specs.Keyed.{weigh}
 use Rattle.order.proofs.Perms.{perm-length, perm-weigh}
@@ -12,7 +12,7 @@ use Rattle.order.proofs.Sorts.{sort-perm}
 use Rattle.entries.specs.Kinds.{devices}
 use Rattle.aerosnap.specs.Known.{DEVICES}
 use Rattle.aerosnap.specs.File.{fileOf}
-use Rattle.aerosnap.specs.Content.{Content, entriesIn, secs, render, contentAt, canonical}
+use Rattle.aerosnap.specs.Content.{Content, entriesIn, secs, render, canonical}
 use Rattle.aerosnap.proofs.Taken.{file-complete}
 use Rattle.aerosnap.proofs.Canon.{Canon}
 use Rattle.aerosnap.proofs.Back.{secs-valid, content-secs}

@@ -8,14 +8,13 @@ use native.Mathlib.Omega.{arith}
 use lib.ListN.{length, take, drop}
 use Rattle.answer.specs.Numbers.{CARD}
 use Rattle.answer.specs.Outcome.{Outcome, taken, refused}
-use Rattle.answer.proofs.Outcomes.{taken-is}
 use Rattle.order.specs.Keyed.{weigh}
 use Rattle.order.proofs.Folds.{weigh-append}
 use Rattle.order.proofs.Perms.{perm-weigh}
 use Rattle.order.proofs.Sorts.{sort-perm}
 use Rattle.entries.specs.Kinds.{devices}
 use Rattle.aerosnap.specs.declared.NewDevice.{NewDevice}
-use Rattle.aerosnap.specs.Content.{Content, render, contentAt}
+use Rattle.aerosnap.specs.Content.{Content, contentAt}
 use Rattle.aerosnap.specs.Adding.{deviceEntries, grown}
 use Rattle.aerosnap.specs.Many.{newItems, WideNews, Inside, further, addAll, Tally}
 use Rattle.aerosnap.proofs.Back.{read-back}

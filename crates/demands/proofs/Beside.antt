@@ -3,40 +3,39 @@
 use mathlib.Core.Path.{_≡_, refl, sym, _∙_, ap, subst}
 use mathlib.Core.Logic.{_≢_, _↔_, _⊎_, inl, inr}
 use mathlib.Core.Bool.{true, false}
-use mathlib.Core.List.{List, [], _∷_, _++_, List·Permᴰ, Perm}
+use mathlib.Core.List.{List, [], _∷_, _++_}
 use Prim.Native.Nat.{ℕ, _≤_, _<_}
 use native.Mathlib.Omega.{arith}
 use lib.ListN.{length, take, drop}
 use lib.Seq.{take-append-seam}
-use borrow.Author.Tests.{le-leb}
-use Rattle.answer.specs.Numbers.{ROOM, HAVE, ABSENT, PAYLOAD, CARD, isNumber, isFault}
+use Rattle.answer.specs.Numbers.{ROOM, ABSENT, CARD, isNumber}
 use Rattle.answer.specs.Outcome.{Outcome, taken, refused, Faulty, Checks, checked, Pass, after, room, fitting, First}
 use Rattle.answer.specs.Calls.{memory}
 use Rattle.answer.proofs.Checks.{checked-pass, pass-checked, checked-append, checked-after}
 use Rattle.answer.proofs.Outcomes.{taken-is, taken-refused, after-taken}
-use Rattle.answer.proofs.Firsts.{checked-first, after-refused, after-only}
+use Rattle.answer.proofs.Firsts.{checked-first, after-refused}
 use Rattle.answer.proofs.Table.{number-some, fault-number, fault-some, fault-no-room}
 use Rattle.answer.proofs.Once.{equal-once}
 use Rattle.wire.specs.Numbers.{Bytes}
 use Rattle.order.specs.Keyed.{Every}
-use Rattle.order.specs.Adding.{Chain, items, Roomy}
+use Rattle.order.specs.Adding.{Chain}
 use Rattle.aerosnap.specs.Content.{Content, contentAt, render, IsCanonical}
 use Rattle.aerosnap.specs.Adding.{Item, Name, nameOf, grown}
 use Rattle.aerosnap.specs.Edits.{stands, Edit, add, remove, replace, WideEdit, apply, editChecks, editTo, editFile, EditCall, Call}
 use Rattle.aerosnap.specs.Many.{newDevices, newItems, further, Beyond, addAll, many}
 use Rattle.aerosnap.proofs.Refusals.{Refuses, checked-refuses, after-refuses}
-use Rattle.aerosnap.proofs.Named.{content-faulty, edit-numbered, content-refuses, edit-to-refuses, edit-named}
+use Rattle.aerosnap.proofs.Named.{content-faulty, edit-numbered, content-refuses, edit-to-refuses}
 use Rattle.aerosnap.proofs.Passing.{edit-exactly, edit-exactly-to}
-use Rattle.aerosnap.proofs.Canonical.{fits-taken, taken-fits}
+use Rattle.aerosnap.proofs.Canonical.{taken-fits}
 use Rattle.aerosnap.proofs.AnyOrder.{any-order, no-two-sets, final}
 use Rattle.aerosnap.proofs.Edited.{edit-gives, undo, replace-twice}
 use Rattle.aerosnap.proofs.Together.{wide-table, all-fits, all-refuses}
 use Rattle.aerosnap.proofs.Rooms.{last-room, many-room}
 use Rattle.cards.specs.declared.Card.{Card}
 use Rattle.cards.specs.declared.Edited.{Edited}
-use Rattle.cards.specs.Cards.{cardOf, openFile, cardChecks, movedCard, carded, editCardTo, editCard, bytesBeside, answerBeside, blankCard, openAnswer, WritesBeside}
+use Rattle.cards.specs.Cards.{cardOf, openFile, cardChecks, movedCard, carded, editCardTo, editCard, bytesBeside, answerBeside, openAnswer, WritesBeside}
 use Rattle.cards.specs.Whole.{addAllCard, manyCard}
-use Rattle.cards.proofs.Carded.{open-card, card-open, card-true, card-again, card-bytes, no-card}
+use Rattle.cards.proofs.Carded.{card-open, card-true, card-again, card-bytes, no-card}
 use Rattle.cards.proofs.Whole.{all-bytes}
 use Rattle.demands.specs.Demand1.{InTable}
 use Rattle.demands.proofs.Removal.{removal}

@@ -1,16 +1,11 @@
 -- Request 10, from the laws of maps (crates/aerosnap/proofs, Mapped, Lookups, Pairs) and of shifts (crates/cards/proofs/Shifts.antt).
 -- Assumes nothing.
-use mathlib.Core.Path.{_≡_, refl, sym, _∙_, ap}
-use mathlib.Core.List.{List}
-use Prim.Native.Nat.{ℕ}
-use Rattle.answer.specs.Outcome.{Outcome, taken, refused}
-use Rattle.aerosnap.specs.Edits.{Edit}
-use Rattle.aerosnap.specs.Maps.{Map, AllElse, mapEdit}
+use mathlib.Core.Path.{sym, _∙_, ap}
 use Rattle.aerosnap.proofs.Mapped.{map-taken}
 use Rattle.aerosnap.proofs.Lookups.{same-self, same-is, find-after, apart-after, state-apart, same-file}
 use Rattle.cards.specs.Shifts.{mapThen}
 use Rattle.cards.proofs.Shifts.{shift-map}
-use Rattle.demands.specs.Shift.{Dictionary, ShiftFrom, Shifts}
+use Rattle.demands.specs.Shift.{Dictionary, Shifts}
 
 dictionary : Dictionary
 dictionary = record {

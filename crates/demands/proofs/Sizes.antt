@@ -1,18 +1,18 @@
 -- Request 12, from the laws of cards (crates/cards/proofs).
 -- Assumes nothing.
 use mathlib.Core.Path.{_≡_, refl, sym, _∙_, ap, subst}
-use mathlib.Core.Logic.{_≢_, _↔_, _⊎_, inl, inr}
-use mathlib.Core.Bool.{true, _&&_}
-use mathlib.Core.List.{List, [], _∷_, Permᴰ·symm}
-use Prim.Native.Nat.{ℕ, _+_, _-_, _*_, _≤_}
+use mathlib.Core.Logic.{_≢_, _↔_}
+use mathlib.Core.Bool.{true}
+use mathlib.Core.List.{List, [], _∷_}
+use Prim.Native.Nat.{ℕ, _+_, _-_, _*_}
 use native.Mathlib.Omega.{arith}
-use lib.ListN.{length, drop, length-drop}
+use lib.ListN.{length, length-drop}
 use lib.Dec.{leb}
 use borrow.Author.Tests.{leb-true}
 use Rattle.answer.specs.Numbers.{CARD}
-use Rattle.answer.specs.Outcome.{Outcome, taken, refused, Pass, checked, after, First}
+use Rattle.answer.specs.Outcome.{Outcome, taken, refused, Pass, after, First}
 use Rattle.answer.proofs.Checks.{and-true, checked-pass}
-use Rattle.answer.proofs.Outcomes.{taken-is, taken-refused, after-taken}
+use Rattle.answer.proofs.Outcomes.{taken-is}
 use Rattle.answer.proofs.Firsts.{checked-first, after-only}
 use Rattle.wire.specs.Numbers.{Bytes, leAt}
 use Rattle.order.specs.Keyed.{weigh}
@@ -23,7 +23,7 @@ use Rattle.tables.specs.Named.{NamesFramed, Each, IsTable}
 use Rattle.aerosnap.specs.declared.NewDevice.{NewDevice}
 use Rattle.aerosnap.specs.Known.{DEVICES}
 use Rattle.aerosnap.specs.File.{fileOf, fileMost, sectionsMost, devicesMost}
-use Rattle.aerosnap.specs.Content.{Content, entriesIn, contentAt, contentOf, render, canonical}
+use Rattle.aerosnap.specs.Content.{Content, entriesIn, contentAt, contentOf, canonical}
 use Rattle.aerosnap.specs.Adding.{grown}
 use Rattle.aerosnap.specs.Edits.{Edit, WideEdit, apply, editTo, editFile}
 use Rattle.aerosnap.specs.Many.{newDevices, newItems, WideNews, further, addEach, addAll, many}
@@ -42,6 +42,7 @@ use Rattle.demands.specs.Beside.{TrueCard}
 use Rattle.demands.specs.Sizes.{DevicesShown, MovesAs, Sizes}
 use Rattle.demands.proofs.Demand2.{table-rows, demand2}
 use Rattle.demands.proofs.Beside.{edit-as, edit-keeps, edit-never}
+use Rattle.cards.proofs.Answers.{refused-beside}
 
 -- ---- opening
 
@@ -232,6 +233,7 @@ sizes = record {
   never = edit-never;
   bytes = card-bytes;
   moves = edit-moves;
+  refused-so = λ have k s e n p. refused-beside have k s e;
   card = edit-last;
   many-as-without = many-as;
   many-stays-true = many-keeps;

@@ -2,14 +2,13 @@
 -- Assumes nothing.
 use mathlib.Core.Path.{_≡_, refl, sym, _∙_, ap, subst}
 use mathlib.Core.Logic.{_↔_, _⊎_, inl, inr}
-use mathlib.Core.Bool.{true}
 use mathlib.Core.List.{List, [], _∷_, _++_, List·Permᴰ, Perm}
-use Prim.Native.Nat.{ℕ, zero, suc, _+_, _/_, _≤_, _<_}
+use Prim.Native.Nat.{ℕ, _+_, _≤_, _<_}
 use native.Mathlib.Omega.{arith}
 use lib.ListN.{length, take, drop}
 use lib.Seq.{take-append-seam}
 use Rattle.answer.specs.Numbers.{PAYLOAD}
-use Rattle.answer.specs.Outcome.{Outcome, taken, refused, Checks, checked, after, room, fitting, First}
+use Rattle.answer.specs.Outcome.{Outcome, taken, refused, Checks, checked, after, room, First}
 use Rattle.answer.specs.Calls.{memory}
 use Rattle.answer.proofs.Checks.{checked-append}
 use Rattle.answer.proofs.Outcomes.{taken-is}
@@ -20,7 +19,7 @@ use Rattle.aerosnap.specs.declared.NewDevice.{NewDevice}
 use Rattle.aerosnap.specs.Content.{Content, contentAt, render, canonical, IsCanonical}
 use Rattle.aerosnap.specs.Adding.{grown}
 use Rattle.aerosnap.specs.Edits.{add, apply, editChecks, editTo, addTo, Call}
-use Rattle.aerosnap.specs.Many.{newDeviceAt, newDevicesFrom, newDevices, isInside, newItem, newItems, WideNews, Inside, newCalls, further, addNew, RefusedAt, addAll, many}
+use Rattle.aerosnap.specs.Many.{newDevices, isInside, newItem, newItems, WideNews, Inside, newCalls, further, addNew, RefusedAt, addAll, many}
 use Rattle.aerosnap.proofs.Back.{read-back}
 use Rattle.aerosnap.proofs.AnyOrder.{render-canonical}
 use Rattle.aerosnap.proofs.Together.{wide-table, count-news, part-record, all-refused, all-added, any-table, no-two-tables}

@@ -3,7 +3,7 @@
 -- what it answered and what it left there. Many at once are the same edits one by one: Together.antt.
 -- Assumes nothing.
 use mathlib.Core.Path.{_≡_}
-use mathlib.Core.Bool.{true, false, cond}
+use mathlib.Core.Bool.{true, cond}
 use mathlib.Core.List.{List}
 use Prim.Native.Nat.{ℕ}
 use Rattle.answer.specs.Outcome.{taken, refused}

@@ -7,16 +7,15 @@ use mathlib.Core.List.{List, []}
 use Prim.Native.Nat.{ℕ, _+_, _*_}
 use lib.ListN.{length}
 use Rattle.answer.specs.Numbers.{CARD, isNumber}
-use Rattle.answer.specs.Outcome.{Outcome, taken, refused, First}
+use Rattle.answer.specs.Outcome.{taken, refused, First}
 use Rattle.wire.specs.Numbers.{Bytes, leAt}
 use Rattle.order.specs.Keyed.{weigh}
 use Rattle.order.specs.Entries.{join}
-use Rattle.aerosnap.specs.Content.{Content, contentAt}
 use Rattle.aerosnap.specs.Edits.{Edit, WideEdit, editFile}
 use Rattle.aerosnap.specs.Many.{many}
 use Rattle.aerosnap.specs.Calls.{checkCall, sectionsCall, devicesCall, canonicalCall}
 use Rattle.cards.specs.declared.Card.{Card}
-use Rattle.cards.specs.Cards.{cardOf, openFile, cardChecks, editCard, bytesBeside}
+use Rattle.cards.specs.Cards.{openFile, cardChecks, editCard, bytesBeside}
 use Rattle.cards.specs.Whole.{manyCard}
 use Rattle.demands.specs.Beside.{TrueCard}
 
@@ -50,6 +49,8 @@ pub record Sizes : Type 0 where
   -- beside any card the bytes are the same, and each number moves by what the edit changes in the canonical form
   pub bytes : (have : ℕ) (k j : Card) (s : List ℕ) (e : Edit) (b : List ℕ) → editCard have k s e ≡ taken (b, j) → editFile have s e ≡ taken b
   pub moves : (have : ℕ) (k j : Card) (s : List ℕ) (e : Edit) (b : List ℕ) (x y : Card) → WideEdit e → editCard have k s e ≡ taken (b, j) → TrueCard s x → TrueCard b y → MovesAs x y k j
+  -- what is refused without a card is refused so beside every card
+  pub refused-so : (have : ℕ) (k : Card) (s : List ℕ) (e : Edit) (n p : ℕ) → editFile have s e ≡ refused n p → editCard have k s e ≡ refused n p
   -- 28 comes last: where the edit is taken without a card and one of its numbers leaves its bounds
   pub card : (have : ℕ) (k : Card) (s : List ℕ) (e : Edit) (p : ℕ) (x y : Card) (b : List ℕ) → WideEdit e → TrueCard s x → editFile have s e ≡ taken b → TrueCard b y
       → (editCard have k s e ≡ refused CARD p) ↔ First (cardChecks k x y) CARD p

@@ -4,17 +4,17 @@ use mathlib.Core.Path.{_≡_}
 use mathlib.Core.Logic.{_↔_, _⊎_}
 use mathlib.Core.Bool.{true}
 use mathlib.Core.List.{List, [], _∷_, _++_, List·Permᴰ, Perm}
-use Prim.Native.Nat.{ℕ, _+_, _*_, _/_, _%_, _≤_, _<_}
-use lib.ListN.{length, take, drop}
+use Prim.Native.Nat.{ℕ, _+_, _/_, _%_, _≤_, _<_}
+use lib.ListN.{length, take}
 use Rattle.answer.specs.Numbers.{ROOM, PAYLOAD, isNumber}
-use Rattle.answer.specs.Outcome.{Outcome, taken, refused, room, First}
+use Rattle.answer.specs.Outcome.{taken, refused, room, First}
 use Rattle.wire.specs.Numbers.{Bytes}
 use Rattle.order.specs.Adding.{Chain}
 use Rattle.aerosnap.specs.declared.NewDevice.{NewDevice}
 use Rattle.aerosnap.specs.Content.{Content, contentAt, render, IsCanonical}
 use Rattle.aerosnap.specs.Adding.{grown}
 use Rattle.aerosnap.specs.Edits.{add, apply, editChecks, Call}
-use Rattle.aerosnap.specs.Many.{newDeviceAt, newDevicesFrom, newDevices, isInside, newItem, newItems, Inside, newCalls, further, Beyond, addNew, RefusedAt, many, onePass}
+use Rattle.aerosnap.specs.Many.{newDevices, isInside, newItem, newItems, Inside, newCalls, further, Beyond, addNew, RefusedAt, many, onePass}
 use Rattle.aerosnap.specs.Calls.{canonicalCall}
 use Rattle.cards.specs.declared.Card.{Card}
 use Rattle.cards.specs.declared.Edited.{Edited}
