@@ -1,6 +1,12 @@
-//! Controls: errors planted in the reference's rings in the library's place, each of which the groups of the
+//! Controls: errors planted in the reference's rings and cards in the library's place, each of which the groups of the
 //! differential test that it concerns have to find.
 
+#[allow(dead_code)]
+#[path = "differential/cards.rs"]
+mod cards;
+#[allow(dead_code)]
+#[path = "differential/removals.rs"]
+mod removals;
 #[allow(dead_code)]
 #[path = "differential/rings.rs"]
 mod rings;
@@ -8,6 +14,7 @@ mod rings;
 use std::panic::{catch_unwind, AssertUnwindSafe};
 
 use differential::compare::Comparison;
+use differential::edits::{self, EditCalls};
 use differential::planted;
 use differential::rings::{RingCalls, REFERENCE};
 
@@ -15,9 +22,17 @@ type Group = fn(&mut Comparison);
 
 /// Each group finds the error.
 fn found_by(groups: &[Group], planted: RingCalls) {
+    found(groups, |run| run.rings = planted);
+}
+
+fn found_in_cards_by(groups: &[Group], planted: EditCalls) {
+    found(groups, |run| run.edits = planted);
+}
+
+fn found(groups: &[Group], plant: impl Fn(&mut Comparison)) {
     for (at, group) in groups.iter().enumerate() {
         let mut run = Comparison::new("planted", 7);
-        run.rings = planted;
+        plant(&mut run);
         let ended = catch_unwind(AssertUnwindSafe(|| group(&mut run)));
         let told = ended.err().and_then(|why| why.downcast::<String>().ok());
         let told = told.unwrap_or_else(|| panic!("group {at} does not find the error"));
@@ -31,6 +46,12 @@ fn nothing_is_found_in_the_reference_itself() {
     for group in groups {
         let mut run = Comparison::new("itself", 7);
         run.rings = REFERENCE;
+        group(&mut run);
+    }
+    let groups: [Group; 2] = [cards::one_number, cards::any];
+    for group in groups {
+        let mut run = Comparison::new("itself", 7);
+        run.edits = edits::REFERENCE;
         group(&mut run);
     }
 }
@@ -112,4 +133,70 @@ fn a_record_past_commit() {
 #[test]
 fn a_place_that_counts_from_the_ring() {
     found_by(&[rings::takes, rings::lives], planted::A_PLACE_THAT_COUNTS_FROM_THE_RING);
+}
+
+#[test]
+fn a_card_that_stays() {
+    found_in_cards_by(
+        &[cards::shifts, cards::any, removals::on_any_file],
+        planted::A_CARD_THAT_STAYS,
+    );
+}
+
+#[test]
+fn a_card_that_a_refusal_empties() {
+    found_in_cards_by(
+        &[cards::shifts, cards::any, removals::on_any_file],
+        planted::A_CARD_THAT_A_REFUSAL_EMPTIES,
+    );
+}
+
+#[test]
+fn a_card_of_the_file_as_it_is() {
+    found_in_cards_by(&[cards::shifts, cards::any], planted::A_CARD_OF_THE_FILE_AS_IT_IS);
+}
+
+#[test]
+fn a_number_that_stops_at_0() {
+    found_in_cards_by(
+        &[cards::one_number, removals::on_any_file],
+        planted::A_NUMBER_THAT_STOPS_AT_0,
+    );
+}
+
+#[test]
+fn a_sum_that_wraps() {
+    found_in_cards_by(
+        &[cards::one_number, cards::any, removals::on_any_file],
+        planted::A_SUM_THAT_WRAPS,
+    );
+}
+
+#[test]
+fn a_bound_that_is_asked_if_it_moves() {
+    found_in_cards_by(
+        &[cards::one_number, cards::any, removals::on_any_file],
+        planted::A_BOUND_THAT_IS_ASKED_IF_IT_MOVES,
+    );
+}
+
+#[test]
+fn a_length_below_a_header() {
+    found_in_cards_by(
+        &[cards::one_number, removals::on_any_file],
+        planted::A_LENGTH_BELOW_A_HEADER,
+    );
+}
+
+#[test]
+fn a_card_before_room() {
+    found_in_cards_by(&[cards::shifts, removals::on_any_file], planted::A_CARD_BEFORE_ROOM);
+}
+
+#[test]
+fn an_edit_that_writes_before_its_card() {
+    found_in_cards_by(
+        &[cards::one_number, cards::any, removals::on_any_file],
+        planted::AN_EDIT_THAT_WRITES_BEFORE_ITS_CARD,
+    );
 }
