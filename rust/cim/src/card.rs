@@ -12,12 +12,12 @@ use std::ffi::OsStr;
 pub const COMMAND: Command = Command {
     name: "card",
     usage: &["FILE"],
-    about: "print the sizes of its canonical form",
+    about: "the sizes of its canonical form",
     help: "\
 Prints the card of the snapshot's canonical form: its length, how many sections it has, how many
 devices, and the bytes of their payloads together:
 
-  436 bytes, 5 sections, 4 devices with 52 bytes
+  424 bytes, 5 sections, 4 devices with 52 bytes
 
 The commands that add, remove and replace print the card of what they write, with --card.
 ",
