@@ -60,6 +60,8 @@ enum {
     CIMBROLAU_EMPTY = 23,    /* nothing is committed; at 0 */
     CIMBROLAU_RECORD = 24,   /* committed record runs past commit or the ring's end, or a skip reaches commit; at 0 */
     CIMBROLAU_ABSENT = 25,   /* entry to be removed or replaced isn't there; at 0 */
+    CIMBROLAU_PAYLOAD = 26,  /* of many devices at once: a payload lies outside the bytes that hold them; at 0 */
+    CIMBROLAU_CARD = 28,     /* a number of an untrue card would leave its bounds; at 0 */
     CIMBROLAU_TURN = 29      /* cursors given out of turn; at 0 */
 };
 
@@ -91,6 +93,8 @@ static inline const char *cimbrolau_name(uint32_t number) {
     case CIMBROLAU_EMPTY: return "EMPTY";
     case CIMBROLAU_RECORD: return "RECORD";
     case CIMBROLAU_ABSENT: return "ABSENT";
+    case CIMBROLAU_PAYLOAD: return "PAYLOAD";
+    case CIMBROLAU_CARD: return "CARD";
     case CIMBROLAU_TURN: return "TURN";
     default: return NULL;
     }
@@ -190,23 +194,53 @@ struct cimbrolau_meta cimbrolau_meta(const uint8_t *file, size_t file_length);
 struct cimbrolau_answer cimbrolau_canonical(const uint8_t *file, size_t file_length, uint8_t *out, size_t out_length);
 
 /*
+ * A card: what is shown of a canonical file after each edit, with no walk over the file. cimbrolau_open makes that of a file's canonical form; each edit
+ * takes a card and hands back the one of its result.
+ */
+struct cimbrolau_card {
+    uint64_t length;   /* of the canonical form, 16 to 1024 MiB */
+    uint64_t sections; /* how many it has, up to 64 */
+    uint64_t devices;  /* up to 4096 */
+    uint64_t payloads; /* the bytes of the devices' payloads together, up to 256 MiB */
+};
+
+/* What opening and editing answer. The index is 0 in the calls of one entry. */
+struct cimbrolau_edited {
+    uint32_t number;
+    uint32_t index;
+    uint64_t place;
+    struct cimbrolau_card card;
+};
+
+/* Whether a file follows the rules, and the card of its canonical form; beside a refusal the card's numbers are 0. */
+struct cimbrolau_edited cimbrolau_open(const uint8_t *file, size_t file_length);
+
+/*
+ * ---- edits, each beside the card of the file
+ *
+ * Each number of the card moves by what the edit changes in the canonical form, so the card of the file becomes that of the result. The bytes written do
+ * not depend on it. A card that is not that of the file moves as well; if one of its numbers would leave its bounds, the edit is CIMBROLAU_CARD at 0, which
+ * comes after all else, CIMBROLAU_ROOM too. Beside every refusal the card comes back as it went in.
+ */
+
+/*
  * The canonical form of a file's content and one device or one disk more. What is wrong with the file comes first, with its own place; what is
  * wrong with the new entry or with the result is at 0: CIMBROLAU_LIMIT, CIMBROLAU_TEXT, CIMBROLAU_HAVE, CIMBROLAU_MANY, CIMBROLAU_SIZE.
  */
-struct cimbrolau_answer cimbrolau_add_device(const uint8_t *file, size_t file_length, uint32_t id, uint16_t version, uint16_t flags, const uint8_t *payload, size_t payload_length, uint8_t *out, size_t out_length);
+struct cimbrolau_edited cimbrolau_add_device(const uint8_t *file, size_t file_length, struct cimbrolau_card card, uint32_t id, uint16_t version, uint16_t flags, const uint8_t *payload, size_t payload_length, uint8_t *out, size_t out_length);
 
-struct cimbrolau_answer cimbrolau_add_disk(const uint8_t *file, size_t file_length, uint32_t id, const uint8_t *base, size_t base_length, const uint8_t *overlay, size_t overlay_length, uint8_t *out, size_t out_length);
+struct cimbrolau_edited cimbrolau_add_disk(const uint8_t *file, size_t file_length, struct cimbrolau_card card, uint32_t id, const uint8_t *base, size_t base_length, const uint8_t *overlay, size_t overlay_length, uint8_t *out, size_t out_length);
 
 /*
  * The canonical form of a file's content without one of its devices or disks; the last entry's removal removes its section. What is wrong with the
  * file comes first; an entry that isn't there is CIMBROLAU_ABSENT at 0.
  */
-struct cimbrolau_answer cimbrolau_remove_device(const uint8_t *file, size_t file_length, uint32_t id, uint16_t version, uint16_t flags, uint8_t *out, size_t out_length);
+struct cimbrolau_edited cimbrolau_remove_device(const uint8_t *file, size_t file_length, struct cimbrolau_card card, uint32_t id, uint16_t version, uint16_t flags, uint8_t *out, size_t out_length);
 
-struct cimbrolau_answer cimbrolau_remove_disk(const uint8_t *file, size_t file_length, uint32_t id, uint8_t *out, size_t out_length);
+struct cimbrolau_edited cimbrolau_remove_disk(const uint8_t *file, size_t file_length, struct cimbrolau_card card, uint32_t id, uint8_t *out, size_t out_length);
 
 /* The same with another payload in one of its devices, under the same key: CIMBROLAU_LIMIT, CIMBROLAU_ABSENT, CIMBROLAU_LIMIT, CIMBROLAU_SIZE, all at 0. */
-struct cimbrolau_answer cimbrolau_replace_device(const uint8_t *file, size_t file_length, uint32_t id, uint16_t version, uint16_t flags, const uint8_t *payload, size_t payload_length, uint8_t *out, size_t out_length);
+struct cimbrolau_edited cimbrolau_replace_device(const uint8_t *file, size_t file_length, struct cimbrolau_card card, uint32_t id, uint16_t version, uint16_t flags, const uint8_t *payload, size_t payload_length, uint8_t *out, size_t out_length);
 
 /* ---- disk-controller wrappers */
 
@@ -414,8 +448,9 @@ struct cimbrolau_access cimbrolau_access(uint32_t word);
 #error "the records of tables have their low bytes first"
 #endif
 
-#define CIMBROLAU_LAYOUT(record, member, place) \
-    typedef char cimbrolau_layout_##record##_##member[offsetof(struct cimbrolau_##record, member) == (place) && sizeof(struct cimbrolau_##record) == 32 ? 1 : -1]
+#define CIMBROLAU_LAYOUT_OF(size, record, member, place) \
+    typedef char cimbrolau_layout_##record##_##member[offsetof(struct cimbrolau_##record, member) == (place) && sizeof(struct cimbrolau_##record) == (size) ? 1 : -1]
+#define CIMBROLAU_LAYOUT(record, member, place) CIMBROLAU_LAYOUT_OF(32, record, member, place)
 
 CIMBROLAU_LAYOUT(section, version, 4);
 CIMBROLAU_LAYOUT(section, flags, 6);
@@ -443,8 +478,15 @@ CIMBROLAU_LAYOUT(controller, tag, 4);
 CIMBROLAU_LAYOUT(controller, offset, 8);
 CIMBROLAU_LAYOUT(controller, length, 16);
 CIMBROLAU_LAYOUT(controller, position, 24);
+CIMBROLAU_LAYOUT(card, sections, 8);
+CIMBROLAU_LAYOUT(card, devices, 16);
+CIMBROLAU_LAYOUT(card, payloads, 24);
+CIMBROLAU_LAYOUT_OF(48, edited, index, 4);
+CIMBROLAU_LAYOUT_OF(48, edited, place, 8);
+CIMBROLAU_LAYOUT_OF(48, edited, card, 16);
 
 #undef CIMBROLAU_LAYOUT
+#undef CIMBROLAU_LAYOUT_OF
 
 #ifdef __cplusplus
 }

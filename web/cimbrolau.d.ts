@@ -28,7 +28,7 @@ export const MESSAGES: ReadonlyArray<readonly [tag: number, kind: string, fields
 export interface Call {
   readonly name: string;
   readonly answer: ReadonlyArray<{ readonly name: string; readonly type: 'u32' | 'i32' | 'u64' | 'size'; readonly at: number }>;
-  readonly parameters: ReadonlyArray<{ readonly name: string; readonly kind: 'in' | 'out' | 'both' | 'u16' | 'u32' | 'u64' }>;
+  readonly parameters: ReadonlyArray<{ readonly name: string; readonly kind: 'in' | 'out' | 'both' | 'card' | 'u16' | 'u32' | 'u64' }>;
 }
 /** The calls of include/cimbrolau.h as data. */
 export const calls: readonly Call[];
@@ -63,6 +63,21 @@ export interface Mmu {
 export interface Cpu extends Mmu {
   blobOffset: number;
   blobLength: number;
+}
+/** What is shown of a canonical file, kept up to date by the edits. */
+export interface Card {
+  length: number;
+  sections: number;
+  devices: number;
+  /** The bytes of the devices' payloads together. */
+  payloads: number;
+}
+/** A card as it is passed: any numbers of 64 bits. */
+export type AnyCard = { [number in keyof Card]: number | bigint };
+/** What an edit gives: the canonical form of the result, and its card. */
+export interface Edited {
+  file: Bytes;
+  card: Card;
 }
 /** What META says of a snapshot; the time is in milliseconds. */
 export interface Meta {
@@ -112,6 +127,8 @@ export interface Answer {
   /** What was written, where an output was lent by its length. */
   written?: Bytes;
 }
+/** The numbers of the card stand beside number and place; beside a refusal they are those of the card that was given. */
+export type AnswerWithCard = Answer & { index: number; length: bigint; sections: bigint; devices: bigint; payloads: bigint };
 export type Lent = Bytes | number;
 /** The calls as C has them. A refusal is an answer. */
 export interface Raw {
@@ -123,11 +140,12 @@ export interface Raw {
   mmus(file: Bytes, table: Lent): Answer;
   meta(file: Bytes): Answer & { present: number; id: bigint; has_parent: number; has_label: number; parent: bigint; time: bigint; label_place: number; label_length: number };
   canonical(file: Bytes, out: Lent): Answer;
-  add_device(file: Bytes, id: number, version: number, flags: number, payload: Bytes, out: Lent): Answer;
-  add_disk(file: Bytes, id: number, base: Bytes, overlay: Bytes, out: Lent): Answer;
-  remove_device(file: Bytes, id: number, version: number, flags: number, out: Lent): Answer;
-  remove_disk(file: Bytes, id: number, out: Lent): Answer;
-  replace_device(file: Bytes, id: number, version: number, flags: number, payload: Bytes, out: Lent): Answer;
+  open(file: Bytes): AnswerWithCard;
+  add_device(file: Bytes, card: AnyCard, id: number, version: number, flags: number, payload: Bytes, out: Lent): AnswerWithCard;
+  add_disk(file: Bytes, card: AnyCard, id: number, base: Bytes, overlay: Bytes, out: Lent): AnswerWithCard;
+  remove_device(file: Bytes, card: AnyCard, id: number, version: number, flags: number, out: Lent): AnswerWithCard;
+  remove_disk(file: Bytes, card: AnyCard, id: number, out: Lent): AnswerWithCard;
+  replace_device(file: Bytes, card: AnyCard, id: number, version: number, flags: number, payload: Bytes, out: Lent): AnswerWithCard;
   wrapper_check(wrapper: Bytes): Answer;
   controllers(wrapper: Bytes, table: Lent): Answer;
   wrapper_canonical(wrapper: Bytes, out: Lent): Answer;
@@ -162,11 +180,13 @@ export class Cimbrolau {
   mmus(file: Bytes): Mmu[];
   meta(file: Bytes): Meta | undefined;
   canonical(file: Bytes): Bytes;
-  addDevice(file: Bytes, key: DeviceKey, payload: Bytes): Bytes;
-  addDisk(file: Bytes, id: number, base: Text, overlay: Text): Bytes;
-  removeDevice(file: Bytes, key: DeviceKey): Bytes;
-  removeDisk(file: Bytes, id: number): Bytes;
-  replaceDevice(file: Bytes, key: DeviceKey, payload: Bytes): Bytes;
+  /** The card of the canonical form. */
+  open(file: Bytes): Card;
+  addDevice(file: Bytes, card: AnyCard, key: DeviceKey, payload: Bytes): Edited;
+  addDisk(file: Bytes, card: AnyCard, id: number, base: Text, overlay: Text): Edited;
+  removeDevice(file: Bytes, card: AnyCard, key: DeviceKey): Edited;
+  removeDisk(file: Bytes, card: AnyCard, id: number): Edited;
+  replaceDevice(file: Bytes, card: AnyCard, key: DeviceKey, payload: Bytes): Edited;
 
   wrapperCheck(wrapper: Bytes): void;
   controllers(wrapper: Bytes): Controller[];

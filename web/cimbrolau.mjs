@@ -32,6 +32,8 @@ export const REFUSALS = [
   [23, 'EMPTY', 'nothing is committed'],
   [24, 'RECORD', 'committed record or skip runs too far'],
   [25, 'ABSENT', "entry to be changed isn't there"],
+  [26, 'PAYLOAD', 'payload outside the bytes that hold them'],
+  [28, 'CARD', 'number of an untrue card would leave its bounds'],
   [29, 'TURN', 'cursors given out of turn'],
 ];
 
@@ -69,8 +71,8 @@ export class TooLarge extends RangeError {
 }
 
 /*
- * The calls: what each answers, its name, and its parameters in order. A parameter with a type is a number; `file` and the like are bytes that are read,
- * `>out` bytes that are lent to be written, `=region` bytes that are changed in place.
+ * The calls: what each answers, its name, and its parameters in order. A parameter with a type is a number, or a card; `file` and the like are bytes that are
+ * read, `>out` bytes that are lent to be written, `=region` bytes that are changed in place.
  */
 const CALLS = `
   answer   check              file
@@ -81,11 +83,12 @@ const CALLS = `
   answer   mmus               file >table
   meta     meta               file
   answer   canonical          file >out
-  answer   add_device         file id:u32 version:u16 flags:u16 payload >out
-  answer   add_disk           file id:u32 base overlay >out
-  answer   remove_device      file id:u32 version:u16 flags:u16 >out
-  answer   remove_disk        file id:u32 >out
-  answer   replace_device     file id:u32 version:u16 flags:u16 payload >out
+  edited   open               file
+  edited   add_device         file card:card id:u32 version:u16 flags:u16 payload >out
+  edited   add_disk           file card:card id:u32 base overlay >out
+  edited   remove_device      file card:card id:u32 version:u16 flags:u16 >out
+  edited   remove_disk        file card:card id:u32 >out
+  edited   replace_device     file card:card id:u32 version:u16 flags:u16 payload >out
   answer   wrapper_check      wrapper
   answer   controllers        wrapper >table
   answer   wrapper_canonical  wrapper >out
@@ -111,6 +114,7 @@ const CALLS = `
  */
 const ANSWERS = {
   answer: 'number:u32 place:size',
+  edited: 'number:u32 index:u32 place:size length:u64 sections:u64 devices:u64 payloads:u64',
   ready: 'number:u32 yes:u32 place:size',
   meta: 'number:u32 present:u32 place:size id:u64 has_parent:u32 has_label:u32 parent:u64 time:u64 label_place:size label_length:size',
   message: 'number:u32 place:size tag:u32 a:u64 b:u64 c:u64 d:u64 data_place:size data_length:size',
@@ -145,7 +149,7 @@ const FIELDS = Object.fromEntries(
   }),
 );
 
-/** The calls as data: name, answer (its fields in order), and parameters, each with its name and what it is: `in`, `out`, `both`, `u16`, `u32` or `u64`. */
+/** The calls as data: name, answer (its fields in order), and parameters, each with its name and what it is: `in`, `out`, `both`, `card`, `u16`, `u32` or `u64`. */
 export const calls = CALLS.trim()
   .split('\n')
   .map((line) => {
@@ -174,6 +178,17 @@ function passed({ name, kind }, value) {
   const fits = typeof value === 'bigint' ? value >= 0n && value < 1n << BigInt(bits) : Number.isSafeInteger(value) && value >= 0 && value < 2 ** bits;
   if (!fits) throw new TypeError(`${name}: ${value} is no whole number of ${bits} bits`);
   return bits === 64 ? BigInt(value) : Number(value);
+}
+
+/** The numbers of a card, in the order of C. */
+const CARD = words('length sections devices payloads');
+
+/** A card as C lays it out. Its numbers have 64 bits: Numbers, or BigInts. */
+function cardBytes(card) {
+  const bytes = new Uint8Array(32);
+  const view = new DataView(bytes.buffer);
+  CARD.forEach((name, at) => view.setBigUint64(8 * at, passed({ name, kind: 'u64' }, card?.[name]), true));
+  return bytes;
 }
 
 const ALIGNED = 16;
@@ -235,12 +250,15 @@ export class Cimbrolau {
     const answer = place(last.at + WIDTH[last.type]);
     const parts = call.parameters.map((parameter, at) => {
       if (!lends(parameter)) return null;
+      const { kind } = parameter;
+      // A card is passed by where a copy of it stands.
+      if (kind === 'card') return { kind: 'in', bytes: cardBytes(given[at]), length: 32, start: place(32), alone: true };
       const bytes = given[at];
       // An output may be lent by its length alone.
-      const length = parameter.kind === 'out' && typeof bytes === 'number' ? bytes : isBytes(bytes) ? bytes.length : NaN;
+      const length = kind === 'out' && typeof bytes === 'number' ? bytes : isBytes(bytes) ? bytes.length : NaN;
       if (Number.isNaN(length)) throw new TypeError(`${parameter.name}: a Uint8Array is wanted`);
       if (length > MOST_LENT) throw new TooLarge(`${parameter.name}: ${whole(length)} bytes; with addresses of 32 bits at most ${whole(MOST_LENT)} can be lent at once`);
-      return { kind: parameter.kind, bytes, length, start: place(length) };
+      return { kind, bytes, length, start: place(length) };
     });
     if (end > MOST_MEMORY) throw new TooLarge(`this call needs ${whole(end)} bytes of memory at once; addresses of 32 bits have at most ${whole(MOST_MEMORY)}`);
     return { answer, parts, end };
@@ -259,7 +277,7 @@ export class Cimbrolau {
       const memory = new Uint8Array(exports.memory.buffer);
       for (const part of parts) if (part && isBytes(part.bytes)) memory.set(part.bytes, part.start);
       this.#watch?.before(memory, parts);
-      const passing = parts.flatMap((part, at) => (part ? [part.start, BigInt(part.length)] : [numbers[at]]));
+      const passing = parts.flatMap((part, at) => (!part ? [numbers[at]] : part.alone ? [part.start] : [part.start, BigInt(part.length)]));
       exports[`cimbrolau_${call.name}`](answer, ...passing);
       ended = true;
       this.#watch?.after(memory, parts);
@@ -347,30 +365,45 @@ export class Cimbrolau {
     return this.#do('canonical', file, atMost(file.length)).written;
   }
 
-  /** The canonical form with one device more. A device's key is its id, version and flags. */
-  addDevice(file, { id, version, flags }, payload) {
-    return this.#do('add_device', file, id, version, flags, payload, atMost(file.length + 36 + payload.length)).written;
+  /** The card of the canonical form: its length, its sections, its devices, and the bytes of their payloads together. */
+  open(file) {
+    return cardOf(this.#do('open', file));
   }
 
-  /** The canonical form with one disk more. Base and overlay are texts, or bytes. */
-  addDisk(file, id, base, overlay) {
+  /*
+   * The edits take the card of the file, which `open` and every edit give, and answer `file`, the canonical form of the result, and `card`, its card. The bytes do
+   * not depend on the card; beside one that is not the file's an edit is CARD where a number of it would leave its bounds.
+   */
+
+  /** One device more. A device's key is its id, version and flags. */
+  addDevice(file, card, { id, version, flags }, payload) {
+    return this.#edit('add_device', file, card, id, version, flags, payload, atMost(file.length + 36 + payload.length));
+  }
+
+  /** One disk more. Base and overlay are texts, or bytes. */
+  addDisk(file, card, id, base, overlay) {
     const [one, two] = [base, overlay].map(bytesOf);
-    return this.#do('add_disk', file, id, one, two, atMost(file.length + 32 + one.length + two.length)).written;
+    return this.#edit('add_disk', file, card, id, one, two, atMost(file.length + 32 + one.length + two.length));
   }
 
-  /** The canonical form without one of its devices. */
-  removeDevice(file, { id, version, flags }) {
-    return this.#do('remove_device', file, id, version, flags, atMost(file.length)).written;
+  /** One of its devices fewer. */
+  removeDevice(file, card, { id, version, flags }) {
+    return this.#edit('remove_device', file, card, id, version, flags, atMost(file.length));
   }
 
-  /** The canonical form without one of its disks. */
-  removeDisk(file, id) {
-    return this.#do('remove_disk', file, id, atMost(file.length)).written;
+  /** One of its disks fewer. */
+  removeDisk(file, card, id) {
+    return this.#edit('remove_disk', file, card, id, atMost(file.length));
   }
 
-  /** The canonical form with another payload in one of its devices. */
-  replaceDevice(file, { id, version, flags }, payload) {
-    return this.#do('replace_device', file, id, version, flags, payload, atMost(file.length + payload.length)).written;
+  /** Another payload in one of its devices. */
+  replaceDevice(file, card, { id, version, flags }, payload) {
+    return this.#edit('replace_device', file, card, id, version, flags, payload, atMost(file.length + payload.length));
+  }
+
+  #edit(name, ...given) {
+    const edited = this.#do(name, ...given);
+    return { file: edited.written, card: cardOf(edited) };
   }
 
   // ---- disk-controller wrappers
@@ -525,6 +558,9 @@ function store(bytes, now) {
   while (to > from && bytes[to - 1] === now[to - 1]) to -= 1;
   if (from < to) bytes.set(now.subarray(from, to), from);
 }
+
+/** The card in an answer. That of a call which is taken is within its bounds, so that Numbers have room for it. */
+const cardOf = (edited) => Object.fromEntries(CARD.map((name) => [name, Number(edited[name])]));
 
 /** The output of a call on files is never longer than a file may be. */
 const atMost = (bytes) => Math.min(bytes, MOST_FILE);

@@ -27,18 +27,20 @@ function panel() {
   const ram = Array.from({ length: 96 << 10 }, (_, at) => (at * 7) & 255);
   let file = new Uint8Array([...ascii('AEROSNAP'), 1, 0, 1, 0, 0, 0, 0, 0, ...section(6, 1, ram), ...section(3, 2, new Array(264).fill(0)), ...section(2, 2, new Array(1183).fill(0)), ...section(1, 1, meta)]);
   const wrapper = new Uint8Array([...ascii('AERO'), 1, 0, 0, 0, ...ascii('DSKC'), 1, 0, 0, 0, 1, 0, 0, 0, 250, 0, 0, 0, ...ascii('AHCP'), ...le(4, 640), ...new Array(640).fill(5)]);
+  let card = cimbrolau.open(file);
   for (const [id, length] of [[3, 96], [4, 128], [6, 0], [7, 2048], [13, 40], [16, 64], [17, 288], [19, 1500], [21, 400]]) {
-    file = cimbrolau.addDevice(file, { id, version: 1, flags: 0 }, id === 6 ? wrapper : new Uint8Array(length).fill(id));
+    ({ file, card } = cimbrolau.addDevice(file, card, { id, version: 1, flags: 0 }, id === 6 ? wrapper : new Uint8Array(length).fill(id)));
   }
-  file = cimbrolau.addDisk(file, 0, 'panel.img', 'panel-night.overlay');
-  return cimbrolau.addDisk(file, 1, 'messwerte-übersicht.img', '');
+  ({ file, card } = cimbrolau.addDisk(file, card, 0, 'panel.img', 'panel-night.overlay'));
+  return cimbrolau.addDisk(file, card, 1, 'messwerte-übersicht.img', '');
 }
 
-const good = panel();
+const { file: good, card: goodCard } = panel();
 const damaged = good.slice();
 const disk = cimbrolau.disks(good)[1];
 damaged[disk.baseOffset + 11] = 0xfc; // the letter in another encoding
-const lesser = cimbrolau.replaceDevice(cimbrolau.removeDisk(good, 1), { id: 4, version: 1, flags: 0 }, new Uint8Array(5));
+const fewer = cimbrolau.removeDisk(good, goodCard, 1);
+const { file: lesser } = cimbrolau.replaceDevice(fewer.file, fewer.card, { id: 4, version: 1, flags: 0 }, new Uint8Array(5));
 const names = { 'panel.aerosnap': good, 'panel-damaged.aerosnap': damaged, 'panel-lesser.aerosnap': lesser, 'nothing.aerosnap': new Uint8Array() };
 for (const [name, bytes] of Object.entries(names)) writeFileSync(join(folder, name), bytes);
 const path = (name) => join(folder, name);
@@ -250,7 +252,7 @@ const tests = {
   },
   async 'names that would hide something'() {
     await open();
-    const file = cimbrolau.addDisk(good, 2, 'a\u202egmi.x', '<img src=x>');
+    const { file } = cimbrolau.addDisk(good, goodCard, 2, 'a\u202egmi.x', '<img src=x>');
     writeFileSync(path('hidden.aerosnap'), file);
     await choose('hidden.aerosnap');
     const words = await text();

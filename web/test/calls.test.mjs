@@ -36,6 +36,7 @@ test('the table of calls is the header', () => {
       }
       if (type === 'const uint8_t *') return [{ name: plain, kind: 'in' }];
       if (type === 'uint8_t *') return [{ name: plain, kind: at === 0 ? 'both' : 'out' }];
+      if (type === 'struct cimbrolau_card') return [{ name: plain, kind: 'card' }];
       return [{ name: plain, kind: type.replace(/^uint(\d+)_t$/, 'u$1') }];
     });
     return { answer, name, parameters };
@@ -44,8 +45,9 @@ test('the table of calls is the header', () => {
     calls.map(({ name, parameters }) => ({ name, parameters })).sort((one, next) => (one.name < next.name ? -1 : 1)),
     declared.map(({ name, parameters }) => ({ name, parameters })).sort((one, next) => (one.name < next.name ? -1 : 1)),
   );
+  const bodyOf = (struct) => header.match(new RegExp(`^struct cimbrolau_${struct} \\{\\n([^}]*)\\}`, 'm'))[1];
   for (const { answer, name } of declared) {
-    const [, body] = header.match(new RegExp(`^struct cimbrolau_${answer} \\{\\n([^}]*)\\}`, 'm'));
+    const body = bodyOf(answer).replace(/^ +struct cimbrolau_card card;\n/m, bodyOf('card'));
     const fields = [...body.matchAll(/^ +(u?int\d+)_t ([\w, ]+);/gm)].flatMap(([, type, list]) => list.split(', ').map((field) => `${field} ${type}`));
     const types = { u32: 'uint32', i32: 'int32', u64: 'uint64', size: 'uint64' };
     assert.deepEqual(calls.find((call) => call.name === name).answer.map((field) => `${field.name} ${types[field.type]}`), fields, name);
@@ -94,13 +96,41 @@ test('a file: its tables, its form, and edits', () => {
   const form = cimbrolau.canonical(panel);
   assert.deepEqual(cimbrolau.canonical(form), form);
   const key = { id: 77, version: 1, flags: 0 };
-  const more = cimbrolau.addDevice(panel, key, new Uint8Array([1, 2, 3]));
-  assert.equal(cimbrolau.devices(more).length, cimbrolau.devices(panel).length + 1);
-  assert.deepEqual(cimbrolau.removeDevice(more, key), form);
-  assert.deepEqual(cimbrolau.replaceDevice(cimbrolau.addDevice(panel, key, new Uint8Array()), key, new Uint8Array([1, 2, 3])), more);
-  assert.deepEqual(cimbrolau.removeDisk(cimbrolau.addDisk(panel, 900, 'base', 'ü'), 900), form);
-  assert.throws(() => cimbrolau.addDevice(more, key, new Uint8Array()), refused('HAVE', 0));
-  assert.throws(() => cimbrolau.removeDisk(panel, 900), refused('ABSENT', 0));
+  const card = cimbrolau.open(panel);
+  assert.deepEqual(card, { length: 424, sections: 5, devices: 4, payloads: 52 });
+  const more = cimbrolau.addDevice(panel, card, key, new Uint8Array([1, 2, 3]));
+  assert.deepEqual(more.card, { length: 443, sections: 5, devices: 5, payloads: 55 });
+  assert.equal(cimbrolau.devices(more.file).length, cimbrolau.devices(panel).length + 1);
+  assert.deepEqual(cimbrolau.removeDevice(more.file, more.card, key), { file: form, card });
+  const empty = cimbrolau.addDevice(panel, card, key, new Uint8Array());
+  assert.deepEqual(cimbrolau.replaceDevice(empty.file, empty.card, key, new Uint8Array([1, 2, 3])), more);
+  const disk900 = cimbrolau.addDisk(panel, card, 900, 'base', 'ü');
+  assert.deepEqual(cimbrolau.open(disk900.file), disk900.card);
+  assert.deepEqual(cimbrolau.removeDisk(disk900.file, disk900.card, 900), { file: form, card });
+  assert.throws(() => cimbrolau.addDevice(more.file, more.card, key, new Uint8Array()), refused('HAVE', 0));
+  assert.throws(() => cimbrolau.removeDisk(panel, card, 900), refused('ABSENT', 0));
+});
+
+test('an untrue card moves as well, up to its bounds, and a refusal hands it back', () => {
+  const key = { id: 77, version: 1, flags: 0 };
+  const card = cimbrolau.open(panel);
+  const { file } = cimbrolau.addDevice(panel, card, key, new Uint8Array(3));
+  const other = cimbrolau.addDevice(panel, { length: 1000n, sections: 64, devices: 0, payloads: 0n }, key, new Uint8Array(3));
+  assert.deepEqual(other, { file, card: { length: 1019, sections: 64, devices: 1, payloads: 3 } });
+  for (const number of [{ devices: 4096 }, { length: 2 ** 30 }, { payloads: 2n ** 64n - 1n }]) {
+    const untrue = { ...card, ...number };
+    assert.throws(() => cimbrolau.addDevice(panel, untrue, key, new Uint8Array(3)), refused('CARD', 0));
+    const out = new Uint8Array(500).fill(7);
+    const { number: refusal, length, sections, devices, payloads } = cimbrolau.raw.add_device(panel, untrue, 77, 1, 0, new Uint8Array(3), out);
+    assert.deepEqual([refusal, length, sections, devices, payloads], [28, ...['length', 'sections', 'devices', 'payloads'].map((name) => BigInt(untrue[name]))]);
+    assert.ok(out.every((byte) => byte === 7));
+  }
+  // An answer is a card as well.
+  const opened = cimbrolau.raw.open(panel);
+  assert.equal(cimbrolau.raw.remove_device(panel, opened, 3, 1, 0, 500).devices, 3n);
+  assert.throws(() => cimbrolau.removeDisk(panel, undefined, 1), TypeError);
+  assert.throws(() => cimbrolau.removeDisk(panel, { ...card, length: -1 }, 1), TypeError);
+  assert.throws(() => cimbrolau.removeDisk(panel, { ...card, length: 2n ** 64n }, 1), TypeError);
 });
 
 test('refusals have a number, a name, a place and words', () => {
@@ -127,11 +157,11 @@ test('readiness', () => {
   const all = [3, 4, 6, 13, 16, 17, 21].map((id) => ({ what: 'device', id }));
   const disks = [0, 1].map((id) => ({ what: 'disk', id }));
   assert.deepEqual(cimbrolau.ready(EMPTY), [...all, ...disks]);
-  let file = EMPTY;
+  let { file, card } = { file: EMPTY, card: cimbrolau.open(EMPTY) };
   const wrapper = new Uint8Array([...ascii('AERO'), 1, 0, 0, 0, ...ascii('DSKC'), 1, 0, 0, 0, 0, 0, 0, 0]);
-  for (const id of [3, 4, 6, 13, 16, 17, 2]) file = cimbrolau.addDevice(file, { id, version: 1, flags: 0 }, id === 6 ? wrapper : new Uint8Array());
+  for (const id of [3, 4, 6, 13, 16, 17, 2]) ({ file, card } = cimbrolau.addDevice(file, card, { id, version: 1, flags: 0 }, id === 6 ? wrapper : new Uint8Array()));
   assert.deepEqual(cimbrolau.ready(file), disks);
-  for (const { id } of disks) file = cimbrolau.addDisk(file, id, 'base', '');
+  for (const { id } of disks) ({ file, card } = cimbrolau.addDisk(file, card, id, 'base', ''));
   assert.deepEqual(cimbrolau.ready(file), []);
   assert.throws(() => cimbrolau.ready(file.slice(0, 9)), refused('SHORT', 0));
 });
@@ -237,9 +267,9 @@ test('states', () => {
 test('arguments that are none', () => {
   assert.throws(() => cimbrolau.check([1, 2]), TypeError);
   assert.throws(() => cimbrolau.raw.check(), TypeError);
-  assert.throws(() => cimbrolau.removeDevice(panel, { id: 2 ** 32, version: 0, flags: 0 }), TypeError);
-  assert.throws(() => cimbrolau.removeDevice(panel, { id: 1, version: 65536, flags: 0 }), TypeError);
-  assert.throws(() => cimbrolau.removeDevice(panel, { id: 1.5, version: 0, flags: 0 }), TypeError);
+  assert.throws(() => cimbrolau.removeDevice(panel, cimbrolau.open(panel), { id: 2 ** 32, version: 0, flags: 0 }), TypeError);
+  assert.throws(() => cimbrolau.removeDevice(panel, cimbrolau.open(panel), { id: 1, version: 65536, flags: 0 }), TypeError);
+  assert.throws(() => cimbrolau.removeDevice(panel, cimbrolau.open(panel), { id: 1.5, version: 0, flags: 0 }), TypeError);
 });
 
 test('memory grows for a large file and is given back', () => {
@@ -263,9 +293,9 @@ test('what 32 bits do not reach is a clear error, and the library stays usable',
   const own = new Cimbrolau(module);
   const said = (words) => (error) => error instanceof TooLarge && words.test(error.message);
   assert.throws(() => own.raw.canonical(EMPTY, MOST_LENT + 1), said(/out: 2,147,483,648 bytes; .* at most 2,147,483,647/));
-  assert.throws(() => own.raw.add_device(EMPTY, 1, 1, 1, new Uint8Array(2 ** 31), 5), said(/payload: 2,147,483,648 bytes/));
+  assert.throws(() => own.raw.add_device(EMPTY, own.raw.open(EMPTY), 1, 1, 1, new Uint8Array(2 ** 31), 5), said(/payload: 2,147,483,648 bytes/));
   const half = new Uint8Array(MOST_LENT);
-  assert.throws(() => own.raw.add_device(half, 1, 1, 1, half, MOST_LENT), said(/at once; addresses of 32 bits have at most 4,294,901,760/));
+  assert.throws(() => own.raw.add_device(half, own.raw.open(EMPTY), 1, 1, 1, half, MOST_LENT), said(/at once; addresses of 32 bits have at most 4,294,901,760/));
   own.check(EMPTY);
 });
 

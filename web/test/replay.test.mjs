@@ -106,6 +106,9 @@ function recorded(reader, call, first) {
       if (!given.some(ArrayBuffer.isView)) first.bytes = bytes;
       if (kind === 'both') lent = bytes.slice();
       given.push(kind === 'both' ? bytes.slice() : bytes);
+    } else if (kind === 'card') {
+      const [length, sections, devices, payloads] = [0, 1, 2, 3].map(() => reader.u64());
+      given.push({ length, sections, devices, payloads });
     } else {
       given.push(reader.u64());
     }
@@ -149,7 +152,7 @@ test('the answers of the native library', () => {
     assert.ok(call, `${name} is not in the module's table`);
     const record = recorded(reader, call, first);
     const difference = compared(cimbrolau, call, record);
-    if (difference) assert.fail(`${name}, call ${made}: ${difference}\ngiven ${record.given.map((one) => (ArrayBuffer.isView(one) ? Buffer.from(one).toString('hex') : one)).join(' ')}`);
+    if (difference) assert.fail(`${name}, call ${made}: ${difference}\ngiven ${record.given.map((one) => (ArrayBuffer.isView(one) ? Buffer.from(one).toString('hex') : typeof one === 'object' ? Object.values(one).join(' ') : one)).join(' ')}`);
     counts.set(name, counts.get(name) + 1);
     inputs += BigInt(mark);
     made += 1n;

@@ -112,28 +112,47 @@ fn file_rows(case: Case, tell: Tell) {
     tell(reading_row("sections", &case, raw::sections, reference::sections));
     tell(reading_row("devices", &case, raw::devices, reference::devices));
     tell(writing_row("canonical", &case, raw::canonical, reference::canonical));
+    tell(reading_row(
+        "open",
+        &case,
+        |file, _| told(raw::open(file)),
+        |file, _| reference::open(file).answer(),
+    ));
+    let (card, other) = cards(case.file);
     // The key is new by its flags, and comes second.
     tell(writing_row(
         "add_device",
         &case,
-        |file, out| raw::add_device(file, 1, 1, 1, &[0x11; 64], out),
-        |file, out| reference::add_device(file, 1, 1, 1, &[0x11; 64], out),
+        |file, out| told(raw::add_device(file, card, 1, 1, 1, &[0x11; 64], out)),
+        |file, out| reference::add_device(file, other, 1, 1, 1, &[0x11; 64], out).answer(),
     ));
+}
+
+/// The card of a file, as each side has it.
+fn cards(file: &[u8]) -> (raw::Card, reference::Card) {
+    (raw::open(file).card, reference::open(file).card)
+}
+
+/// Number and place of an answer with a card.
+fn told(edited: raw::Edited) -> raw::Answer {
+    let raw::Edited { number, place, .. } = black_box(edited);
+    raw::Answer { number, place }
 }
 
 /// One device fewer and one payload exchanged: the first key's, which every such file has.
 fn edit_rows(case: Case, tell: Tell) {
+    let (card, other) = cards(case.file);
     tell(writing_row(
         "remove_device",
         &case,
-        |file, out| raw::remove_device(file, 1, 1, 0, out),
-        |file, out| reference::remove_device(file, 1, 1, 0, out),
+        |file, out| told(raw::remove_device(file, card, 1, 1, 0, out)),
+        |file, out| reference::remove_device(file, other, 1, 1, 0, out).answer(),
     ));
     tell(writing_row(
         "replace_device",
         &case,
-        |file, out| raw::replace_device(file, 1, 1, 0, &[0x22; 80], out),
-        |file, out| reference::replace_device(file, 1, 1, 0, &[0x22; 80], out),
+        |file, out| told(raw::replace_device(file, card, 1, 1, 0, &[0x22; 80], out)),
+        |file, out| reference::replace_device(file, other, 1, 1, 0, &[0x22; 80], out).answer(),
     ));
 }
 
@@ -142,11 +161,12 @@ fn disk_rows(case: Case, tell: Tell) {
     tell(reading_row("check", &case, |file, _| raw::check(file), |file, _| reference::check(file)));
     tell(reading_row("disks", &case, raw::disks, reference::disks));
     tell(writing_row("canonical", &case, raw::canonical, reference::canonical));
+    let (card, other) = cards(case.file);
     tell(writing_row(
         "add_disk",
         &case,
-        |file, out| raw::add_disk(file, 0, b"images/added.img", b"", out),
-        |file, out| reference::add_disk(file, 0, b"images/added.img", b"", out),
+        |file, out| told(raw::add_disk(file, card, 0, b"images/added.img", b"", out)),
+        |file, out| reference::add_disk(file, other, 0, b"images/added.img", b"", out).answer(),
     ));
 }
 

@@ -1,7 +1,8 @@
 //! `cim add-disk`: a snapshot with one disk more.
 
+use crate::card::{self, CARD};
 use crate::command::{with, Command, JSON, KEEP};
-use crate::failure::{of_snapshot, Failure};
+use crate::failure::Failure;
 use crate::files;
 use crate::words::Words;
 use cimbrolau::snapshot;
@@ -20,6 +21,7 @@ HAVE. The id is decimal, or hexadecimal behind 0x, up to 4294967295.
         with("--id", "N", "the disk's id"),
         with("--base", "TEXT", "the name of its base image"),
         with("--overlay", "TEXT", "the name of its overlay image"),
+        CARD,
         KEEP,
         JSON,
     ],
@@ -31,7 +33,7 @@ fn run(words: &Words) -> Result<(), Failure> {
     let id = words.number("--id", u32::MAX)?;
     let base = words.needed("--base")?.as_bytes();
     let overlay = words.needed("--overlay")?.as_bytes();
-    let target = files::claim(words, out)?;
+    let target = card::claim(words, out)?;
     let file = files::read(name, snapshot::MOST_BYTES)?;
-    target.put(&snapshot::add_disk(&file, id, base, overlay).map_err(of_snapshot(&file))?)
+    card::edit(words, &file, target, |it| it.add_disk(id, base, overlay))
 }

@@ -2,7 +2,7 @@
 //! follow.
 
 use crate::command::Command;
-use crate::{add_device, add_disk, canon, check, completions, diff, explain, extract, list};
+use crate::{add_device, add_disk, canon, card, check, completions, diff, explain, extract, list};
 use crate::{
     manual, message, ready, region, remove_device, remove_disk, replace_device, set, sheet, show,
     wrapper,
@@ -16,6 +16,7 @@ pub const ALL: &[Command] = &[
     sheet::COMMAND,
     diff::COMMAND,
     extract::COMMAND,
+    card::COMMAND,
     ready::COMMAND,
     canon::COMMAND,
     add_device::COMMAND,

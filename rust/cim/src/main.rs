@@ -31,6 +31,7 @@ mod words;
 mod add_device;
 mod add_disk;
 mod canon;
+mod card;
 mod check;
 mod commands;
 mod completions;

@@ -7,7 +7,7 @@
 use crate::names;
 use crate::shown::{name_of, size};
 use cimbrolau::snapshot::{self, Device, DeviceKey, Section};
-use cimbrolau::{region, wrapper, Kind, Message, Refusal, Result};
+use cimbrolau::{region, wrapper, Card, Kind, Message, Refusal, Result};
 use std::ffi::OsStr;
 use std::fmt::Write;
 use std::os::unix::ffi::OsStrExt;
@@ -90,7 +90,7 @@ impl Head {
 
 /// The key that a device with these first eight bytes has.
 fn device_key(bytes: &[u8]) -> Option<DeviceKey> {
-    let mut file = snapshot::add_device(&snapshot::EMPTY, (0, 0, 0), &[]).ok()?;
+    let mut file = snapshot::add_device(&snapshot::EMPTY, Card::EMPTY, (0, 0, 0), &[]).ok()?.0;
     let entry = snapshot::devices(&file).ok()?.first()?.offset as usize - HEADER;
     file[entry..entry + 8].copy_from_slice(bytes);
     snapshot::devices(&file).ok()?.first().map(Device::key)
@@ -98,7 +98,7 @@ fn device_key(bytes: &[u8]) -> Option<DeviceKey> {
 
 /// The id that a disk with these first four bytes has.
 fn disk_id(bytes: &[u8]) -> Option<u32> {
-    let mut file = snapshot::add_disk(&snapshot::EMPTY, 0, b"", b"").ok()?;
+    let mut file = snapshot::add_disk(&snapshot::EMPTY, Card::EMPTY, 0, b"", b"").ok()?.0;
     let entry = snapshot::disks(&file).ok()?.first()?.base_offset as usize - 8;
     file[entry..entry + 4].copy_from_slice(bytes);
     snapshot::disks(&file).ok()?.first().map(|disk| disk.id)
@@ -564,10 +564,11 @@ mod tests {
     /// Entries are found where bytes may follow a list as where they may not.
     #[test]
     fn entries_are_found_whatever_may_follow_them() {
-        let mut file = snapshot::EMPTY.to_vec();
+        let mut many = cimbrolau::Snapshot::empty();
         for id in 0..40u32 {
-            file = snapshot::add_device(&file, (id, 1, 0), &vec![7; id as usize % 5]).unwrap();
+            many.add_device((id, 1, 0), &vec![7; id as usize % 5]).unwrap();
         }
+        let file = many.bytes().to_vec();
         let devices = snapshot::devices(&file).unwrap();
         for check in [snapshot::check, lenient] {
             for (number, device) in (0..).zip(&devices) {

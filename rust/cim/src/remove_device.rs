@@ -1,7 +1,8 @@
 //! `cim remove-device`: a snapshot without one of its devices.
 
+use crate::card::{self, CARD};
 use crate::command::{with, Command, JSON, KEEP};
-use crate::failure::{of_snapshot, Failure};
+use crate::failure::Failure;
 use crate::files;
 use crate::words::Words;
 use cimbrolau::snapshot;
@@ -19,6 +20,7 @@ last device a snapshot loses its section of devices. Numbers are decimal, or hex
         with("--id", "N", "the device's id"),
         with("--version", "N", "the version of its payload"),
         with("--flags", "N", "its flags"),
+        CARD,
         KEEP,
         JSON,
     ],
@@ -30,8 +32,7 @@ fn run(words: &Words) -> Result<(), Failure> {
     let id = words.number("--id", u32::MAX)?;
     let version = words.number("--version", u16::MAX.into())? as u16;
     let flags = words.number("--flags", u16::MAX.into())? as u16;
-    let target = files::claim(words, out)?;
+    let target = card::claim(words, out)?;
     let file = files::read(name, snapshot::MOST_BYTES)?;
-    let fewer = snapshot::remove_device(&file, (id, version, flags));
-    target.put(&fewer.map_err(of_snapshot(&file))?)
+    card::edit(words, &file, target, |it| it.remove_device((id, version, flags)))
 }

@@ -1,7 +1,8 @@
 //! `cim remove-disk`: a snapshot without one of its disks.
 
+use crate::card::{self, CARD};
 use crate::command::{with, Command, JSON, KEEP};
-use crate::failure::{of_snapshot, Failure};
+use crate::failure::Failure;
 use crate::files;
 use crate::words::Words;
 use cimbrolau::snapshot;
@@ -14,14 +15,14 @@ pub const COMMAND: Command = Command {
 Writes the canonical form of the snapshot without that disk to OUT, which may be FILE. A disk that is
 not there is refused as ABSENT. With its last disk a snapshot loses its section of disks.
 ",
-    options: &[with("--id", "N", "the disk's id"), KEEP, JSON],
+    options: &[with("--id", "N", "the disk's id"), CARD, KEEP, JSON],
     run,
 };
 
 fn run(words: &Words) -> Result<(), Failure> {
     let [name, out] = words.plain("FILE and OUT")?;
     let id = words.number("--id", u32::MAX)?;
-    let target = files::claim(words, out)?;
+    let target = card::claim(words, out)?;
     let file = files::read(name, snapshot::MOST_BYTES)?;
-    target.put(&snapshot::remove_disk(&file, id).map_err(of_snapshot(&file))?)
+    card::edit(words, &file, target, |it| it.remove_disk(id))
 }

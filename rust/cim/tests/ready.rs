@@ -1,25 +1,25 @@
 //! `cim ready`: a yes, and a line for each thing that is missing.
 
-use cimbrolau::{snapshot, wrapper};
+use cimbrolau::{snapshot, wrapper, Snapshot};
 use std::fs;
 use std::path::Path;
 use std::process::{Command, Output};
 
 /// A panel that is ready, but for the devices with the ids `without`, and with these payloads of id 6, version 1 on.
 fn panel(without: &[u32], wrappers: &[&[u8]], disks: &[u32]) -> Vec<u8> {
-    let mut file = snapshot::EMPTY.to_vec();
+    let mut panel = Snapshot::empty();
     for id in [3, 4, 13, 16, 17, 21] {
         if !without.contains(&id) {
-            file = snapshot::add_device(&file, (id, 1, 0), b"").unwrap();
+            panel.add_device((id, 1, 0), b"").unwrap();
         }
     }
     for (payload, version) in wrappers.iter().zip(1..) {
-        file = snapshot::add_device(&file, (6, version, 0), payload).unwrap();
+        panel.add_device((6, version, 0), payload).unwrap();
     }
     for id in disks {
-        file = snapshot::add_disk(&file, *id, b"", b"").unwrap();
+        panel.add_disk(*id, b"", b"").unwrap();
     }
-    file
+    panel.bytes().to_vec()
 }
 
 /// What a command prints of a file on standard output and on standard error, and its status.
@@ -42,8 +42,9 @@ fn a_panel_with_all_that_is_needed_is_ready() {
     assert_eq!(says("ready", "yes", &whole), ("ready\n".into(), String::new(), Some(0)));
     // The older interrupt controller will do.
     let older = panel(&[21], &[&wrapper::EMPTY], &[1, 0]);
-    let older = snapshot::add_device(&older, (2, 7, 7), b"").unwrap();
-    assert_eq!(says("ready", "older", &older), ("ready\n".into(), String::new(), Some(0)));
+    let mut older = Snapshot::open(older).unwrap();
+    older.add_device((2, 7, 7), b"").unwrap();
+    assert_eq!(says("ready", "older", older.bytes()), ("ready\n".into(), String::new(), Some(0)));
 }
 
 #[test]

@@ -7,21 +7,23 @@
 //! no memory for an output, a call does not abort: it is refused as ROOM, with the length that the output would have.
 //!
 //! ```
-//! use cimbrolau::{snapshot, Kind};
+//! use cimbrolau::{snapshot, Kind, Snapshot};
 //!
-//! let file = snapshot::add_device(&snapshot::EMPTY, (14, 1, 0), &[0x11])?;
-//! let file = snapshot::add_device(&file, (3, 1, 0), &[0xAB, 0xCD])?;
+//! let mut panel = Snapshot::empty();
+//! panel.add_device((14, 1, 0), &[0x11])?;
+//! panel.add_device((3, 1, 0), &[0xAB, 0xCD])?;
+//! assert_eq!(panel.card().devices, 2); // kept up to date by the edits
 //!
-//! let devices = snapshot::devices(&file)?;
+//! let devices = snapshot::devices(panel.bytes())?;
 //! assert_eq!(devices[0].id, 3); // in the order of their keys, whatever the order of adding
-//! assert_eq!(devices[0].payload(&file), Some(&[0xAB, 0xCD][..]));
+//! assert_eq!(devices[0].payload(panel.bytes()), Some(&[0xAB, 0xCD][..]));
 //!
-//! let refusal = snapshot::add_device(&file, (3, 1, 0), &[]).unwrap_err();
+//! let refusal = panel.add_device((3, 1, 0), &[]).unwrap_err();
 //! assert_eq!(refusal.kind, Kind::Have);
 //! # Ok::<(), cimbrolau::Refusal>(())
 //! ```
 //!
-//! - [`snapshot`][]: snapshot files
+//! - [`snapshot`][]: snapshot files; [`Snapshot`][]: one with its [`Card`][]
 //! - [`wrapper`][]: disk-controller wrappers
 //! - [`ready`][]: whether a snapshot is ready to restore
 //! - [`Message`][]: messages
@@ -34,6 +36,7 @@
 
 mod memory;
 mod message;
+mod opened;
 #[allow(unsafe_code)]
 pub mod raw;
 pub mod ready;
@@ -45,4 +48,6 @@ pub mod snapshot;
 pub mod wrapper;
 
 pub use message::{Level, Message};
+pub use opened::Snapshot;
+pub use raw::Card;
 pub use refusal::{Kind, Refusal, Result};

@@ -19,6 +19,45 @@ pub struct Answer {
     pub place: u64,
 }
 
+/// What is shown of a canonical file: four numbers, which an edit moves by what it changes. [`open`] makes them of a file.
+#[repr(C)]
+#[derive(Clone, Copy, Debug, PartialEq, Eq, Hash)]
+pub struct Card {
+    /// How many bytes the canonical form has, 16 to 1024 MiB.
+    pub length: u64,
+    /// How many sections, up to 64.
+    pub sections: u64,
+    /// How many devices, up to 4096.
+    pub devices: u64,
+    /// How many bytes the payloads of the devices have together, up to 256 MiB.
+    pub payloads: u64,
+}
+
+impl Card {
+    /// The card of [`EMPTY`](crate::snapshot::EMPTY).
+    ///
+    /// ```
+    /// use cimbrolau::{snapshot, Card};
+    /// assert_eq!(snapshot::open(&snapshot::EMPTY), Ok(Card::EMPTY));
+    /// ```
+    pub const EMPTY: Card = Card { length: 16, sections: 0, devices: 0, payloads: 0 };
+}
+
+/// What opening and editing answer.
+#[repr(C)]
+#[must_use]
+#[derive(Clone, Copy, Debug, PartialEq, Eq)]
+pub struct Edited {
+    /// 0 where the file is taken and edited, else the number of the refusal.
+    pub number: u32,
+    /// Which of many entries is refused; 0 in the calls of one entry.
+    pub index: u32,
+    /// The bytes written, or the refusal's place.
+    pub place: u64,
+    /// The card of the result. Beside a refusal it is the card that went in; where none went in, its numbers are 0.
+    pub card: Card,
+}
+
 /// What reading a message answers: its kind by its tag, its numbers in the order of its fields, and where its data stands.
 #[repr(C)]
 #[must_use]
@@ -157,10 +196,11 @@ pub struct Record {
 const _: () = assert!(size_of::<Answer>() == 16 && size_of::<Numbers>() == 72);
 const _: () = assert!(size_of::<Cursors>() == 32 && size_of::<Pair>() == 24);
 const _: () = assert!(size_of::<Record>() == 32 && size_of::<Readiness>() == 16);
+const _: () = assert!(size_of::<Card>() == 32 && size_of::<Edited>() == 48);
 
 /// The library's own functions. A slice is lent as a pointer and a length, for the time of the call.
 mod c {
-    use super::{Access, Answer, Cursors, Meta, Numbers, Pair, Readiness, Record};
+    use super::{Access, Answer, Card, Cursors, Edited, Meta, Numbers, Pair, Readiness, Record};
 
     extern "C" {
         pub fn cimbrolau_cpu_field(
@@ -234,9 +274,11 @@ mod c {
             out: *mut u8,
             out_length: usize,
         ) -> Answer;
+        pub fn cimbrolau_open(file: *const u8, file_length: usize) -> Edited;
         pub fn cimbrolau_add_device(
             file: *const u8,
             file_length: usize,
+            card: Card,
             id: u32,
             version: u16,
             flags: u16,
@@ -244,10 +286,11 @@ mod c {
             payload_length: usize,
             out: *mut u8,
             out_length: usize,
-        ) -> Answer;
+        ) -> Edited;
         pub fn cimbrolau_add_disk(
             file: *const u8,
             file_length: usize,
+            card: Card,
             id: u32,
             base: *const u8,
             base_length: usize,
@@ -255,26 +298,29 @@ mod c {
             overlay_length: usize,
             out: *mut u8,
             out_length: usize,
-        ) -> Answer;
+        ) -> Edited;
         pub fn cimbrolau_remove_device(
             file: *const u8,
             file_length: usize,
+            card: Card,
             id: u32,
             version: u16,
             flags: u16,
             out: *mut u8,
             out_length: usize,
-        ) -> Answer;
+        ) -> Edited;
         pub fn cimbrolau_remove_disk(
             file: *const u8,
             file_length: usize,
+            card: Card,
             id: u32,
             out: *mut u8,
             out_length: usize,
-        ) -> Answer;
+        ) -> Edited;
         pub fn cimbrolau_replace_device(
             file: *const u8,
             file_length: usize,
+            card: Card,
             id: u32,
             version: u16,
             flags: u16,
@@ -282,7 +328,7 @@ mod c {
             payload_length: usize,
             out: *mut u8,
             out_length: usize,
-        ) -> Answer;
+        ) -> Edited;
         pub fn cimbrolau_wrapper_check(wrapper: *const u8, wrapper_length: usize) -> Answer;
         pub fn cimbrolau_controllers(
             wrapper: *const u8,
@@ -444,28 +490,48 @@ pub fn canonical(file: &[u8], out: &mut [u8]) -> Answer {
     unsafe { c::cimbrolau_canonical(file.as_ptr(), file.len(), out.as_mut_ptr(), out.len()) }
 }
 
-/// Writes the canonical form of a snapshot file with one device more.
+/// Checks a snapshot file, and makes the card of its canonical form.
 ///
 /// ```
+/// let answer = cimbrolau::raw::open(&cimbrolau::snapshot::EMPTY);
+/// assert_eq!((answer.number, answer.card), (0, cimbrolau::Card::EMPTY));
+/// ```
+pub fn open(file: &[u8]) -> Edited {
+    // SAFETY: the pointer and the length are of one live slice, which the library reads during the call alone.
+    unsafe { c::cimbrolau_open(file.as_ptr(), file.len()) }
+}
+
+/// Writes the canonical form of a snapshot file with one device more, and moves the card by it.
+///
+/// ```
+/// use cimbrolau::{raw, snapshot::EMPTY, Card};
 /// let mut out = [0; 64];
-/// let answer = cimbrolau::raw::add_device(&cimbrolau::snapshot::EMPTY, 3, 1, 0, &[0xAB, 0xCD], &mut out);
+/// let answer = raw::add_device(&EMPTY, Card::EMPTY, 3, 1, 0, &[0xAB, 0xCD], &mut out);
 /// assert_eq!((answer.number, answer.place), (0, 54)); // header 16, section 16, count 4, entry 16 and 2
 /// assert_eq!(out[52..54], [0xAB, 0xCD]);
+/// assert_eq!(answer.card, Card { length: 54, sections: 1, devices: 1, payloads: 2 });
+///
+/// // A card that is not the file's moves as well, up to its bounds.
+/// let untrue = Card { devices: 4096, ..Card::EMPTY };
+/// let answer = raw::add_device(&EMPTY, untrue, 3, 1, 0, &[], &mut out);
+/// assert_eq!((answer.number, answer.card), (28, untrue)); // CARD
 /// ```
 pub fn add_device(
     file: &[u8],
+    card: Card,
     id: u32,
     version: u16,
     flags: u16,
     payload: &[u8],
     out: &mut [u8],
-) -> Answer {
+) -> Edited {
     // SAFETY: each pointer and length are of one live slice; the library reads `file` and `payload` and writes within
     // `out`, which no other reference names, during the call alone.
     unsafe {
         c::cimbrolau_add_device(
             file.as_ptr(),
             file.len(),
+            card,
             id,
             version,
             flags,
@@ -480,18 +546,28 @@ pub fn add_device(
 /// Writes the canonical form of a snapshot file with one disk more.
 ///
 /// ```
+/// use cimbrolau::{raw, snapshot::EMPTY, Card};
 /// let mut out = [0; 64];
-/// let answer = cimbrolau::raw::add_disk(&cimbrolau::snapshot::EMPTY, 1, b"base.img", b"", &mut out);
+/// let answer = raw::add_disk(&EMPTY, Card::EMPTY, 1, b"base.img", b"", &mut out);
 /// assert_eq!((answer.number, answer.place), (0, 56)); // header 16, section 16, count 4, entry 4, 4 and 8, 4
 /// assert_eq!(&out[44..52], b"base.img");
+/// assert_eq!(answer.card, Card { length: 56, sections: 1, ..Card::EMPTY });
 /// ```
-pub fn add_disk(file: &[u8], id: u32, base: &[u8], overlay: &[u8], out: &mut [u8]) -> Answer {
+pub fn add_disk(
+    file: &[u8],
+    card: Card,
+    id: u32,
+    base: &[u8],
+    overlay: &[u8],
+    out: &mut [u8],
+) -> Edited {
     // SAFETY: each pointer and length are of one live slice; the library reads `file`, `base` and `overlay` and writes
     // within `out`, which no other reference names, during the call alone.
     unsafe {
         c::cimbrolau_add_disk(
             file.as_ptr(),
             file.len(),
+            card,
             id,
             base.as_ptr(),
             base.len(),
@@ -506,21 +582,30 @@ pub fn add_disk(file: &[u8], id: u32, base: &[u8], overlay: &[u8], out: &mut [u8
 /// Writes the canonical form of a snapshot file without one of its devices.
 ///
 /// ```
-/// use cimbrolau::raw;
-/// let file = cimbrolau::snapshot::add_device(&cimbrolau::snapshot::EMPTY, (3, 1, 0), &[0xAB, 0xCD])?;
+/// use cimbrolau::{raw, snapshot, Card};
+/// let (file, card) = snapshot::add_device(&snapshot::EMPTY, Card::EMPTY, (3, 1, 0), &[0xAB, 0xCD])?;
 /// let mut out = [0; 64];
-/// let answer = raw::remove_device(&file, 3, 1, 0, &mut out);
+/// let answer = raw::remove_device(&file, card, 3, 1, 0, &mut out);
 /// assert_eq!((answer.number, answer.place), (0, 16)); // the last device's removal removes its section
-/// assert_eq!(raw::remove_device(&file, 3, 1, 1, &mut out).number, 25); // ABSENT
+/// assert_eq!(answer.card, Card::EMPTY);
+/// assert_eq!(raw::remove_device(&file, card, 3, 1, 1, &mut out).number, 25); // ABSENT
 /// # Ok::<(), cimbrolau::Refusal>(())
 /// ```
-pub fn remove_device(file: &[u8], id: u32, version: u16, flags: u16, out: &mut [u8]) -> Answer {
+pub fn remove_device(
+    file: &[u8],
+    card: Card,
+    id: u32,
+    version: u16,
+    flags: u16,
+    out: &mut [u8],
+) -> Edited {
     // SAFETY: each pointer and length are of one live slice; the library reads `file` and writes within `out`,
     // which no other reference names, during the call alone.
     unsafe {
         c::cimbrolau_remove_device(
             file.as_ptr(),
             file.len(),
+            card,
             id,
             version,
             flags,
@@ -533,44 +618,48 @@ pub fn remove_device(file: &[u8], id: u32, version: u16, flags: u16, out: &mut [
 /// Writes the canonical form of a snapshot file without one of its disks.
 ///
 /// ```
-/// use cimbrolau::raw;
-/// let file = cimbrolau::snapshot::add_disk(&cimbrolau::snapshot::EMPTY, 1, b"base.img", b"")?;
+/// use cimbrolau::{raw, snapshot, Card};
+/// let (file, card) = snapshot::add_disk(&snapshot::EMPTY, Card::EMPTY, 1, b"base.img", b"")?;
 /// let mut out = [0; 64];
-/// let answer = raw::remove_disk(&file, 1, &mut out);
+/// let answer = raw::remove_disk(&file, card, 1, &mut out);
 /// assert_eq!((answer.number, answer.place), (0, 16));
 /// # Ok::<(), cimbrolau::Refusal>(())
 /// ```
-pub fn remove_disk(file: &[u8], id: u32, out: &mut [u8]) -> Answer {
+pub fn remove_disk(file: &[u8], card: Card, id: u32, out: &mut [u8]) -> Edited {
     // SAFETY: each pointer and length are of one live slice; the library reads `file` and writes within `out`,
     // which no other reference names, during the call alone.
-    unsafe { c::cimbrolau_remove_disk(file.as_ptr(), file.len(), id, out.as_mut_ptr(), out.len()) }
+    unsafe {
+        c::cimbrolau_remove_disk(file.as_ptr(), file.len(), card, id, out.as_mut_ptr(), out.len())
+    }
 }
 
 /// Writes the canonical form of a snapshot file with another payload in one of its devices.
 ///
 /// ```
-/// use cimbrolau::raw;
-/// let file = cimbrolau::snapshot::add_device(&cimbrolau::snapshot::EMPTY, (3, 1, 0), &[0xAB, 0xCD])?;
+/// use cimbrolau::{raw, snapshot, Card};
+/// let (file, card) = snapshot::add_device(&snapshot::EMPTY, Card::EMPTY, (3, 1, 0), &[0xAB, 0xCD])?;
 /// let mut out = [0; 64];
-/// let answer = raw::replace_device(&file, 3, 1, 0, &[0xEF], &mut out);
+/// let answer = raw::replace_device(&file, card, 3, 1, 0, &[0xEF], &mut out);
 /// assert_eq!((answer.number, answer.place), (0, 53));
 /// assert_eq!(out[52], 0xEF);
 /// # Ok::<(), cimbrolau::Refusal>(())
 /// ```
 pub fn replace_device(
     file: &[u8],
+    card: Card,
     id: u32,
     version: u16,
     flags: u16,
     payload: &[u8],
     out: &mut [u8],
-) -> Answer {
+) -> Edited {
     // SAFETY: each pointer and length are of one live slice; the library reads `file` and `payload` and writes within
     // `out`, which no other reference names, during the call alone.
     unsafe {
         c::cimbrolau_replace_device(
             file.as_ptr(),
             file.len(),
+            card,
             id,
             version,
             flags,

@@ -79,25 +79,25 @@ const MOST_PAIRS: usize = 9;
 ///
 /// ```
 /// use cimbrolau::ready::{self, Missing};
-/// use cimbrolau::{snapshot, wrapper, Kind};
+/// use cimbrolau::{wrapper, Kind, Snapshot};
 ///
-/// let mut file = snapshot::EMPTY.to_vec();
+/// let mut panel = Snapshot::empty();
 /// for id in [3, 4, 13, 16, 21] {
-///     file = snapshot::add_device(&file, (id, 1, 0), b"")?;
+///     panel.add_device((id, 1, 0), b"")?;
 /// }
-/// file = snapshot::add_device(&file, (6, 1, 0), &wrapper::EMPTY)?;
-/// file = snapshot::add_disk(&file, 1, b"", b"")?; // empty paths mean no backend
-/// assert_eq!(ready::missing(&file)?, [Missing::Device(17), Missing::Disk(0)]);
+/// panel.add_device((6, 1, 0), &wrapper::EMPTY)?;
+/// panel.add_disk(1, b"", b"")?; // empty paths mean no backend
+/// assert_eq!(ready::missing(panel.bytes())?, [Missing::Device(17), Missing::Disk(0)]);
 ///
-/// file = snapshot::add_device(&file, (17, 1, 0), b"")?;
-/// file = snapshot::add_disk(&file, 0, b"panel.img", b"")?;
-/// assert_eq!(ready::missing(&file)?, []);
+/// panel.add_device((17, 1, 0), b"")?;
+/// panel.add_disk(0, b"panel.img", b"")?;
+/// assert_eq!(ready::missing(panel.bytes())?, []);
 ///
 /// // A second entry with id 6 under another version: there has to be exactly one.
-/// file = snapshot::add_device(&file, (6, 2, 0), &wrapper::EMPTY)?;
-/// assert_eq!(ready::missing(&file)?, [Missing::Device(6)]);
+/// panel.add_device((6, 2, 0), &wrapper::EMPTY)?;
+/// assert_eq!(ready::missing(panel.bytes())?, [Missing::Device(6)]);
 ///
-/// assert_eq!(ready::missing(&file[..20]).unwrap_err().kind, Kind::Cut);
+/// assert_eq!(ready::missing(&panel.bytes()[..20]).unwrap_err().kind, Kind::Cut);
 /// # Ok::<(), cimbrolau::Refusal>(())
 /// ```
 pub fn missing(file: &[u8]) -> Result<Vec<Missing>> {

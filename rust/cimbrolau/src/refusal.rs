@@ -1,7 +1,7 @@
 //! The refusals by name, and answers as `Result`.
 
 use crate::memory::zeros;
-use crate::raw::Answer;
+use crate::raw::{Answer, Card, Edited};
 use std::fmt;
 
 /// What a refusal is about: the names and the numbers of the table of refusals. The numbers have gaps, and later versions may
@@ -59,6 +59,10 @@ pub enum Kind {
     Record = 24,
     /// The entry to be changed isn't there.
     Absent = 25,
+    /// Of many devices at once, a payload lies outside the bytes that hold them.
+    Payload = 26,
+    /// A number of an untrue card would leave its bounds.
+    Card = 28,
     /// Cursors are given out of turn.
     Turn = 29,
 }
@@ -89,6 +93,8 @@ const TABLE: &[(Kind, &str, &str)] = &[
     (Kind::Empty, "EMPTY", "nothing is committed"),
     (Kind::Record, "RECORD", "committed record or skip runs too far"),
     (Kind::Absent, "ABSENT", "entry to be changed isn't there"),
+    (Kind::Payload, "PAYLOAD", "payload outside the bytes that hold them"),
+    (Kind::Card, "CARD", "number of an untrue card would leave its bounds"),
     (Kind::Turn, "TURN", "cursors given out of turn"),
 ];
 
@@ -198,6 +204,20 @@ pub(crate) fn filled(most: usize, call: impl FnOnce(&mut [u8]) -> Answer) -> Res
     let length = outcome(written.number, written.place)?;
     out.truncate(length as usize);
     Ok(out)
+}
+
+/// The whole output of an edit, and the card that comes back with it.
+pub(crate) fn edited(
+    most: usize,
+    call: impl FnOnce(&mut [u8]) -> Edited,
+) -> Result<(Vec<u8>, Card)> {
+    let mut card = Card::EMPTY;
+    let bytes = filled(most, |out| {
+        let given = call(out);
+        card = given.card;
+        Answer { number: given.number, place: given.place }
+    })?;
+    Ok((bytes, card))
 }
 
 /// Room for so many items, or ROOM with the bytes that they take.

@@ -1,8 +1,10 @@
-//! Snapshot files: checking, tables, the canonical form, adding.
+//! Snapshot files: checking, tables, the canonical form, cards and edits.
+//!
+//! An edit takes the card of its file and gives the card of its result; [`Snapshot`](crate::Snapshot) keeps the two together.
 
-use crate::raw;
+use crate::raw::{self, Card};
 use crate::records::{self, position, table_most, u16_at, u32_at, u64_at, RECORD};
-use crate::refusal::{filled, outcome, Result};
+use crate::refusal::{edited, filled, outcome, Result};
 
 /// The shortest snapshot: the header, and no section.
 ///
@@ -40,8 +42,8 @@ impl Section {
     /// The section's payload in the file that it came from; none in a file too short to be that.
     ///
     /// ```
-    /// use cimbrolau::snapshot;
-    /// let file = snapshot::add_disk(&snapshot::EMPTY, 1, b"", b"")?;
+    /// use cimbrolau::{snapshot, Card};
+    /// let (file, _) = snapshot::add_disk(&snapshot::EMPTY, Card::EMPTY, 1, b"", b"")?;
     /// let section = snapshot::sections(&file)?[0];
     /// assert_eq!(section.payload(&file).map(<[u8]>::len), Some(16));
     /// assert_eq!(section.payload(b"another file"), None);
@@ -108,8 +110,8 @@ impl Device {
     /// The device's key.
     ///
     /// ```
-    /// use cimbrolau::snapshot;
-    /// let file = snapshot::add_device(&snapshot::EMPTY, (3, 1, 0), &[])?;
+    /// use cimbrolau::{snapshot, Card};
+    /// let (file, _) = snapshot::add_device(&snapshot::EMPTY, Card::EMPTY, (3, 1, 0), &[])?;
     /// assert_eq!(snapshot::devices(&file)?[0].key(), (3, 1, 0).into());
     /// # Ok::<(), cimbrolau::Refusal>(())
     /// ```
@@ -120,8 +122,8 @@ impl Device {
     /// The device's payload in the file that it came from; none in a file too short to be that.
     ///
     /// ```
-    /// use cimbrolau::snapshot;
-    /// let file = snapshot::add_device(&snapshot::EMPTY, (3, 1, 0), &[0xAB, 0xCD])?;
+    /// use cimbrolau::{snapshot, Card};
+    /// let (file, _) = snapshot::add_device(&snapshot::EMPTY, Card::EMPTY, (3, 1, 0), &[0xAB, 0xCD])?;
     /// assert_eq!(snapshot::devices(&file)?[0].payload(&file), Some(&[0xAB, 0xCD][..]));
     /// # Ok::<(), cimbrolau::Refusal>(())
     /// ```
@@ -160,8 +162,8 @@ impl Disk {
     /// The base image's name in the file that the disk came from; none in a file that cannot be that.
     ///
     /// ```
-    /// use cimbrolau::snapshot;
-    /// let file = snapshot::add_disk(&snapshot::EMPTY, 1, b"base.img", b"day.img")?;
+    /// use cimbrolau::{snapshot, Card};
+    /// let (file, _) = snapshot::add_disk(&snapshot::EMPTY, Card::EMPTY, 1, b"base.img", b"day.img")?;
     /// let disk = snapshot::disks(&file)?[0];
     /// assert_eq!(disk.base(&file), Some("base.img"));
     /// assert_eq!(disk.overlay(&file), Some("day.img"));
@@ -175,8 +177,8 @@ impl Disk {
     /// Where the overlay image's name starts in the file: behind the base image's name and a length of four bytes.
     ///
     /// ```
-    /// use cimbrolau::snapshot;
-    /// let file = snapshot::add_disk(&snapshot::EMPTY, 1, b"base.img", b"")?;
+    /// use cimbrolau::{snapshot, Card};
+    /// let (file, _) = snapshot::add_disk(&snapshot::EMPTY, Card::EMPTY, 1, b"base.img", b"")?;
     /// assert_eq!(snapshot::disks(&file)?[0].overlay_offset(), 56);
     /// # Ok::<(), cimbrolau::Refusal>(())
     /// ```
@@ -325,8 +327,8 @@ pub fn check(file: &[u8]) -> Result<()> {
 /// Every section of the file, in file order.
 ///
 /// ```
-/// use cimbrolau::snapshot;
-/// let file = snapshot::add_device(&snapshot::EMPTY, (3, 1, 0), &[0xAB, 0xCD])?;
+/// use cimbrolau::{snapshot, Card};
+/// let (file, _) = snapshot::add_device(&snapshot::EMPTY, Card::EMPTY, (3, 1, 0), &[0xAB, 0xCD])?;
 /// let sections = snapshot::sections(&file)?;
 /// assert_eq!(sections.len(), 1);
 /// assert_eq!((sections[0].id, sections[0].offset, sections[0].length), (4, 32, 22));
@@ -340,9 +342,9 @@ pub fn sections(file: &[u8]) -> Result<Vec<Section>> {
 /// Every device of the file, in the order of their keys.
 ///
 /// ```
-/// use cimbrolau::snapshot;
-/// let file = snapshot::add_device(&snapshot::EMPTY, (256, 1, 0), &[0x11])?;
-/// let file = snapshot::add_device(&file, (1, 1, 0), &[])?;
+/// use cimbrolau::{snapshot, Card};
+/// let (file, card) = snapshot::add_device(&snapshot::EMPTY, Card::EMPTY, (256, 1, 0), &[0x11])?;
+/// let (file, _) = snapshot::add_device(&file, card, (1, 1, 0), &[])?;
 /// let ids: Vec<u32> = snapshot::devices(&file)?.iter().map(|device| device.id).collect();
 /// assert_eq!(ids, [1, 256]);
 /// # Ok::<(), cimbrolau::Refusal>(())
@@ -355,8 +357,8 @@ pub fn devices(file: &[u8]) -> Result<Vec<Device>> {
 /// Every disk of the file, in the order of their ids.
 ///
 /// ```
-/// use cimbrolau::snapshot;
-/// let file = snapshot::add_disk(&snapshot::EMPTY, 2, b"base.img", b"")?;
+/// use cimbrolau::{snapshot, Card};
+/// let (file, _) = snapshot::add_disk(&snapshot::EMPTY, Card::EMPTY, 2, b"base.img", b"")?;
 /// let disks = snapshot::disks(&file)?;
 /// assert_eq!(disks.len(), 1);
 /// assert_eq!((disks[0].id, disks[0].base_offset, disks[0].base_length), (2, 44, 8));
@@ -449,83 +451,122 @@ pub fn canonical(file: &[u8]) -> Result<Vec<u8>> {
     filled(file_most(file.len()), |out| raw::canonical(file, out))
 }
 
-/// The canonical form of the file with one device more. A key that is there already is HAVE.
+/// The card of the file's canonical form.
 ///
 /// ```
-/// use cimbrolau::{snapshot, Kind};
-/// let file = snapshot::add_device(&snapshot::EMPTY, (3, 1, 0), &[0xAB, 0xCD])?;
-/// assert_eq!(file.len(), 54);
+/// use cimbrolau::{snapshot, Card};
+/// let (file, card) = snapshot::add_device(&snapshot::EMPTY, Card::EMPTY, (3, 1, 0), &[0xAB, 0xCD])?;
+/// assert_eq!(snapshot::open(&file)?, card);
+/// assert_eq!(card, Card { length: 54, sections: 1, devices: 1, payloads: 2 });
+/// # Ok::<(), cimbrolau::Refusal>(())
+/// ```
+pub fn open(file: &[u8]) -> Result<Card> {
+    let answer = raw::open(file);
+    outcome(answer.number, answer.place)?;
+    Ok(answer.card)
+}
+
+/// The canonical form of the file with one device more, and its card. A key that is there already is HAVE.
 ///
-/// let refusal = snapshot::add_device(&file, (3, 1, 0), &[]).unwrap_err();
+/// `card` is that of the file, which [`open`] and every edit give: each of its numbers is moved by what is added. The bytes do
+/// not depend on it. Beside a card that is not the file's an edit is CARD where a number would leave its bounds.
+///
+/// ```
+/// use cimbrolau::{snapshot, Card, Kind};
+/// let (file, card) = snapshot::add_device(&snapshot::EMPTY, Card::EMPTY, (3, 1, 0), &[0xAB, 0xCD])?;
+/// assert_eq!(file.len(), 54);
+/// assert_eq!(card, Card { length: 54, sections: 1, devices: 1, payloads: 2 });
+///
+/// let refusal = snapshot::add_device(&file, card, (3, 1, 0), &[]).unwrap_err();
 /// assert_eq!(refusal.kind, Kind::Have);
 /// # Ok::<(), cimbrolau::Refusal>(())
 /// ```
-pub fn add_device(file: &[u8], key: impl Into<DeviceKey>, payload: &[u8]) -> Result<Vec<u8>> {
+pub fn add_device(
+    file: &[u8],
+    card: Card,
+    key: impl Into<DeviceKey>,
+    payload: &[u8],
+) -> Result<(Vec<u8>, Card)> {
     let DeviceKey { id, version, flags } = key.into();
     // At most a section's header and count, and the entry, are added.
     let most = file_most(file.len() + 20 + 16 + payload.len());
-    filled(most, |out| raw::add_device(file, id, version, flags, payload, out))
+    edited(most, |out| raw::add_device(file, card, id, version, flags, payload, out))
 }
 
 /// The canonical form of the file with one disk more: its id and the names of its base and overlay images, in UTF-8.
 /// A disk that is there already is HAVE.
 ///
 /// ```
-/// use cimbrolau::{snapshot, Kind};
-/// let file = snapshot::add_disk(&snapshot::EMPTY, 1, "système.img".as_bytes(), b"")?;
+/// use cimbrolau::{snapshot, Card, Kind};
+/// let (file, card) = snapshot::add_disk(&snapshot::EMPTY, Card::EMPTY, 1, "système.img".as_bytes(), b"")?;
 /// assert_eq!(snapshot::disks(&file)?[0].base(&file), Some("système.img"));
 ///
-/// let refusal = snapshot::add_disk(&file, 2, b"syst\xE8me.img", b"").unwrap_err();
+/// let refusal = snapshot::add_disk(&file, card, 2, b"syst\xE8me.img", b"").unwrap_err();
 /// assert_eq!(refusal.kind, Kind::Text);
 /// # Ok::<(), cimbrolau::Refusal>(())
 /// ```
-pub fn add_disk(file: &[u8], id: u32, base: &[u8], overlay: &[u8]) -> Result<Vec<u8>> {
+pub fn add_disk(
+    file: &[u8],
+    card: Card,
+    id: u32,
+    base: &[u8],
+    overlay: &[u8],
+) -> Result<(Vec<u8>, Card)> {
     let most = file_most(file.len() + 20 + 12 + base.len() + overlay.len());
-    filled(most, |out| raw::add_disk(file, id, base, overlay, out))
+    edited(most, |out| raw::add_disk(file, card, id, base, overlay, out))
 }
 
 /// The canonical form of the file without one of its devices. A key that is not there is ABSENT; with its last device a
 /// file loses its section of devices.
 ///
 /// ```
-/// use cimbrolau::{snapshot, Kind};
-/// let file = snapshot::add_device(&snapshot::EMPTY, (18, 1, 0), &[0x11])?;
-/// assert_eq!(snapshot::remove_device(&file, (18, 1, 0))?, snapshot::EMPTY);
+/// use cimbrolau::{snapshot, Card, Kind};
+/// let (file, card) = snapshot::add_device(&snapshot::EMPTY, Card::EMPTY, (18, 1, 0), &[0x11])?;
+/// assert_eq!(snapshot::remove_device(&file, card, (18, 1, 0))?, (snapshot::EMPTY.to_vec(), Card::EMPTY));
 ///
-/// let refusal = snapshot::remove_device(&file, (18, 2, 0)).unwrap_err();
+/// let refusal = snapshot::remove_device(&file, card, (18, 2, 0)).unwrap_err();
 /// assert_eq!(refusal.kind, Kind::Absent);
 /// # Ok::<(), cimbrolau::Refusal>(())
 /// ```
-pub fn remove_device(file: &[u8], key: impl Into<DeviceKey>) -> Result<Vec<u8>> {
+pub fn remove_device(
+    file: &[u8],
+    card: Card,
+    key: impl Into<DeviceKey>,
+) -> Result<(Vec<u8>, Card)> {
     let DeviceKey { id, version, flags } = key.into();
     // It is never longer than the file.
-    filled(file_most(file.len()), |out| raw::remove_device(file, id, version, flags, out))
+    edited(file_most(file.len()), |out| raw::remove_device(file, card, id, version, flags, out))
 }
 
 /// The canonical form of the file without one of its disks. A disk that is not there is ABSENT.
 ///
 /// ```
-/// use cimbrolau::snapshot;
-/// let file = snapshot::add_disk(&snapshot::EMPTY, 1, b"base.img", b"")?;
-/// assert_eq!(snapshot::remove_disk(&file, 1)?, snapshot::EMPTY);
+/// use cimbrolau::{snapshot, Card};
+/// let (file, card) = snapshot::add_disk(&snapshot::EMPTY, Card::EMPTY, 1, b"base.img", b"")?;
+/// assert_eq!(snapshot::remove_disk(&file, card, 1)?, (snapshot::EMPTY.to_vec(), Card::EMPTY));
 /// # Ok::<(), cimbrolau::Refusal>(())
 /// ```
-pub fn remove_disk(file: &[u8], id: u32) -> Result<Vec<u8>> {
-    filled(file_most(file.len()), |out| raw::remove_disk(file, id, out))
+pub fn remove_disk(file: &[u8], card: Card, id: u32) -> Result<(Vec<u8>, Card)> {
+    edited(file_most(file.len()), |out| raw::remove_disk(file, card, id, out))
 }
 
 /// The canonical form of the file with another payload in one of its devices. A key that is not there is ABSENT.
 ///
 /// ```
-/// use cimbrolau::snapshot;
-/// let file = snapshot::add_device(&snapshot::EMPTY, (3, 1, 0), &[15, 0])?;
-/// let file = snapshot::replace_device(&file, (3, 1, 0), &[16, 0])?;
+/// use cimbrolau::{snapshot, Card};
+/// let (file, card) = snapshot::add_device(&snapshot::EMPTY, Card::EMPTY, (3, 1, 0), &[15, 0])?;
+/// let (file, _) = snapshot::replace_device(&file, card, (3, 1, 0), &[16, 0])?;
 /// assert_eq!(snapshot::devices(&file)?[0].payload(&file), Some(&[16, 0][..]));
 /// # Ok::<(), cimbrolau::Refusal>(())
 /// ```
-pub fn replace_device(file: &[u8], key: impl Into<DeviceKey>, payload: &[u8]) -> Result<Vec<u8>> {
+pub fn replace_device(
+    file: &[u8],
+    card: Card,
+    key: impl Into<DeviceKey>,
+    payload: &[u8],
+) -> Result<(Vec<u8>, Card)> {
     let DeviceKey { id, version, flags } = key.into();
     // It grows by no more than the new payload.
     let most = file_most(file.len() + payload.len());
-    filled(most, |out| raw::replace_device(file, id, version, flags, payload, out))
+    edited(most, |out| raw::replace_device(file, card, id, version, flags, payload, out))
 }

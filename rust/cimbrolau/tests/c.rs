@@ -15,13 +15,13 @@ fn installed(test: &str) -> PathBuf {
     prefix
 }
 
-/// Compiles the example with these words; the program.
-fn compiled(prefix: &Path, compiler: &str, words: &[&str]) -> PathBuf {
-    let program = prefix.join(format!("list-{compiler}"));
+/// Compiles a program with these words.
+fn compiled(source: &Path, prefix: &Path, compiler: &str, words: &[&str]) -> PathBuf {
+    let program = prefix.join("program");
     let output = Command::new(compiler)
         .args(words)
         .args(["-Wall", "-Wextra", "-Wpedantic", "-Werror"])
-        .arg(Path::new(ROOT).join("examples/list.c"))
+        .arg(source)
         .args(flags(prefix))
         .arg("-o")
         .arg(&program)
@@ -75,7 +75,8 @@ fn the_example_lists_the_sample_and_names_a_refusal() {
     twice[209] = 3;
     let bad = prefix.join("twice.aerosnap");
     fs::write(&bad, &twice).unwrap();
-    let program = compiled(&prefix, "cc", &["-std=c99"]);
+    let example = Path::new(ROOT).join("examples/list.c");
+    let program = compiled(&example, &prefix, "cc", &["-std=c99"]);
     let listed = run(&program, &sample);
     assert_eq!(String::from_utf8(listed.stdout).unwrap(), LISTED);
     assert!(listed.status.success());
@@ -83,6 +84,57 @@ fn the_example_lists_the_sample_and_names_a_refusal() {
     assert_eq!(String::from_utf8(refused.stderr).unwrap(), "refused 13 KEY at 226\n");
     assert_eq!((refused.status.code(), refused.stdout), (Some(1), vec![]));
     assert_eq!(run(&program, Path::new("/nowhere")).status.code(), Some(2));
+}
+
+/// A card made by opening, moved by edits and handed back by a refusal; each goes in and comes out by value.
+const CARDS: &str = r#"
+#include <cimbrolau.h>
+#include <stdio.h>
+static uint8_t file[64], out[64];
+static void show(const char *what, struct cimbrolau_edited e) {
+    printf("%s: %u %u %u, %llu %llu %llu %llu\n", what, e.number, e.index, (unsigned)e.place, (unsigned long long)e.card.length,
+           (unsigned long long)e.card.sections, (unsigned long long)e.card.devices, (unsigned long long)e.card.payloads);
+}
+int main(void) {
+    const uint8_t empty[16] = {'A', 'E', 'R', 'O', 'S', 'N', 'A', 'P', 1, 0, 1, 0, 0, 0, 0, 0};
+    struct cimbrolau_edited e = cimbrolau_open(empty, 16);
+    struct cimbrolau_card far = {UINT64_MAX, 2, 3, 4};
+    show("open", e);
+    show("short", cimbrolau_open(empty, 15));
+    e = cimbrolau_add_device(empty, 16, e.card, 3, 1, 0, (const uint8_t *)"two", 2, file, 64);
+    show("add", e);
+    show("replace", cimbrolau_replace_device(file, 54, e.card, 3, 1, 0, (const uint8_t *)"five!", 5, out, 64));
+    show("disk", cimbrolau_add_disk(file, 54, e.card, 9, (const uint8_t *)"", 0, (const uint8_t *)"", 0, out, 64));
+    show("absent", cimbrolau_remove_disk(file, 54, far, 9, out, 64));
+    show("untrue", cimbrolau_remove_device(file, 54, far, 3, 1, 0, out, 64));
+    show("remove", cimbrolau_remove_device(file, 54, e.card, 3, 1, 0, out, 64));
+    printf("%llu %llu\n", (unsigned long long)far.length, (unsigned long long)far.payloads);
+    return 0;
+}
+"#;
+
+const CARDS_SHOWN: &str = "\
+open: 0 0 0, 16 0 0 0
+short: 1 0 0, 0 0 0 0
+add: 0 0 54, 54 1 1 2
+replace: 0 0 57, 57 1 1 5
+disk: 16 0 86, 54 1 1 2
+absent: 25 0 0, 18446744073709551615 2 3 4
+untrue: 28 0 0, 18446744073709551615 2 3 4
+remove: 0 0 16, 16 0 0 0
+18446744073709551615 4
+";
+
+#[test]
+fn a_card_goes_in_and_comes_back() {
+    let prefix = installed("cards");
+    let source = prefix.join("cards.c");
+    fs::write(&source, CARDS).unwrap();
+    for level in ["-O0", "-O2"] {
+        let program = compiled(&source, &prefix, "cc", &["-std=c99", level]);
+        let shown = Command::new(&program).output().unwrap();
+        assert_eq!(String::from_utf8(shown.stdout).unwrap(), CARDS_SHOWN, "{level}");
+    }
 }
 
 /// The header is one of C++ too, where there is a compiler for that.

@@ -1,7 +1,7 @@
 //! The examples of document 01 on snapshots and wrappers, through the wrapper's types.
 
 use cimbrolau::snapshot::{self, Device, Disk, Section};
-use cimbrolau::{wrapper, Kind, Refusal};
+use cimbrolau::{wrapper, Card, Kind, Refusal, Snapshot};
 
 /// P4: two devices, saved in descending order of their keys.
 const TWO_DEVICES: &[u8] = b"AEROSNAP\x01\0\x01\0\0\0\0\0\
@@ -50,7 +50,8 @@ fn p4_and_p5_tables_and_canonical_form() {
 fn p6_to_p9_refusals_and_empty_lists() {
     assert_eq!(snapshot::check(&changed(36, 3)), refused(Kind::Key, 53));
     let canonical = snapshot::canonical(TWO_DEVICES).unwrap();
-    assert_eq!(snapshot::add_device(&canonical, (3, 1, 0), b""), refused(Kind::Have, 0));
+    let card = snapshot::open(&canonical).unwrap();
+    assert_eq!(snapshot::add_device(&canonical, card, (3, 1, 0), b""), refused(Kind::Have, 0));
     assert_eq!(snapshot::check(&changed(24, 40)), refused(Kind::Cut, 16));
 
     let mut none = TWO_DEVICES[..36].to_vec();
@@ -61,16 +62,72 @@ fn p6_to_p9_refusals_and_empty_lists() {
 
 #[test]
 fn adds_in_any_order_end_in_the_same_bytes() {
-    let tank = |file: &[u8]| snapshot::add_device(file, (3, 1, 0), &[15, 0]).unwrap();
-    let pump = |file: &[u8]| snapshot::add_device(file, (14, 1, 0), &[0x11]).unwrap();
-    let disk = |file: &[u8]| snapshot::add_disk(file, 7, b"base.img", b"night.img").unwrap();
-    let file = tank(&pump(&disk(&snapshot::EMPTY)));
-    assert_eq!(disk(&pump(&tank(&snapshot::EMPTY))), file);
-    assert_eq!(pump(&disk(&tank(&snapshot::EMPTY))), file);
-    assert_eq!(snapshot::devices(&file).unwrap().len(), 2);
+    let tank = |panel: &mut Snapshot| panel.add_device((3, 1, 0), &[15, 0]).unwrap();
+    let pump = |panel: &mut Snapshot| panel.add_device((14, 1, 0), &[0x11]).unwrap();
+    let disk = |panel: &mut Snapshot| panel.add_disk(7, b"base.img", b"night.img").unwrap();
+    let after = |adds: [&dyn Fn(&mut Snapshot); 3]| {
+        let mut panel = Snapshot::empty();
+        adds.iter().for_each(|add| add(&mut panel));
+        panel
+    };
+    let panel = after([&disk, &pump, &tank]);
+    assert_eq!(after([&tank, &pump, &disk]), panel);
+    assert_eq!(after([&tank, &disk, &pump]), panel);
+    let file = panel.bytes();
+    assert_eq!(snapshot::devices(file).unwrap().len(), 2);
     let seven = Disk { id: 7, base_offset: 99, base_length: 8, overlay_length: 9, position: 0 };
-    assert_eq!(snapshot::disks(&file), Ok(vec![seven]));
-    assert_eq!((seven.base(&file), seven.overlay(&file)), (Some("base.img"), Some("night.img")));
+    assert_eq!(snapshot::disks(file), Ok(vec![seven]));
+    assert_eq!((seven.base(file), seven.overlay(file)), (Some("base.img"), Some("night.img")));
+    assert_eq!(panel.card(), Card { length: 120, sections: 2, devices: 2, payloads: 3 });
+}
+
+#[test]
+fn a_snapshot_stays_true_through_every_edit() {
+    let mut panel = Snapshot::open(TWO_DEVICES).unwrap();
+    assert_eq!(panel.card(), Card { length: 71, sections: 1, devices: 2, payloads: 3 });
+    let is_true = |panel: &Snapshot| assert_eq!(snapshot::open(panel.bytes()), Ok(panel.card()));
+    panel.replace_device((14, 1, 0), &[1, 2, 3, 4]).unwrap();
+    is_true(&panel);
+    panel.add_disk(1, b"base.img", b"").unwrap();
+    is_true(&panel);
+    let before = (panel.bytes().to_vec(), panel.card());
+    assert_eq!(panel.add_disk(2, b"\xFF", b""), refused(Kind::Text, 0));
+    assert_eq!(panel.remove_disk(2), refused(Kind::Absent, 0));
+    assert_eq!((panel.bytes().to_vec(), panel.card()), before);
+    panel.remove_device((3, 1, 0)).unwrap();
+    is_true(&panel);
+    panel.remove_device((14, 1, 0)).unwrap();
+    is_true(&panel);
+    panel.remove_disk(1).unwrap();
+    assert_eq!(panel, Snapshot::empty());
+    assert_eq!(Snapshot::open(&TWO_DEVICES[..70]), refused(Kind::Cut, 16));
+}
+
+#[test]
+fn beside_an_untrue_card_the_bytes_are_the_same_or_the_edit_is_card() {
+    let card = snapshot::open(TWO_DEVICES).unwrap();
+    let edit = |card| snapshot::add_device(TWO_DEVICES, card, (9, 1, 0), &[7; 5]);
+    let (file, moved) = edit(card).unwrap();
+    assert_eq!(moved, Card { length: 92, sections: 1, devices: 3, payloads: 8 });
+    // Any card within its bounds moves by as much.
+    let (other, far) = edit(Card { length: 1000, sections: 64, devices: 0, payloads: 0 }).unwrap();
+    assert_eq!((other, far), (file, Card { length: 1021, sections: 64, devices: 1, payloads: 5 }));
+    let untrue = [
+        Card { length: (1024 << 20) - 20, ..card },
+        Card { length: u64::MAX, ..card },
+        Card { sections: 65, ..card },
+        Card { devices: 4096, ..card },
+        Card { payloads: (256 << 20) - 4, ..card },
+        Card { payloads: u64::MAX - 2, ..card },
+    ];
+    for card in untrue {
+        assert_eq!(edit(card), refused(Kind::Card, 0), "{card:?}");
+    }
+    // A removal from a card that has too little: nothing stops at 0.
+    let removed = snapshot::remove_device(TWO_DEVICES, Card { payloads: 1, ..card }, (3, 1, 0));
+    assert_eq!(removed, refused(Kind::Card, 0));
+    let removed = snapshot::remove_device(TWO_DEVICES, Card { length: 33, ..card }, (3, 1, 0));
+    assert_eq!(removed, refused(Kind::Card, 0));
 }
 
 #[test]

@@ -9,8 +9,8 @@ use std::fmt::Debug;
 use reference::{Answer, Readiness, Reading};
 
 use crate::counts::Counts;
+use crate::edits::{Edit, EditCalls};
 use crate::library;
-use crate::make::DeviceKey;
 use crate::random::Random;
 use crate::rings::RingCalls;
 use crate::sheets::SheetCalls;
@@ -32,6 +32,10 @@ pub struct Comparison {
     pub rings: RingCalls,
     /// The same on states.
     pub sheets: SheetCalls,
+    /// The calls that the reference's are compared with beside a card.
+    pub edits: EditCalls,
+    /// The numbers that untrue cards are made of, apart from those of the inputs.
+    pub(crate) cards: Random,
     /// Whether exactly the memory needed is lent, as for outputs too long to write often.
     pub exact: bool,
     /// The library's and the reference's lent memory, with margins.
@@ -39,42 +43,37 @@ pub struct Comparison {
     pub(crate) theirs: Vec<u8>,
 }
 
+/// The number and the place in what a call answers.
+pub(crate) trait Answered: Copy + PartialEq + Debug {
+    fn answer(&self) -> Answer;
+}
+
+impl Answered for Answer {
+    fn answer(&self) -> Answer {
+        *self
+    }
+}
+
 /// A call that takes a file or a wrapper and lent memory.
 type Call = fn(&[u8], &mut [u8]) -> Answer;
 
 /// The calls on a file with an output: the library's and the reference's.
-const FILE_CALLS: [(&str, Call, Call); 11] = [
+const FILE_CALLS: [(&str, Call, Call); 6] = [
     ("sections", library::sections, reference::sections),
     ("devices", library::devices, reference::devices),
     ("disks", library::disks, reference::disks),
     ("cpus", library::cpus, reference::cpus),
     ("mmus", library::mmus, reference::mmus),
     ("canonical", library::canonical, reference::canonical),
-    (
-        "add_device of (3, 1, 0)",
-        |file, out| library::add_device(file, 3, 1, 0, b"new", out),
-        |file, out| reference::add_device(file, 3, 1, 0, b"new", out),
-    ),
-    (
-        "add_disk of 256",
-        |file, out| library::add_disk(file, 256, b"base", b"", out),
-        |file, out| reference::add_disk(file, 256, b"base", b"", out),
-    ),
-    (
-        "remove_device of (3, 1, 0)",
-        |file, out| library::remove_device(file, 3, 1, 0, out),
-        |file, out| reference::remove_device(file, 3, 1, 0, out),
-    ),
-    (
-        "remove_disk of 256",
-        |file, out| library::remove_disk(file, 256, out),
-        |file, out| reference::remove_disk(file, 256, out),
-    ),
-    (
-        "replace_device of (3, 1, 0)",
-        |file, out| library::replace_device(file, 3, 1, 0, b"another", out),
-        |file, out| reference::replace_device(file, 3, 1, 0, b"another", out),
-    ),
+];
+
+/// The edits of a file, small ones.
+const FILE_EDITS: [Edit; 5] = [
+    Edit::AddDevice((3, 1, 0), b"new"),
+    Edit::AddDisk(256, b"base", b""),
+    Edit::RemoveDevice((3, 1, 0)),
+    Edit::RemoveDisk(256),
+    Edit::ReplaceDevice((3, 1, 0), b"another"),
 ];
 
 /// The same for wrappers.
@@ -94,13 +93,15 @@ impl Comparison {
             answers: Counts::default(),
             rings: library::RINGS,
             sheets: library::SHEETS,
+            edits: library::EDITS,
+            cards: Random::new(!seed),
             exact: false,
             ours: vec![],
             theirs: vec![],
         }
     }
 
-    /// Every call that takes a file, the adds with a small entry; the answer to `check`.
+    /// Every call that takes a file, the edits with a small entry; the answer to `check`.
     pub fn file(&mut self, file: &[u8]) -> Answer {
         self.inputs += 1;
         let before = fingerprint(file);
@@ -109,7 +110,11 @@ impl Comparison {
         let (ours, theirs) = (library::meta(file), reference::meta(file));
         self.answer("meta", &[file], ours.0, theirs.0);
         assert_eq!(ours.1, theirs.1, "meta of {:02X?}", &file[..file.len().min(SHOWN)]);
+        let card = self.open(file);
         self.outputs(&FILE_CALLS, file);
+        for edit in FILE_EDITS {
+            self.edit_beside(file, card, edit);
+        }
         self.ready_somewhere(file);
         self.unchanged(before, file);
         answer
@@ -163,98 +168,6 @@ impl Comparison {
         answer
     }
 
-    /// Adds a device to a file; the answer, and what the output then holds.
-    pub fn add_device(&mut self, file: &[u8], key: DeviceKey, payload: &[u8]) -> (Answer, &[u8]) {
-        self.inputs += 1;
-        let (id, version, flags) = key;
-        let inputs = [file, payload];
-        let before = inputs.map(fingerprint);
-        let answer = self.output(
-            &format!("add_device of {key:?}"),
-            &inputs,
-            |out| library::add_device(file, id, version, flags, payload, out),
-            |out| reference::add_device(file, id, version, flags, payload, out),
-        );
-        self.unchanged(before[0], file);
-        self.unchanged(before[1], payload);
-        (answer, self.lent())
-    }
-
-    /// Adds a disk to a file; the answer, and what the output then holds.
-    pub fn add_disk(
-        &mut self,
-        file: &[u8],
-        id: u32,
-        base: &[u8],
-        overlay: &[u8],
-    ) -> (Answer, &[u8]) {
-        self.inputs += 1;
-        let inputs = [file, base, overlay];
-        let before = inputs.map(fingerprint);
-        let answer = self.output(
-            &format!("add_disk of {id}"),
-            &inputs,
-            |out| library::add_disk(file, id, base, overlay, out),
-            |out| reference::add_disk(file, id, base, overlay, out),
-        );
-        for (before, input) in before.into_iter().zip(inputs) {
-            self.unchanged(before, input);
-        }
-        (answer, self.lent())
-    }
-
-    /// Removes a device from a file; the answer, and what the output then holds.
-    pub fn remove_device(&mut self, file: &[u8], key: DeviceKey) -> (Answer, &[u8]) {
-        self.inputs += 1;
-        let (id, version, flags) = key;
-        let before = fingerprint(file);
-        let answer = self.output(
-            &format!("remove_device of {key:?}"),
-            &[file],
-            |out| library::remove_device(file, id, version, flags, out),
-            |out| reference::remove_device(file, id, version, flags, out),
-        );
-        self.unchanged(before, file);
-        (answer, self.lent())
-    }
-
-    /// Removes a disk from a file; the answer, and what the output then holds.
-    pub fn remove_disk(&mut self, file: &[u8], id: u32) -> (Answer, &[u8]) {
-        self.inputs += 1;
-        let before = fingerprint(file);
-        let answer = self.output(
-            &format!("remove_disk of {id}"),
-            &[file],
-            |out| library::remove_disk(file, id, out),
-            |out| reference::remove_disk(file, id, out),
-        );
-        self.unchanged(before, file);
-        (answer, self.lent())
-    }
-
-    /// Replaces a device's payload; the answer, and what the output then holds.
-    pub fn replace_device(
-        &mut self,
-        file: &[u8],
-        key: DeviceKey,
-        payload: &[u8],
-    ) -> (Answer, &[u8]) {
-        self.inputs += 1;
-        let (id, version, flags) = key;
-        let inputs = [file, payload];
-        let before = inputs.map(fingerprint);
-        let answer = self.output(
-            &format!("replace_device of {key:?}"),
-            &inputs,
-            |out| library::replace_device(file, id, version, flags, payload, out),
-            |out| reference::replace_device(file, id, version, flags, payload, out),
-        );
-        for (before, input) in before.into_iter().zip(inputs) {
-            self.unchanged(before, input);
-        }
-        (answer, self.lent())
-    }
-
     /// Reads a message, and writes what was read: that gives its bytes again.
     pub fn message(&mut self, message: &[u8]) -> Reading {
         self.inputs += 1;
@@ -297,14 +210,14 @@ impl Comparison {
     }
 
     /// A call that answers a number and a place.
-    fn answer(&mut self, call: &str, inputs: &[&[u8]], ours: Answer, theirs: Answer) -> Answer {
+    fn answer<T: Answered>(&mut self, call: &str, inputs: &[&[u8]], ours: T, theirs: T) -> T {
         self.same(call, inputs, ours, theirs);
-        self.answers.add(theirs.number);
+        self.answers.add(theirs.answer().number);
         theirs
     }
 
     /// What the library gave has to be what the reference gave.
-    fn same<T: PartialEq + Debug>(
+    pub(crate) fn same<T: PartialEq + Debug>(
         &mut self,
         call: &str,
         inputs: &[&[u8]],
@@ -326,15 +239,15 @@ impl Comparison {
     }
 
     /// A call with lent memory, whose length is chosen about what the reference needs.
-    fn output(
+    pub(crate) fn output<T: Answered>(
         &mut self,
         call: &str,
         inputs: &[&[u8]],
-        library: impl Fn(&mut [u8]) -> Answer,
-        reference: impl Fn(&mut [u8]) -> Answer,
-    ) -> Answer {
+        library: impl Fn(&mut [u8]) -> T,
+        reference: impl Fn(&mut [u8]) -> T,
+    ) -> T {
         let input = inputs.iter().map(|input| input.len()).sum();
-        let length = self.lent_length(reference(&mut []), input);
+        let length = self.lent_length(reference(&mut []).answer(), input);
         let salt = self.random.u8();
         lay_pattern(&mut self.ours, length, salt);
         lay_pattern(&mut self.theirs, length, salt);
@@ -348,7 +261,8 @@ impl Comparison {
             );
             self.fail(call, inputs, &what);
         }
-        let written = if theirs.number == 0 { theirs.place as usize } else { 0 };
+        let answer = theirs.answer();
+        let written = if answer.number == 0 { answer.place as usize } else { 0 };
         if !pattern_stands(&self.theirs, written, salt) {
             self.fail(
                 call,
@@ -380,7 +294,7 @@ impl Comparison {
     }
 
     /// The memory lent last, as it was left.
-    fn lent(&self) -> &[u8] {
+    pub(crate) fn lent(&self) -> &[u8] {
         &self.ours[MARGIN..self.ours.len() - MARGIN]
     }
 

@@ -8,8 +8,8 @@
 //! - [`random`]: the numbers that inputs are made of;
 //! - [`make`]: valid files and wrappers, [`regions`]: valid regions, [`text`]: valid and broken UTF-8,
 //!   [`damage`]: faults in them;
-//! - [`compare`]: one input given to both, and what is compared; [`rings`]: the same for calls that change a
-//!   region in place, [`sheets`]: for fields of states; [`counts`]: how often each number was answered;
+//! - [`compare`]: one input given to both, and what is compared; [`edits`]: the same for edits beside a card, [`rings`]: for
+//!   calls that change a region in place, [`sheets`]: for fields of states; [`counts`]: how often each number was answered;
 //! - [`planted`]: errors that have to be found;
 //! - [`record`]: calls and their answers written to a file, for the library in WebAssembly.
 //!
@@ -18,6 +18,7 @@
 pub mod compare;
 pub mod counts;
 pub mod damage;
+pub mod edits;
 pub mod library;
 pub mod make;
 pub mod planted;

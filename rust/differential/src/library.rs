@@ -1,8 +1,9 @@
 //! The library's calls, with the reference's signatures, recorded where a run asks for it. No other module names the library.
 
 use cimbrolau::raw;
-use reference::{Access, Answer, Cursors, Meta, Pair, Readiness, Reading, Record};
+use reference::{Access, Answer, Card, Cursors, Edited, Meta, Pair, Readiness, Reading, Record};
 
+use crate::edits::{numbers, Edit, EditCalls};
 use crate::record::{changes, looks, number, writes, Bytes, Fields};
 use crate::rings::RingCalls;
 use crate::sheets::SheetCalls;
@@ -70,57 +71,55 @@ pub fn canonical(file: &[u8], out: &mut [u8]) -> Answer {
     writes("canonical", &[Bytes(file)], out, |out| answer!(raw::canonical(file, out)))
 }
 
-pub fn add_device(
-    file: &[u8],
-    id: u32,
-    version: u16,
-    flags: u16,
-    payload: &[u8],
-    out: &mut [u8],
-) -> Answer {
-    writes(
-        "add_device",
-        &[Bytes(file), number(id), number(version), number(flags), Bytes(payload)],
-        out,
-        |out| answer!(raw::add_device(file, id, version, flags, payload, out)),
-    )
+/// The calls beside a card.
+pub const EDITS: EditCalls = EditCalls { open, edit };
+
+/// The library's answer with a card.
+fn edited(given: raw::Edited) -> Edited {
+    let raw::Edited { number, index, place, card } = given;
+    let raw::Card { length, sections, devices, payloads } = card;
+    Edited { number, index, place, card: Card { length, sections, devices, payloads } }
 }
 
-pub fn add_disk(file: &[u8], id: u32, base: &[u8], overlay: &[u8], out: &mut [u8]) -> Answer {
-    writes("add_disk", &[Bytes(file), number(id), Bytes(base), Bytes(overlay)], out, |out| {
-        answer!(raw::add_disk(file, id, base, overlay, out))
-    })
+pub fn open(file: &[u8]) -> Edited {
+    looks("open", &[Bytes(file)], || edited(raw::open(file)))
 }
 
-pub fn remove_device(file: &[u8], id: u32, version: u16, flags: u16, out: &mut [u8]) -> Answer {
-    writes(
-        "remove_device",
-        &[Bytes(file), number(id), number(version), number(flags)],
-        out,
-        |out| answer!(raw::remove_device(file, id, version, flags, out)),
-    )
-}
-
-pub fn remove_disk(file: &[u8], id: u32, out: &mut [u8]) -> Answer {
-    writes("remove_disk", &[Bytes(file), number(id)], out, |out| {
-        answer!(raw::remove_disk(file, id, out))
-    })
-}
-
-pub fn replace_device(
-    file: &[u8],
-    id: u32,
-    version: u16,
-    flags: u16,
-    payload: &[u8],
-    out: &mut [u8],
-) -> Answer {
-    writes(
-        "replace_device",
-        &[Bytes(file), number(id), number(version), number(flags), Bytes(payload)],
-        out,
-        |out| answer!(raw::replace_device(file, id, version, flags, payload, out)),
-    )
+pub fn edit(file: &[u8], card: Card, edit: Edit, out: &mut [u8]) -> Edited {
+    let mut given = vec![Bytes(file)];
+    given.extend(numbers(card).map(number));
+    let Card { length, sections, devices, payloads } = card;
+    let card = raw::Card { length, sections, devices, payloads };
+    match edit {
+        Edit::AddDevice((id, version, flags), payload) => {
+            given.extend([number(id), number(version), number(flags), Bytes(payload)]);
+            writes("add_device", &given, out, |out| {
+                edited(raw::add_device(file, card, id, version, flags, payload, out))
+            })
+        }
+        Edit::AddDisk(id, base, overlay) => {
+            given.extend([number(id), Bytes(base), Bytes(overlay)]);
+            writes("add_disk", &given, out, |out| {
+                edited(raw::add_disk(file, card, id, base, overlay, out))
+            })
+        }
+        Edit::RemoveDevice((id, version, flags)) => {
+            given.extend([number(id), number(version), number(flags)]);
+            writes("remove_device", &given, out, |out| {
+                edited(raw::remove_device(file, card, id, version, flags, out))
+            })
+        }
+        Edit::RemoveDisk(id) => {
+            given.push(number(id));
+            writes("remove_disk", &given, out, |out| edited(raw::remove_disk(file, card, id, out)))
+        }
+        Edit::ReplaceDevice((id, version, flags), payload) => {
+            given.extend([number(id), number(version), number(flags), Bytes(payload)]);
+            writes("replace_device", &given, out, |out| {
+                edited(raw::replace_device(file, card, id, version, flags, payload, out))
+            })
+        }
+    }
 }
 
 pub fn ready(file: &[u8], list: &mut [u8]) -> Readiness {

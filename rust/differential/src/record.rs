@@ -15,7 +15,9 @@ use std::io::{BufWriter, Write};
 use std::path::Path;
 use std::sync::{Mutex, OnceLock};
 
-use reference::{Access, Answer, Cursors, Pair, Readiness, Reading, Record};
+use reference::{Access, Answer, Cursors, Edited, Pair, Readiness, Reading, Record};
+
+use crate::edits::numbers;
 
 /// One input in so many is recorded.
 const EVERY: u64 = 16;
@@ -61,6 +63,13 @@ fields! {
     Access: kind level present long_mode size granularity unusable rest;
 }
 
+impl Fields for Edited {
+    fn fields(&self) -> Vec<u64> {
+        let answer = [self.number.into(), self.index.into(), self.place];
+        [&answer[..], &numbers(self.card)].concat()
+    }
+}
+
 /// What calls answer that write to lent memory.
 pub trait Written: Fields {
     /// The bytes written.
@@ -77,7 +86,7 @@ macro_rules! written {
     };
 }
 
-written!(Answer Readiness);
+written!(Answer Edited Readiness);
 
 /// A number of up to 64 bits, or the 32 bits of a signed one.
 fn low_bits(number: impl TryInto<u64> + TryInto<i32> + Copy) -> u64 {

@@ -3,11 +3,11 @@
 //! Each has a copy of the region with a margin on both sides that belongs to nobody; answers and all bytes
 //! are compared afterwards. A refused call may not change any, and one that is taken only as many as it says.
 
-use std::fmt::{Arguments, Debug};
+use std::fmt::Arguments;
 
 use reference::{Answer, Cursors, Pair, Record};
 
-use crate::compare::{fingerprint, lay_pattern, Comparison, MARGIN};
+use crate::compare::{fingerprint, lay_pattern, Answered, Comparison, MARGIN};
 
 /// The calls on regions.
 #[derive(Clone, Copy)]
@@ -29,17 +29,6 @@ pub const REFERENCE: RingCalls = RingCalls {
     commit: reference::ring_commit,
     take: reference::ring_take,
 };
-
-/// The number and the place in what a call answers.
-trait Answered: Copy + PartialEq + Debug {
-    fn answer(&self) -> Answer;
-}
-
-impl Answered for Answer {
-    fn answer(&self) -> Answer {
-        *self
-    }
-}
 
 macro_rules! answered {
     ($($answered:ty),*) => {

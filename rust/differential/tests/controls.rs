@@ -2,6 +2,12 @@
 //! that it concerns have to find.
 
 #[allow(dead_code)]
+#[path = "differential/cards.rs"]
+mod cards;
+#[allow(dead_code)]
+#[path = "differential/removals.rs"]
+mod removals;
+#[allow(dead_code)]
 #[path = "differential/rings.rs"]
 mod rings;
 #[allow(dead_code)]
@@ -11,10 +17,11 @@ mod sheets;
 use std::panic::{catch_unwind, AssertUnwindSafe};
 
 use differential::compare::Comparison;
-use differential::planted::{rings as in_rings, sheets as in_sheets};
+use differential::edits::EditCalls;
+use differential::planted::{cards as in_cards, rings as in_rings, sheets as in_sheets};
 use differential::rings::RingCalls;
 use differential::sheets::SheetCalls;
-use differential::{rings as on_rings, sheets as on_states};
+use differential::{edits as on_files, rings as on_rings, sheets as on_states};
 
 type Group = fn(&mut Comparison);
 
@@ -32,6 +39,12 @@ impl Planted for RingCalls {
 impl Planted for SheetCalls {
     fn put(self, run: &mut Comparison) {
         run.sheets = self;
+    }
+}
+
+impl Planted for EditCalls {
+    fn put(self, run: &mut Comparison) {
+        run.edits = self;
     }
 }
 
@@ -59,6 +72,12 @@ fn nothing_is_found_in_the_reference_itself() {
     for group in groups {
         let mut run = Comparison::new("itself", 7);
         run.sheets = on_states::REFERENCE;
+        group(&mut run);
+    }
+    let groups: [Group; 2] = [cards::one_number, cards::any];
+    for group in groups {
+        let mut run = Comparison::new("itself", 7);
+        run.edits = on_files::REFERENCE;
         group(&mut run);
     }
 }
@@ -225,4 +244,58 @@ fn a_level_of_one_bit() {
 #[test]
 fn a_rest_that_is_lost() {
     found_by(&[sheets::access_words], in_sheets::A_REST_THAT_IS_LOST);
+}
+
+#[test]
+fn a_card_that_stays() {
+    found_by(&[cards::shifts, cards::any, removals::on_any_file], in_cards::A_CARD_THAT_STAYS);
+}
+
+#[test]
+fn a_card_that_a_refusal_empties() {
+    found_by(
+        &[cards::shifts, cards::any, removals::on_any_file],
+        in_cards::A_CARD_THAT_A_REFUSAL_EMPTIES,
+    );
+}
+
+#[test]
+fn a_card_of_the_file_as_it_is() {
+    found_by(&[cards::shifts, cards::any], in_cards::A_CARD_OF_THE_FILE_AS_IT_IS);
+}
+
+#[test]
+fn a_number_that_stops_at_0() {
+    found_by(&[cards::one_number, removals::on_any_file], in_cards::A_NUMBER_THAT_STOPS_AT_0);
+}
+
+#[test]
+fn a_sum_that_wraps() {
+    found_by(&[cards::one_number, cards::any, removals::on_any_file], in_cards::A_SUM_THAT_WRAPS);
+}
+
+#[test]
+fn a_bound_that_is_asked_if_it_moves() {
+    found_by(
+        &[cards::one_number, cards::any, removals::on_any_file],
+        in_cards::A_BOUND_THAT_IS_ASKED_IF_IT_MOVES,
+    );
+}
+
+#[test]
+fn a_length_below_a_header() {
+    found_by(&[cards::one_number, removals::on_any_file], in_cards::A_LENGTH_BELOW_A_HEADER);
+}
+
+#[test]
+fn a_card_before_room() {
+    found_by(&[cards::shifts, removals::on_any_file], in_cards::A_CARD_BEFORE_ROOM);
+}
+
+#[test]
+fn an_edit_that_writes_before_its_card() {
+    found_by(
+        &[cards::one_number, cards::any, removals::on_any_file],
+        in_cards::AN_EDIT_THAT_WRITES_BEFORE_ITS_CARD,
+    );
 }

@@ -69,8 +69,9 @@ pub fn hunt(subject: &Subject, seeds: &[Vec<u8>], number: u64, until: Until) -> 
     hunt
 }
 
-/// The seeds of a subject: files of a folder, in the order of their names.
+/// The seeds of a subject: files of a folder, in the order of their names. Cards are of files.
 pub fn seeds(subject: &str) -> Vec<Vec<u8>> {
+    let subject = if subject == "cards" { "files" } else { subject };
     let folder = Path::new(env!("CARGO_MANIFEST_DIR")).join("seeds").join(subject);
     let entries = fs::read_dir(&folder).expect("the seeds are there");
     let mut paths: Vec<PathBuf> = entries.flatten().map(|entry| entry.path()).collect();

@@ -4,7 +4,7 @@ use differential::planted;
 use reference::answer::{CUT, KEY, MANY, SECVER, TEXT, VALUE};
 use reference::{Answer, Meta};
 
-use crate::subject::{files, messages, meta, regions, states, wrappers, Call, Subject};
+use crate::subject::{cards, files, messages, meta, regions, states, wrappers, Call, Subject};
 
 const TAKEN: Answer = Answer { number: 0, place: 0 };
 
@@ -22,6 +22,7 @@ pub fn all() -> Vec<(&'static str, Subject)> {
         planted::rings::ALL.iter().map(|(name, calls)| (*name, regions(*calls))).collect();
     let sheets = planted::sheets::ALL.iter().chain(planted::sheets::WORDS);
     all.extend(sheets.map(|(name, calls)| (*name, states(*calls))));
+    all.extend(planted::cards::ALL.iter().map(|(name, calls)| (*name, cards(*calls))));
     let check = |error: fn(&[u8], Answer) -> Answer| -> Subject {
         with(files(), "check", Box::new(move |file, _| error(file, reference::check(file))))
     };
@@ -78,7 +79,8 @@ pub fn all() -> Vec<(&'static str, Subject)> {
                 files(),
                 "add_device",
                 Box::new(|file, out| {
-                    let answer = reference::add_device(file, 3, 1, 0, b"new", out);
+                    let card = reference::open(file).card;
+                    let answer = reference::add_device(file, card, 3, 1, 0, b"new", out).answer();
                     if answer.number == reference::answer::HAVE && !out.is_empty() {
                         out[0] ^= 1;
                     }

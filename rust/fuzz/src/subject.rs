@@ -1,5 +1,6 @@
 //! What is compared: the calls on one kind of input, the library's beside the reference's.
 
+use differential::edits::{self, card, numbers, Edit, EditCalls, BOUNDS};
 use differential::library;
 use differential::random::Random;
 use differential::rings::{RingCalls, REFERENCE};
@@ -70,8 +71,8 @@ pub fn files() -> Subject {
                 lends: Lends::Input(48),
             },
             pair!("canonical", side => side::canonical),
-            pair!("add_device", side => |file, out| side::add_device(file, 3, 1, 0, b"new", out)),
-            pair!("add_disk", side => |file, out| side::add_disk(file, 256, b"base", b"", out)),
+            edit("add_device", Edit::AddDevice((3, 1, 0), b"new")),
+            edit("add_disk", Edit::AddDisk(256, b"base", b"")),
         ],
     }
 }
@@ -90,6 +91,90 @@ pub fn meta(meta: fn(&[u8]) -> (Answer, Option<Meta>)) -> Call {
         }
         answer
     })
+}
+
+/// An edit beside the true card.
+fn edit(name: &'static str, edit: Edit<'static>) -> Pair {
+    let made = |calls: EditCalls| -> Call {
+        Box::new(move |file, out| {
+            (calls.edit)(file, reference::open(file).card, edit, out).answer()
+        })
+    };
+    Pair { name, ours: made(library::EDITS), theirs: made(edits::REFERENCE), lends: Lends::Needed }
+}
+
+/// Snapshot files opened, and edited beside cards of every kind, with these calls in the library's place.
+pub fn cards(calls: EditCalls) -> Subject {
+    let edits: [(&str, Edit); 5] = [
+        ("add_device", Edit::AddDevice((3, 1, 0), b"new")),
+        ("add_disk", Edit::AddDisk(1, b"base", b"")),
+        ("remove_device", Edit::RemoveDevice((3, 1, 0))),
+        ("remove_disk", Edit::RemoveDisk(1)),
+        ("replace_device", Edit::ReplaceDevice((3, 1, 0), b"")),
+    ];
+    let opened = |calls: EditCalls| -> Call {
+        Box::new(move |file, out| {
+            let opened = (calls.open)(file);
+            tell(file, out, numbers(opened.card));
+            opened.answer()
+        })
+    };
+    let mut pairs = vec![Pair {
+        name: "open",
+        ours: opened(calls),
+        theirs: opened(edits::REFERENCE),
+        lends: Lends::Input(32),
+    }];
+    pairs.extend(edits.map(|(name, edit)| Pair {
+        name,
+        ours: beside(calls, edit),
+        theirs: beside(edits::REFERENCE, edit),
+        lends: Lends::Input(96),
+    }));
+    Subject { name: "cards", pairs }
+}
+
+/// The library's calls with a card.
+pub fn library_cards() -> Subject {
+    cards(library::EDITS)
+}
+
+/// An edit beside a card that the file's last bytes choose, into lent memory with room for 64 bytes more than the file, or one
+/// that is too short; the card that comes back stands behind it.
+fn beside(calls: EditCalls, edit: Edit<'static>) -> Call {
+    Box::new(move |file, out| {
+        let room = match file.last() {
+            Some(last) if last % 8 == 7 => file.len() / 2,
+            _ => out.len() - 32,
+        };
+        let edited = (calls.edit)(file, chosen(file), edit, &mut out[..room]);
+        let end = out.len() - 32;
+        for (part, number) in out[end..].chunks_exact_mut(8).zip(numbers(edited.card)) {
+            part.copy_from_slice(&number.to_le_bytes());
+        }
+        edited.answer()
+    })
+}
+
+/// The true card of a file, or one with a number near 0, a bound or 2^64, by the file's last three bytes.
+fn chosen(file: &[u8]) -> reference::Card {
+    let truth = reference::open(file).card;
+    let [.., which, edge, near] = file else { return truth };
+    let at = usize::from(which % 5);
+    let mut changed = numbers(truth);
+    if let Some(number) = changed.get_mut(at) {
+        let (low, high) = BOUNDS[at];
+        let edge = [0, low, high, u64::MAX][usize::from(edge % 4)];
+        *number = edge.wrapping_add(u64::from(*near) / 8).wrapping_sub(16);
+    }
+    card(changed)
+}
+
+/// Four numbers behind the bytes of the input.
+fn tell(input: &[u8], out: &mut [u8], numbers: [u64; 4]) {
+    for (part, number) in out[input.len()..].chunks_exact_mut(8).zip(numbers) {
+        part.copy_from_slice(&number.to_le_bytes());
+    }
 }
 
 /// Disk-controller wrappers.

@@ -3,7 +3,7 @@
 
 use fuzz::hunt::{hunt, seeds, Until};
 use fuzz::planted;
-use fuzz::subject::{files, library_regions, library_states, messages, wrappers};
+use fuzz::subject::{files, library_cards, library_regions, library_states, messages, wrappers};
 
 const NUMBER: u64 = 28;
 
@@ -12,7 +12,9 @@ const INPUTS: u64 = 200_000;
 
 #[test]
 fn the_library_and_the_reference_agree() {
-    for subject in [files(), wrappers(), messages(), library_regions(), library_states()] {
+    let subjects =
+        [files(), library_cards(), wrappers(), messages(), library_regions(), library_states()];
+    for subject in subjects {
         let found = hunt(&subject, &seeds(subject.name), NUMBER, Until::Inputs(INPUTS));
         let told = found.difference.map(|(input, how)| format!("{how}: {input:02X?}"));
         assert_eq!(told, None, "{}", subject.name);

@@ -32,12 +32,14 @@ pub const FULL: u32 = 22;
 pub const EMPTY: u32 = 23;
 pub const RECORD: u32 = 24;
 pub const ABSENT: u32 = 25;
+pub const PAYLOAD: u32 = 26;
+pub const CARD: u32 = 28;
 pub const TURN: u32 = 29;
 
 /// Every number that a call answers: 0 for taken, and the refusals. The numbers have gaps.
-pub const NUMBERS: [u32; 26] = [
+pub const NUMBERS: [u32; 28] = [
     0, SHORT, MAGIC, VERSION, ENDIAN, RESERVED, SIZE, CUT, MANY, TWICE, SECVER, SHAPE, LIMIT, KEY,
-    TEXT, VALUE, ROOM, HAVE, TAG, REGION, BIG, FULL, EMPTY, RECORD, ABSENT, TURN,
+    TEXT, VALUE, ROOM, HAVE, TAG, REGION, BIG, FULL, EMPTY, RECORD, ABSENT, PAYLOAD, CARD, TURN,
 ];
 
 /// What was read, or the first check that failed.

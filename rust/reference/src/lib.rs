@@ -7,12 +7,14 @@
 //! - [`answer`]: the refusals by name;
 //! - [`cursor`]: fields read one after the other, and bytes written one after the other;
 //! - [`list`]: the lists of devices, disks, CPUs, MMUs and controllers;
+//! - [`card`]: what is shown of a canonical file, and how edits move it;
 //! - [`snapshot`], [`wrapper`], [`message`]: the three formats and their calls;
 //! - [`ready`]: what a snapshot lacks to be restored;
 //! - [`ring`]: regions of shared memory and the rings in them;
 //! - [`sheet`]: the fields of CPU and MMU states.
 
 pub mod answer;
+pub mod card;
 pub mod cursor;
 pub mod list;
 pub mod message;
@@ -23,6 +25,7 @@ pub mod snapshot;
 pub mod wrapper;
 
 pub use answer::Answer;
+pub use card::{Card, Edited};
 pub use message::{message_read, message_write, Reading};
 pub use ready::{ready, Readiness};
 pub use ring::{
@@ -31,7 +34,7 @@ pub use ring::{
 };
 pub use sheet::{access, cpu_field, cpu_set, mmu_field, mmu_set, Access};
 pub use snapshot::{
-    add_device, add_disk, canonical, check, cpus, devices, disks, meta, mmus, remove_device,
+    add_device, add_disk, canonical, check, cpus, devices, disks, meta, mmus, open, remove_device,
     remove_disk, replace_device, sections, Meta,
 };
 pub use wrapper::{controllers, wrapper_canonical, wrapper_check};

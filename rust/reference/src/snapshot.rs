@@ -1,9 +1,10 @@
-//! AEROSNAP files: checked, listed, written in canonical form, and with one entry more.
+//! AEROSNAP files: checked, listed, written in canonical form, and edited beside a card.
 
 use crate::answer::{
     answered, ask, Answer, Taken, ABSENT, CUT, ENDIAN, HAVE, LIMIT, MAGIC, MANY, RESERVED, SECVER,
     SHAPE, SHORT, SIZE, TEXT, TWICE, VERSION,
 };
+use crate::card::{edited, opened, Card, Edited};
 use crate::cursor::{is_text, u16_at, u32_at, u64_at, Cursor, Output};
 use crate::list::{
     device_key, is_cpu_length, mmu_length, read_cpu_state, read_list, record, write_table, Entry,
@@ -93,43 +94,66 @@ pub fn canonical(file: &[u8], out: &mut [u8]) -> Answer {
     answered(read_file(file).and_then(|sections| write_canonical(&sections, out)))
 }
 
+/// Checks a file, and makes the card of its canonical form.
+pub fn open(file: &[u8]) -> Edited {
+    opened(read_file(file).map(|sections| card_of(&canonical_order(&sections))))
+}
+
 /// Writes the canonical form of the file's content and one device more.
 pub fn add_device(
     file: &[u8],
+    card: Card,
     id: u32,
     version: u16,
     flags: u16,
     payload: &[u8],
     out: &mut [u8],
-) -> Answer {
-    answered(try_device(file, (id, version, flags), payload, |parts| Wish::Add(parts), out))
+) -> Edited {
+    let key = (id, version, flags);
+    edited(card, try_device(file, card, key, payload, |parts| Wish::Add(parts), out))
 }
 
 /// Writes the canonical form of the file's content and one disk more.
-pub fn add_disk(file: &[u8], id: u32, base: &[u8], overlay: &[u8], out: &mut [u8]) -> Answer {
-    answered(try_add_disk(file, id, base, overlay, out))
+pub fn add_disk(
+    file: &[u8],
+    card: Card,
+    id: u32,
+    base: &[u8],
+    overlay: &[u8],
+    out: &mut [u8],
+) -> Edited {
+    edited(card, try_add_disk(file, card, id, base, overlay, out))
 }
 
 /// Writes the canonical form of the file's content without one of its devices.
-pub fn remove_device(file: &[u8], id: u32, version: u16, flags: u16, out: &mut [u8]) -> Answer {
-    answered(try_remove(file, device(id, version, flags), out))
+pub fn remove_device(
+    file: &[u8],
+    card: Card,
+    id: u32,
+    version: u16,
+    flags: u16,
+    out: &mut [u8],
+) -> Edited {
+    edited(card, try_remove(file, card, device(id, version, flags), out))
 }
 
 /// Writes the canonical form of the file's content without one of its disks.
-pub fn remove_disk(file: &[u8], id: u32, out: &mut [u8]) -> Answer {
-    answered(try_remove(file, disk(id), out))
+pub fn remove_disk(file: &[u8], card: Card, id: u32, out: &mut [u8]) -> Edited {
+    edited(card, try_remove(file, card, disk(id), out))
 }
 
 /// Writes the canonical form of the file's content with another payload in one of its devices.
 pub fn replace_device(
     file: &[u8],
+    card: Card,
     id: u32,
     version: u16,
     flags: u16,
     payload: &[u8],
     out: &mut [u8],
-) -> Answer {
-    answered(try_device(file, (id, version, flags), payload, |parts| Wish::Replace(parts), out))
+) -> Edited {
+    let key = (id, version, flags);
+    edited(card, try_device(file, card, key, payload, |parts| Wish::Replace(parts), out))
 }
 
 // Reading.
@@ -306,6 +330,18 @@ fn length_of(sections: &[&Section]) -> usize {
     HEADER.len() + sections.iter().map(|section| section.bytes.len()).sum::<usize>()
 }
 
+/// The card of a canonical file of these sections.
+fn card_of(sections: &[&Section]) -> Card {
+    let devices = sections.iter().find(|section| section.id == DEVICES);
+    let devices = devices.and_then(|section| section.list.as_deref()).unwrap_or_default();
+    Card {
+        length: length_of(sections) as u64,
+        sections: sections.len() as u64,
+        devices: devices.len() as u64,
+        payloads: devices.iter().map(|entry| u64_at(entry.bytes, 8)).sum(),
+    }
+}
+
 impl Section<'_> {
     /// A list with no entries and no tail counts as absent.
     fn is_absent(&self) -> bool {
@@ -382,11 +418,12 @@ impl<'a> Wish<'a> {
 
 fn try_device(
     file: &[u8],
+    card: Card,
     (id, version, flags): (u32, u16, u16),
     payload: &[u8],
     wish: for<'a> fn(&'a [&'a [u8]]) -> Wish<'a>,
     out: &mut [u8],
-) -> Taken<usize> {
+) -> Taken<(usize, Card)> {
     let sections = read_file(file)?;
     let length = payload.len() as u64;
     ask(length <= MOST_PAYLOAD, LIMIT, 0)?;
@@ -397,10 +434,17 @@ fn try_device(
         &length.to_le_bytes(),
         payload,
     ];
-    edit(&sections, device(id, version, flags), wish(&parts), out)
+    edit(&sections, card, device(id, version, flags), wish(&parts), out)
 }
 
-fn try_add_disk(file: &[u8], id: u32, base: &[u8], overlay: &[u8], out: &mut [u8]) -> Taken<usize> {
+fn try_add_disk(
+    file: &[u8],
+    card: Card,
+    id: u32,
+    base: &[u8],
+    overlay: &[u8],
+    out: &mut [u8],
+) -> Taken<(usize, Card)> {
     let sections = read_file(file)?;
     let most = MOST_IMAGE as usize;
     ask(base.len() <= most && overlay.len() <= most, LIMIT, 0)?;
@@ -412,18 +456,26 @@ fn try_add_disk(file: &[u8], id: u32, base: &[u8], overlay: &[u8], out: &mut [u8
         &(overlay.len() as u32).to_le_bytes(),
         overlay,
     ];
-    edit(&sections, disk(id), Wish::Add(&parts), out)
+    edit(&sections, card, disk(id), Wish::Add(&parts), out)
 }
 
-fn try_remove(file: &[u8], target: Target, out: &mut [u8]) -> Taken<usize> {
+fn try_remove(file: &[u8], card: Card, target: Target, out: &mut [u8]) -> Taken<(usize, Card)> {
     let sections = read_file(file)?;
-    edit(&sections, target, Wish::Remove, out)
+    edit(&sections, card, target, Wish::Remove, out)
 }
 
 /// Writes the canonical form of the sections with the entry put into its list, taken out or exchanged.
-fn edit(sections: &[Section], target: Target, wish: Wish, out: &mut [u8]) -> Taken<usize> {
+fn edit(
+    sections: &[Section],
+    card: Card,
+    target: Target,
+    wish: Wish,
+    out: &mut [u8],
+) -> Taken<(usize, Card)> {
+    let ordered = canonical_order(sections);
+    let before_edit = card_of(&ordered);
     let (others, home): (Vec<&Section>, Vec<&Section>) =
-        canonical_order(sections).into_iter().partition(|section| section.id != target.id);
+        ordered.into_iter().partition(|section| section.id != target.id);
     let none = List::new();
     let list = home.first().and_then(|home| home.list.as_ref());
     let list = list.unwrap_or(&none);
@@ -465,6 +517,16 @@ fn edit(sections: &[Section], target: Target, wish: Wish, out: &mut [u8]) -> Tak
     }
 
     let mut output = Output::with_room(out, needed)?;
+    let mut after_edit = card_of(&others);
+    after_edit.length = needed as u64;
+    after_edit.sections += u64::from(written);
+    if target.id == DEVICES {
+        let kept = before.iter().chain(after).map(|entry| u64_at(entry.bytes, 8));
+        after_edit.devices = count as u64;
+        after_edit.payloads = kept.sum::<u64>() + wish.length().saturating_sub(16);
+    }
+    let card = card.moved(before_edit, after_edit)?;
+
     output.put(HEADER);
     let (front, back) = others.split_at(others.partition_point(|other| other.rank() < target.id));
     for section in front {
@@ -476,7 +538,7 @@ fn edit(sections: &[Section], target: Target, wish: Wish, out: &mut [u8]) -> Tak
     for section in back {
         put_section(section, &mut output);
     }
-    Ok(needed)
+    Ok((needed, card))
 }
 
 /// A list after an edit: the entries before the place, the new one's parts, the entries behind it, its

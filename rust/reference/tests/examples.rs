@@ -102,7 +102,8 @@ fn p6_a_key_again() {
 
 #[test]
 fn p7_an_added_key_that_is_there() {
-    assert_eq!(add_device(&p5(), 3, 1, 0, &[], &mut []), answer(17, 0));
+    let edited = add_device(&p5(), open(&p5()).card, 3, 1, 0, &[], &mut []);
+    assert_eq!(edited.answer(), answer(17, 0));
 }
 
 #[test]
@@ -157,4 +158,46 @@ fn p13_addresses() {
     assert_eq!(table[32..40], *b"\x00\x01\0\0AHCP");
     assert_eq!(table[40..48], 32u64.to_le_bytes());
     assert_eq!(table[56..], 0u64.to_le_bytes());
+}
+
+#[test]
+fn a_true_card_stays_true() {
+    let two = Card { length: 71, sections: 1, devices: 2, payloads: 3 };
+    assert_eq!(open(&p4()), Edited { number: 0, index: 0, place: 0, card: two });
+    assert_eq!(open(&p5()), open(&p4()));
+    assert_eq!(open(&with_devices(&[])).card, Card { length: 16, ..Card::default() });
+    assert_eq!(open(&P1[..15]), Edited { number: 1, index: 0, place: 0, card: Card::default() });
+
+    let mut out = [0; 120];
+    let more = add_device(&p4(), two, 9, 1, 0, &[7; 5], &mut out);
+    assert_eq!(more.answer(), answer(0, 92));
+    assert_eq!(more.card, Card { length: 92, sections: 1, devices: 3, payloads: 8 });
+    assert_eq!(open(&out[..92]).card, more.card);
+    let disk = add_disk(&p4(), two, 1, b"a", b"bc", &mut out);
+    assert_eq!(disk.card, Card { length: 106, sections: 2, ..two });
+    assert_eq!(open(&out[..disk.place as usize]).card, disk.card);
+    let other = replace_device(&p4(), two, 3, 1, 0, &[], &mut out);
+    assert_eq!(other.card, Card { length: 69, sections: 1, devices: 2, payloads: 1 });
+    let less = remove_device(&p4(), two, 14, 1, 0, &mut out);
+    assert_eq!(less.card, Card { length: 54, sections: 1, devices: 1, payloads: 2 });
+    let one = out[..54].to_vec();
+    let none = remove_device(&one, less.card, 3, 1, 0, &mut out);
+    assert_eq!((none.answer(), none.card), (answer(0, 16), open(&P1).card));
+}
+
+#[test]
+fn an_untrue_card_is_asked_last_and_comes_back() {
+    let two = open(&p4()).card;
+    let untrue = Card { devices: 4096, ..two };
+    let mut out = [0xEE; 100];
+    let full = add_device(&p4(), untrue, 9, 1, 0, &[], &mut out);
+    assert_eq!(full, Edited { number: 28, index: 0, place: 0, card: untrue });
+    assert_eq!(out, [0xEE; 100]);
+    // ROOM comes before it, and all that comes before ROOM.
+    assert_eq!(add_device(&p4(), untrue, 9, 1, 0, &[], &mut out[..86]).answer(), answer(16, 87));
+    assert_eq!(add_device(&p4(), untrue, 3, 1, 0, &[], &mut []).answer(), answer(17, 0));
+    assert_eq!(remove_disk(&p4(), untrue, 3, &mut []).answer(), answer(25, 0));
+    // It may come back into its bounds.
+    let back = remove_device(&p4(), Card { devices: 4097, ..two }, 3, 1, 0, &mut out);
+    assert_eq!((back.number, back.card.devices), (0, 4096));
 }

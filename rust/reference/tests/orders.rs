@@ -259,7 +259,7 @@ fn adds_in_order() {
     let disk = section(5, 1, 0, &[&[1, 0, 0, 0][..], &[0; 12]].concat());
     let one = file(std::slice::from_ref(&disk));
     let added = |file: &[u8], id, base: &[u8], overlay: &[u8]| {
-        pair(add_disk(file, id, base, overlay, &mut []))
+        pair(add_disk(file, open(file).card, id, base, overlay, &mut []).answer())
     };
     assert_eq!(added(&HEADER[..15], 0, &long_text, &[]), (1, 0));
     assert_eq!(added(&one, 0, &bad_text, &long_text), (12, 0));
@@ -275,5 +275,7 @@ fn adds_in_order() {
     assert_eq!(added(&file(&full), 1, &[], &[]), (16, 16 + 63 * 16 + 32));
     full[63] = disk;
     assert_eq!(added(&file(&full), 1, &[], &[]), (16, 16 + 63 * 16 + 44));
-    assert_eq!(pair(add_device(&file(&full), 1, 1, 0, &[], &mut [])), (8, 0));
+    let full = file(&full);
+    let edited = add_device(&full, open(&full).card, 1, 1, 0, &[], &mut []);
+    assert_eq!(pair(edited.answer()), (8, 0));
 }

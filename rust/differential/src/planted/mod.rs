@@ -1,4 +1,5 @@
 //! Errors planted in the reference, to stand in the library's place: what looks for differences has to find each.
 
+pub mod cards;
 pub mod rings;
 pub mod sheets;

@@ -10,6 +10,7 @@
 mod adds;
 mod bounds;
 mod breaks;
+mod cards;
 mod messages;
 mod orders;
 mod ready;
@@ -25,9 +26,13 @@ use std::time::Instant;
 use differential::compare::Comparison;
 use differential::counts::Counts;
 use differential::record;
+use reference::answer::PAYLOAD;
 
 const SEED: u64 = 0x4149_5043_4145_524F;
 const AT_LEAST: u64 = 1_000_000;
+
+/// The numbers that no call of the library answers: PAYLOAD is of many devices at once.
+const NOT_ASKED: [u32; 1] = [PAYLOAD];
 
 type Group = (&'static str, fn(&mut Comparison));
 
@@ -99,6 +104,9 @@ const GROUPS: &[Group] = &[
     ("sheets: every width", sheets::every_width),
     ("sheets: at random", sheets::random),
     ("sheets: access words", sheets::access_words),
+    ("cards: shifts", cards::shifts),
+    ("cards: each number wrong alone", cards::one_number),
+    ("cards: any numbers", cards::any),
 ];
 
 fn main() {
@@ -158,6 +166,6 @@ impl Total {
 
     fn suffices(&self) {
         assert!(self.inputs >= AT_LEAST, "fewer than {AT_LEAST} inputs");
-        assert_eq!(self.answers.missing(), [], "the refusals that never came");
+        assert_eq!(self.answers.missing(), NOT_ASKED, "the refusals that never came");
     }
 }
