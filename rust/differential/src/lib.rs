@@ -10,6 +10,7 @@
 //!   [`damage`]: faults in them;
 //! - [`compare`]: one input given to both, and what is compared; [`rings`]: the same for calls that change a
 //!   region in place, [`sheets`]: for fields of states; [`counts`]: how often each number was answered;
+//! - [`model`]: a plain map that answers edits by looking up and counting;
 //! - [`planted`]: errors that have to be found;
 //! - [`record`]: calls and their answers written to a file, for the library in WebAssembly.
 //!
@@ -20,6 +21,7 @@ pub mod counts;
 pub mod damage;
 pub mod library;
 pub mod make;
+pub mod model;
 pub mod planted;
 pub mod random;
 pub mod record;

@@ -16,6 +16,7 @@ mod ready;
 mod removals;
 mod rings;
 mod sheets;
+mod shifts;
 mod snapshots;
 mod tails;
 mod wrappers;
@@ -99,6 +100,9 @@ const GROUPS: &[Group] = &[
     ("sheets: every width", sheets::every_width),
     ("sheets: at random", sheets::random),
     ("sheets: access words", sheets::access_words),
+    ("shifts: beside a plain map", shifts::beside_a_map),
+    ("shifts: at the counts", shifts::at_the_counts),
+    ("shifts: at the lengths", shifts::at_the_lengths),
 ];
 
 fn main() {
