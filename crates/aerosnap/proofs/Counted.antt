@@ -160,12 +160,12 @@ agree-next store c x seen l h j =
     ∙ ap (λ (b : Bool). b || has (devices .key) j l) (sym (has-cons (λ (n : ℕ). n) j (newKey x) seen))
 
 -- an entry that is taken leaves a content in order, and its payload is as long as it says
-pub record Grown (store : List ℕ) (c : Content) (x : NewDevice) : Type 0 where
+pub record EntryIn (store : List ℕ) (c : Content) (x : NewDevice) : Type 0 where
   pub inside : isInside store x ≡ true
   pub long : length (take (x .length) (drop (x .place) store)) ≡ x .length
   pub canon : Canon (withItem (newItem store x) c)
 
-entry-canon : (have : ℕ) (store : List ℕ) (c : Content) (x : NewDevice) (b : List ℕ) → Canon c → Wide (newItem store x) → newTo have store c x ≡ taken b → Grown store c x
+entry-canon : (have : ℕ) (store : List ℕ) (c : Content) (x : NewDevice) (b : List ℕ) → Canon c → Wide (newItem store x) → newTo have store c x ≡ taken b → EntryIn store c x
 entry-canon have store c x b h w q =
     let (p, t) = checked-pass ((isInside store x, PAYLOAD, 0) ∷ []) (addTo have c (newItem store x)) b q in
     record { inside = p .0; long = part-length store x (p .0); canon = canon-apply (add (newItem store x)) c h w (edit-exactly-to have c (add (newItem store x)) b .0 t .0 .rows) }
@@ -205,7 +205,7 @@ first-passes have store old x l seen i s c e h w a rest =
     o : Outcome (Unit {0})
     o = asked (passChecks have store (isSeen (newKey x) seen) (has (devices .key) (newKey x) old) k x)
 
-    go : (o : Outcome (Unit {0})) → ((z : Unit {0}) → o ≡ taken z → Grown store c x)
+    go : (o : Outcome (Unit {0})) → ((z : Unit {0}) → o ≡ taken z → EntryIn store c x)
         → (further (i, after o (λ _. taken (render u))) (λ b. addEach have b (suc i) l store) ≡ further (further (i, o) (λ _. pass have store old (newKey x ∷ seen) k (suc i) l)) (λ _. (0, taken (render (puts withItem u (newItems store l))))))
         × ((j : ℕ) (m : Tally) → further (i, o) (λ _. pass have store old (newKey x ∷ seen) k (suc i) l) ≡ (j, taken m) → PassEnd store c (x ∷ l) j m)
     go (taken z) f =

@@ -212,15 +212,15 @@ presence-min [] [] = refl
 presence-min [] (b ∷ t) = omega arith
 presence-min (e ∷ l) t = omega arith
 
-pub record Counted (a : AllElse) (m : Map) : Type 0 where
+pub record MapCounts (a : AllElse) (m : Map) : Type 0 where
   pub devices-are : length (mapContent a m .devices) ≡ weigh oneDevice m
   pub disks-are : length (mapContent a m .disks) ≡ weigh oneDisk m
   pub long : length (listBytes (mapContent a m .devices) ++ a .deviceTail) ≡ 4 + (weigh deviceSize m + length (a .deviceTail))
   pub sections-are : length (secs (mapContent a m)) ≡ mapSections a m
   pub size-is : length (mapFile a m) ≡ mapSize a m
 
-pub counted : (a : AllElse) (m : Map) → Counted a m
-counted a m =
+pub map-counts : (a : AllElse) (m : Map) → MapCounts a m
+map-counts a m =
     let c : Content = mapContent a m in
     let p = sort-perm (devices .key) (deviceEntries m) in
     let q = sort-perm (disks .key) (diskEntries m) in
@@ -254,14 +254,14 @@ replace-rows own p q i = cc
 -- its checks are the map's
 pub checks-same : (e : Edit) (a : AllElse) (m : Map) → WideEdit e → Every Wide m → editChecks e (mapContent a m) (mapContent a (mapAfter e m)) ≡ mapChecks e a m (mapAfter e m)
 checks-same (add (device id v f p)) a m w k =
-    let c = counted a (device id v f p ∷ m) in
+    let c = map-counts a (device id v f p ∷ m) in
     add-same (ownChecks (device id v f p)) 4096 (there-holds (device id v f p) a m w k) (c .devices-are) (c .long) (c .sections-are) (c .size-is)
 checks-same (add (disk id x y)) a m w k =
-    let c = counted a (disk id x y ∷ m) in
+    let c = map-counts a (disk id x y ∷ m) in
     add-same (ownChecks (disk id x y)) 256 (there-holds (disk id x y) a m w k) (c .disks-are) (c .long) (c .sections-are) (c .size-is)
 checks-same (remove n) a m w k = rw (stands-holds n a m w k)
 checks-same (replace id v f p) a m w k =
-    let c = counted a (mapAfter (replace id v f p) m) in
+    let c = map-counts a (mapAfter (replace id v f p) m) in
     replace-rows (leb (length p) payloadMost, LIMIT, 0) (stands-holds (deviceNamed id v f) a m w k) (c .long) (c .size-is)
 
 -- wide items stay wide
@@ -292,7 +292,7 @@ edit-map a m have e s w n =
     let i = apply-map e a m w (s .wide) in
     let c = checks-same e a m w (s .wide) in
     rw (read-back (mapContent a m) (s .canon), i, c)
-    (fits-or-not k have (mapFile a u) (λ p. omega (arith, counted a u .size-is, n u (pass-checked k (taken u) p))) ∙ sym (checked-after k (taken u) (λ u. taken (mapFile a u))))
+    (fits-or-not k have (mapFile a u) (λ p. omega (arith, map-counts a u .size-is, n u (pass-checked k (taken u) p))) ∙ sym (checked-after k (taken u) (λ u. taken (mapFile a u))))
 
 -- what is accepted
 pub map-taken : (a : AllElse) (m : Map) (e : Edit) (u : Map) → mapEdit a m e ≡ taken u → Pass (mapChecks e a m (mapAfter e m)) × (mapAfter e m ≡ u)

@@ -16,8 +16,8 @@ use Rattle.aerosnap.specs.File.{header, ruled, sectionOf, sections, fileOf}
 use Rattle.aerosnap.specs.Content.{framed, canonical}
 use Rattle.aerosnap.specs.Adding.{device, disk, deviceNamed, diskNamed}
 use Rattle.aerosnap.specs.Edits.{add, remove, replace, editTo, editFile}
-use Rattle.aerosnap.specs.Many.{newDevicesFrom, newDevices, addNew, addEach, addAll, many, Tally, pass}
-use Rattle.aerosnap.specs.Maps.{Map, AllElse, mapSections, mapSize, mapEdit, mapFile}
+use Rattle.aerosnap.specs.Many.{newDevicesFrom, newDevices, addNew, addEach, addAll, many, pass}
+use Rattle.aerosnap.specs.Maps.{Map, AllElse, mapEdit, mapFile}
 use Rattle.aerosnap.proofs.Examples.{p1, p4, p5, p9}
 use Rattle.cards.specs.declared.Card.{Card}
 use Rattle.cards.specs.Cards.{openFile, editCardTo, editCard}
@@ -99,6 +99,8 @@ pub record Examples : Type 0 where
   -- the map of P5: its file and its card, a removal, and the same removal again
   pub map-file : mapFile nothing two ≡ p5
   pub map-card : mapCard nothing two ≡ card 71 1 2 3
+  pub map-disk : mapCard nothing (disk 0 [] [] ∷ two) ≡ card 103 2 2 3
+  pub map-tail : mapCard (record { deviceTail = 8 ∷ 9 ∷ []; diskTail = []; rest = [] }) [] ≡ card 38 1 0 0
   pub map-removed : mapEdit nothing two (remove (deviceNamed 3 1 0)) ≡ taken (device 14 1 0 (0x11 ∷ []) ∷ [])
   pub map-absent : mapEdit nothing (device 14 1 0 (0x11 ∷ []) ∷ []) (remove (deviceNamed 3 1 0)) ≡ refused ABSENT 0
   pub map-have : mapEdit nothing two (add (device 3 1 0 [])) ≡ refused HAVE 0
@@ -133,6 +135,8 @@ examples = record {
   whole-none = refl;
   map-file = refl;
   map-card = refl;
+  map-disk = refl;
+  map-tail = refl;
   map-removed = refl;
   map-absent = refl;
   map-have = refl;

@@ -24,12 +24,12 @@ use Rattle.aerosnap.specs.Maps.{Map, AllElse, payloadLength, mapAfter, mapSize,
 use Rattle.aerosnap.proofs.Framed.{length-framed}
 use Rattle.aerosnap.proofs.Back.{read-back}
 use Rattle.aerosnap.proofs.Named.{Named, edit-named}
-use Rattle.aerosnap.proofs.Mapped.{State, counted, apply-map, edit-map, map-taken, state-after}
+use Rattle.aerosnap.proofs.Mapped.{State, map-counts, apply-map, edit-map, map-taken, state-after}
 use Rattle.aerosnap.proofs.Pairs.{file-map}
 use Rattle.cards.specs.declared.Card.{Card}
 use Rattle.cards.specs.declared.Edited.{Edited}
 use Rattle.cards.specs.Cards.{payloadSize, cardOf, openFile, editCard, bytesBeside, answerBeside, WritesBeside}
-use Rattle.cards.specs.Shifts.{CallMade, fileThen, Shift, mapCard, mapThen, mapNumber, mapPlace, LongEnough, AnswersAs, AsMap}
+use Rattle.cards.specs.Shifts.{CallMade, fileThen, CallsMade, mapCard, mapThen, mapNumber, mapPlace, LongEnough, AnswersAs, AsMap}
 use Rattle.cards.proofs.Carded.{open-card, after-same, card-true}
 
 -- ---- the card of a map
@@ -41,7 +41,7 @@ payload-count (disk b x y ∷ m) = omega (arith, payload-count m)
 
 pub card-map : (a : AllElse) (m : Map) → cardOf (mapContent a m) ≡ mapCard a m
 card-map a m =
-    let c = counted a m in
+    let c = map-counts a m in
     let l = c .size-is in
     let s = c .sections-are in
     let d = c .devices-are in
@@ -90,7 +90,7 @@ call-map a m q s w n b =
         let j = ap (λ (r : Edited). r .place) x in
         let f : fileThen (mapFile a m) q ≡ mapFile a u =
         ap (λ (k : ℕ). cond (eqb k 0) (take (q .answer .place) (q .left)) (mapFile a m)) i ∙ ap (λ (k : ℕ). take k (q .left)) j ∙ ap (take (length (mapFile a u))) y ∙ take-append-seam (mapFile a u) (drop (length (mapFile a u)) (q .lent)) in
-        (i, j ∙ counted a u .size-is, ap (λ (r : Edited). r .index) x, f, ap (λ (r : Edited). r .card) x)
+        (i, j ∙ map-counts a u .size-is, ap (λ (r : Edited). r .index) x, f, ap (λ (r : Edited). r .card) x)
     go (refused k p) h x y =
         let i = ap (λ (r : Edited). r .number) x in
         let z : eqb (q .answer .number) 0 ≡ false = ne-eqb (q .answer .number) 0 (λ c. omega arith) in
@@ -106,22 +106,22 @@ state-then a m e s w = go (mapEdit a m e) refl
     go (taken u) h = state-after a m e u s w h
     go (refused n p) h = s
 
-pub shift-as : (a : AllElse) (l : List CallMade) (m : Map) → State a m → Shift (mapFile a m) (mapCard a m) l → LongEnough a m l → AsMap a m (mapFile a m) l
+pub shift-as : (a : AllElse) (l : List CallMade) (m : Map) → State a m → CallsMade (mapFile a m) (mapCard a m) l → LongEnough a m l → AsMap a m (mapFile a m) l
 shift-as a [] m s c n = tt
 shift-as a (q ∷ l) m s (w, b, c) (n, f) =
     let g = call-map a m q s w n b in
     let u : Map = mapThen m (mapEdit a m (q .edit)) in
-    let c1 : Shift (mapFile a u) (mapCard a u) l = rw (← g .file, ← g .card) c in
+    let c1 : CallsMade (mapFile a u) (mapCard a u) l = rw (← g .file, ← g .card) c in
     (g, rw (g .file) (shift-as a l u (state-then a m (q .edit) s w) c1 f))
 
 -- A canonical file of bytes is the file of a map and all else; and any shift from it beside its true card answers as that map does.
 pub record ShiftOf (s : List ℕ) (k : Card) : Type 0 where
-  pub beside : AllElse
+  pub all-else : AllElse
   pub pairs : Map
-  pub state : State beside pairs
-  pub file : mapFile beside pairs ≡ s
-  pub card : mapCard beside pairs ≡ k
-  pub answers : (l : List CallMade) → Shift s k l → LongEnough beside pairs l → AsMap beside pairs s l
+  pub state : State all-else pairs
+  pub file : mapFile all-else pairs ≡ s
+  pub card : mapCard all-else pairs ≡ k
+  pub answers : (l : List CallMade) → CallsMade s k l → LongEnough all-else pairs l → AsMap all-else pairs s l
 
 pub shift-map : (s : List ℕ) (k : Card) → Bytes s → IsCanonical s → openFile s ≡ taken k → ShiftOf s k
 shift-map s k b o h =
@@ -129,11 +129,11 @@ shift-map s k b o h =
     let r : contentAt s ≡ taken (mapContent a m) = ap contentAt (sym e) ∙ read-back (mapContent a m) (t .canon) in
     let i : mapCard a m ≡ k = sym (card-map a m) ∙ taken-is (sym (open-card s (mapContent a m) r) ∙ h) in
     record {
-      beside = a;
+      all-else = a;
       pairs = m;
       state = t;
       file = e;
       card = i;
-      answers = subst (λ (s : List ℕ). (l : List CallMade) → Shift s k l → LongEnough a m l → AsMap a m s l) e
-          (subst (λ (k : Card). (l : List CallMade) → Shift (mapFile a m) k l → LongEnough a m l → AsMap a m (mapFile a m) l) i (λ l c n. shift-as a l m t c n));
+      answers = subst (λ (s : List ℕ). (l : List CallMade) → CallsMade s k l → LongEnough a m l → AsMap a m s l) e
+          (subst (λ (k : Card). (l : List CallMade) → CallsMade (mapFile a m) k l → LongEnough a m l → AsMap a m (mapFile a m) l) i (λ l c n. shift-as a l m t c n));
     }

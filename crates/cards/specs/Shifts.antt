@@ -28,9 +28,9 @@ abbrev pub fileThen : List ℕ → CallMade → List ℕ
 fileThen s q = cond (eqb (q .answer .number) 0) (take (q .answer .place) (q .left)) s
 
 -- calls in turn from the file s and the card k
-abbrev pub Shift : List ℕ → Card → List CallMade → Type 0
-Shift s k [] = Unit {0}
-Shift s k (q ∷ l) = WideEdit (q .edit) × WritesBeside k (0, editCard (length (q .lent)) k s (q .edit)) (q .lent) (q .answer) (q .left) × Shift (fileThen s q) (q .answer .card) l
+abbrev pub CallsMade : List ℕ → Card → List CallMade → Type 0
+CallsMade s k [] = Unit {0}
+CallsMade s k (q ∷ l) = WideEdit (q .edit) × WritesBeside k (0, editCard (length (q .lent)) k s (q .edit)) (q .lent) (q .answer) (q .left) × CallsMade (fileThen s q) (q .answer .card) l
 
 -- ---- the map
 

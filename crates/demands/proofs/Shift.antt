@@ -24,11 +24,11 @@ shifts = record {
       let f = shift-map s k b o t in
       record {
         pairs = f .pairs;
-        beside = f .beside;
-        apart = state-apart (f .beside) (f .pairs) (f .state);
+        all-else = f .all-else;
+        apart = state-apart (f .all-else) (f .pairs) (f .state);
         file = f .file;
         card = f .card;
-        only = λ u n h. sym (same-file (f .beside) (f .pairs) u (f .state) n h) ∙ f .file;
+        only = λ u n h. sym (same-file (f .all-else) (f .pairs) u (f .state) n h) ∙ f .file;
         answers = f .answers;
       };
 }

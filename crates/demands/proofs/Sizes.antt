@@ -107,13 +107,13 @@ carded-first k c u d x y p e f =
 -- ---- an edit
 
 -- the contents before and after it, and what the card says
-record Between (have : ℕ) (k : Card) (s : List ℕ) (e : Edit) (b : List ℕ) (x y : Card) : Type 0 where
+record EditCards (have : ℕ) (k : Card) (s : List ℕ) (e : Edit) (b : List ℕ) (x y : Card) : Type 0 where
   old : Content
   before : cardOf old ≡ x
   behind : cardOf (apply e old) ≡ y
   same : editCard have k s e ≡ carded k old (apply e old) b
 
-edit-between : (have : ℕ) (k : Card) (s : List ℕ) (e : Edit) (b : List ℕ) (x y : Card) → WideEdit e → TrueCard s x → editFile have s e ≡ taken b → TrueCard b y → Between have k s e b x y
+edit-between : (have : ℕ) (k : Card) (s : List ℕ) (e : Edit) (b : List ℕ) (x y : Card) → WideEdit e → TrueCard s x → editFile have s e ≡ taken b → TrueCard b y → EditCards have k s e b x y
 unfolding editCard editCardTo editFile
 edit-between have k s e b x y w t h u =
     let (c, r, i) = card-open s x t in
@@ -179,13 +179,13 @@ many-never have s t store k i n p y h q =
     subst (λ (o : Outcome (List ℕ × Card)). Refuses (λ n. n ≢ CARD) o) (ap (λ (k : Card). manyCard have k s t store .1) z ∙ ap (λ (q : ℕ × Outcome (List ℕ × Card)). q .1) q) (all-no-card have s c (newDevices t) store r (wide-table t y))
 
 -- the contents before and after it, and what the card says
-record BetweenAll (have : ℕ) (k : Card) (s t store b : List ℕ) (x y : Card) : Type 0 where
+record TableCards (have : ℕ) (k : Card) (s t store b : List ℕ) (x y : Card) : Type 0 where
   old : Content
   before : cardOf old ≡ x
   behind : cardOf (grown old (newItems store (newDevices t))) ≡ y
   same : manyCard have k s t store ≡ (0, carded k old (grown old (newItems store (newDevices t))) b)
 
-many-between : (have : ℕ) (k : Card) (s t store b : List ℕ) (x y : Card) → Bytes t → TrueCard s x → many have s t store .1 ≡ taken b → TrueCard b y → BetweenAll have k s t store b x y
+many-between : (have : ℕ) (k : Card) (s t store b : List ℕ) (x y : Card) → Bytes t → TrueCard s x → many have s t store .1 ≡ taken b → TrueCard b y → TableCards have k s t store b x y
 unfolding addAllCard
 many-between have k s t store b x y v h q u =
     let (c, r, i) = card-open s x h in

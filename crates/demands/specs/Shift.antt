@@ -13,7 +13,7 @@ use Rattle.aerosnap.specs.Adding.{Name}
 use Rattle.aerosnap.specs.Edits.{Edit, target}
 use Rattle.aerosnap.specs.Maps.{sameName, Map, find, NamesApart, mapAfter, heldThen, AllElse, mapEdit, mapFile}
 use Rattle.cards.specs.declared.Card.{Card}
-use Rattle.cards.specs.Shifts.{CallMade, Shift, mapCard, mapThen, LongEnough, AsMap}
+use Rattle.cards.specs.Shifts.{CallMade, CallsMade, mapCard, mapThen, LongEnough, AsMap}
 use Rattle.demands.specs.Beside.{TrueCard}
 
 -- The map is a map.
@@ -32,12 +32,12 @@ pub record Dictionary : Type 0 where
 -- The canonical file s, whose true card is k, is the file of the map and all else; the file depends on what names hold alone; and every shift from it answers as the map does.
 pub record ShiftFrom (s : List ℕ) (k : Card) : Type 0 where
   pub pairs : Map
-  pub beside : AllElse
+  pub all-else : AllElse
   pub apart : NamesApart pairs
-  pub file : mapFile beside pairs ≡ s
-  pub card : mapCard beside pairs ≡ k
-  pub only : (u : Map) → NamesApart u → ((n : Name) → find n pairs ≡ find n u) → mapFile beside u ≡ s
-  pub answers : (l : List CallMade) → Shift s k l → LongEnough beside pairs l → AsMap beside pairs s l
+  pub file : mapFile all-else pairs ≡ s
+  pub card : mapCard all-else pairs ≡ k
+  pub only : (u : Map) → NamesApart u → ((n : Name) → find n pairs ≡ find n u) → mapFile all-else u ≡ s
+  pub answers : (l : List CallMade) → CallsMade s k l → LongEnough all-else pairs l → AsMap all-else pairs s l
 
 pub record Shifts : Type 0 where
   pub dictionary : Dictionary

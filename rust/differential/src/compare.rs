@@ -273,6 +273,32 @@ impl Comparison {
         self.answer(call, inputs, ours, theirs)
     }
 
+    /// An edit of a file in memory that holds the result, of which answer and bytes are told beforehand.
+    pub fn told(
+        &mut self,
+        call: &str,
+        file: &[u8],
+        wanted: Answer,
+        written: &[u8],
+        library: impl Fn(&[u8], &mut [u8]) -> Answer,
+    ) {
+        self.inputs += 1;
+        let before = fingerprint(file);
+        let spare = if self.exact { 0 } else { self.random.below(3) * 20 };
+        let length = written.len() + spare;
+        let salt = self.random.u8();
+        lay_pattern(&mut self.ours, length, salt);
+        let ours = library(file, &mut self.ours[MARGIN..MARGIN + length]);
+        self.answer(call, &[file], ours, wanted);
+        if self.ours[MARGIN..MARGIN + written.len()] != *written {
+            self.fail(call, &[file, written], "other bytes are written");
+        }
+        if !pattern_stands(&self.ours, written.len(), salt) {
+            self.fail(call, &[file], &format!("written beside {} bytes", written.len()));
+        }
+        self.unchanged(before, file);
+    }
+
     /// None, one too few, exactly enough, more, or anything, when `probe` was answered to none. Where the
     /// input itself is refused there is mostly room for a copy of it, so that a hasty writer shows.
     fn lent_length(&mut self, probe: Answer, input: usize) -> usize {
@@ -456,6 +482,45 @@ mod tests {
         for _ in 0..200 {
             run.output("five", &[b"input"], five, five);
         }
+    }
+
+    /// Calls of the library against what is told of `four`, with and without memory behind its bytes.
+    fn told_of_four(library: impl Fn(&mut [u8]) -> Answer) {
+        let mut run = Comparison::new("told", 1);
+        for _ in 0..20 {
+            run.told("four", b"input", TAKEN, b"four", |_, out| library(out));
+        }
+    }
+
+    #[test]
+    fn what_is_told_is_taken() {
+        told_of_four(four);
+    }
+
+    #[test]
+    #[should_panic(expected = "other bytes are written")]
+    fn another_byte_than_told() {
+        told_of_four(|out| {
+            let answer = four(out);
+            out[3] = b'R';
+            answer
+        });
+    }
+
+    #[test]
+    #[should_panic(expected = "written beside 4 bytes")]
+    fn a_byte_behind_those_told() {
+        told_of_four(|out| {
+            let answer = four(out);
+            out.iter_mut().skip(4).take(1).for_each(|byte| *byte ^= 1);
+            answer
+        });
+    }
+
+    #[test]
+    #[should_panic(expected = "library Answer { number: 0, place: 3 }")]
+    fn another_place_than_told() {
+        told_of_four(|out| Answer { place: 3, ..four(out) });
     }
 
     #[test]

@@ -10,6 +10,7 @@
 //!   [`damage`]: faults in them;
 //! - [`compare`]: one input given to both, and what is compared; [`edits`]: the same for edits beside a card, [`rings`]: for
 //!   calls that change a region in place, [`sheets`]: for fields of states; [`counts`]: how often each number was answered;
+//! - [`model`]: a plain map that answers edits by looking up and counting;
 //! - [`planted`]: errors that have to be found;
 //! - [`record`]: calls and their answers written to a file, for the library in WebAssembly.
 //!
@@ -21,6 +22,7 @@ pub mod damage;
 pub mod edits;
 pub mod library;
 pub mod make;
+pub mod model;
 pub mod planted;
 pub mod random;
 pub mod record;

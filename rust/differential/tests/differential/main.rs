@@ -17,6 +17,7 @@ mod ready;
 mod removals;
 mod rings;
 mod sheets;
+mod shifts;
 mod snapshots;
 mod tails;
 mod wrappers;
@@ -107,6 +108,9 @@ const GROUPS: &[Group] = &[
     ("cards: shifts", cards::shifts),
     ("cards: each number wrong alone", cards::one_number),
     ("cards: any numbers", cards::any),
+    ("shifts: beside a plain map", shifts::beside_a_map),
+    ("shifts: at the counts", shifts::at_the_counts),
+    ("shifts: at the lengths", shifts::at_the_lengths),
 ];
 
 fn main() {
