@@ -25,4 +25,8 @@ pub mod AnyOrder
 pub mod Edited
 pub mod Made
 pub mod Examples
+pub mod Parts
+pub mod Rescued
+pub mod Judged
 pub mod Cases
+pub mod Losses

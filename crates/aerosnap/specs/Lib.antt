@@ -6,4 +6,5 @@ pub mod Content
 pub mod Tables
 pub mod Adding
 pub mod Edits
+pub mod Salvage
 pub mod Calls

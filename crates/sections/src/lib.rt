@@ -32,11 +32,11 @@ ghost use Rattle.lists.specs.Lists.{whole};
 ghost use Rattle.lists.specs.Promises.{MayWrite};
 ghost use Rattle.aerosnap.specs.Known as known;
 ghost use Rattle.aerosnap.specs.Payloads.{bodyOf};
-ghost use Rattle.aerosnap.specs.File.{fileMost, devicesMost, headerChecks, idOf, fileOf};
+ghost use Rattle.aerosnap.specs.File.{fileMost, devicesMost, headerChecks, idOf, fitsIn, fileOf};
 ghost use Rattle.aerosnap.specs.File as file;
 ghost use Rattle.payloads.specs.Starts.{starts};
 ghost use Rattle.sections.specs.Walks.{Marks, walkedFrom, sectionsIn, Read, placeOf};
-ghost use Rattle.sections.specs.Index.{startsOf, firstOf, isListId, countIn, fitsIn, counts, Keeps, Scanned, spotOf, Spotted};
+ghost use Rattle.sections.specs.Index.{startsOf, firstOf, isListId, countIn, counts, Keeps, Scanned, spotOf, Spotted};
 
 // A place and a number of starts, or a fault.
 pub enum Spot {

@@ -2,7 +2,7 @@ use mathlib.Core.Path.{_≡_, sym, _∙_}
 use mathlib.Core.Bool.{true}
 use lib.ListN.{length, drop}
 use Rattle.wire.specs.Numbers.{leAt}
-use Rattle.sections.specs.Index.{fitsIn}
+use Rattle.aerosnap.specs.File.{fitsIn}
 use borrow.Author.Tests.{not-true, not-false}
 use Rattle.sections.proofs.Counts.{Counting, counting-start, counting-none, counting-stop, counting-goes, counting-next, counting-done}
 use Prim.Native.Nat.{_+_, _-_, _≤_}
