@@ -211,7 +211,7 @@ never-empty (suc n) before at (c ∷ b) =
 
 -- a part fits exactly if what it begins does
 module _ (before : List (List ℕ)) (at : ℕ) (b : List ℕ) (i : 0 < length b) where
-  part-whole : fitsIn b ≡ true → length (bytesIn (partOf before at b)) ≡ 16 + lengthOf (bytesIn (partOf before at b))
+  pub part-whole : fitsIn b ≡ true → length (bytesIn (partOf before at b)) ≡ 16 + lengthOf (bytesIn (partOf before at b))
   part-whole f =
       let e : List ℕ = bytesIn (partOf before at b) in
       let l : length e ≡ 16 + lengthOf b = part-length before at b i ∙ ap (λ (t : Bool). cond t (16 + lengthOf b) (length b)) f in
@@ -266,6 +266,20 @@ module _ (s : List ℕ) (short : length s ≤ fileMost) (long : 16 ≤ length s)
         length-append header (join (allKept done ++ (bytesIn x ∷ []))),
       )
 
+  -- A part stands in the file behind those before it.
+  pub part-stands : (done : List Part) (x : Part) (more : List Part) → partsOf s ≡ done ++ (x ∷ more) → (take (length (bytesIn x)) (drop (16 + span done) s) ≡ bytesIn x) × (16 + span done + length (bytesIn x) ≤ length s)
+  part-stands done x more h =
+      let c = parts-cover (length s) [] 16 (drop 16 s) (omega (arith, length-drop 16 s)) in
+      let q : drop 16 s ≡ join (map bytesIn done) ++ (bytesIn x ++ join (map bytesIn more)) = sym c ∙ ap (λ (l : List Part). join (map bytesIn l)) h ∙ parted done in
+      let r : drop (16 + span done) s ≡ bytesIn x ++ join (map bytesIn more) = sym (drop-drop (span done) 16 s) ∙ ap (drop (span done)) q ∙ drop-append-seam (join (map bytesIn done)) (bytesIn x ++ join (map bytesIn more)) in (
+        ap (take (length (bytesIn x))) r ∙ take-append-seam (bytesIn x) (join (map bytesIn more)),
+        omega (arith, ap length q, length-append (join (map bytesIn done)) (bytesIn x ++ join (map bytesIn more)), length-append (bytesIn x) (join (map bytesIn more)), length-drop 16 s),
+      )
+    where
+      parted : (l : List Part) → join (map bytesIn (l ++ (x ∷ more))) ≡ join (map bytesIn l) ++ (bytesIn x ++ join (map bytesIn more))
+      parted [] = refl
+      parted (y ∷ l) = ap (λ (t : List ℕ). bytesIn y ++ t) (parted l) ∙ sym (append-assoc (bytesIn y) (join (map bytesIn l)) (bytesIn x ++ join (map bytesIn more)))
+
   -- What is kept is taken by `check`, after those kept before.
   pub kept-taken : (done more : List Part) (e : List ℕ) → partsOf s ≡ done ++ (keeps e ∷ more) → fileOf (header ++ join (allKept done ++ (e ∷ []))) ≡ taken (allKept done ++ (e ∷ []))
   kept-taken done more e h =
@@ -314,15 +328,7 @@ module _ (s : List ℕ) (short : length s ≤ fileMost) (long : 16 ≤ length s)
 
     -- Its bytes stand in the file where its record says.
     pub lost-stands : take (length e) (drop (16 + span done) s) ≡ e
-    lost-stands =
-        let c = parts-cover (length s) [] 16 (drop 16 s) (omega (arith, length-drop 16 s)) in
-        let q : drop 16 s ≡ join (map bytesIn done) ++ (e ++ join (map bytesIn more)) = sym c ∙ ap (λ (l : List Part). join (map bytesIn l)) h ∙ parted done in
-        let r : drop (16 + span done) s ≡ e ++ join (map bytesIn more) = sym (drop-drop (span done) 16 s) ∙ ap (drop (span done)) q ∙ drop-append-seam (join (map bytesIn done)) (e ++ join (map bytesIn more)) in
-        ap (take (length e)) r ∙ take-append-seam e (join (map bytesIn more))
-      where
-        parted : (l : List Part) → join (map bytesIn (l ++ (loses n e ∷ more))) ≡ join (map bytesIn l) ++ (e ++ join (map bytesIn more))
-        parted [] = refl
-        parted (x ∷ l) = ap (λ (t : List ℕ). bytesIn x ++ t) (parted l) ∙ sym (append-assoc (bytesIn x) (join (map bytesIn l)) (e ++ join (map bytesIn more)))
+    lost-stands = part-stands done (loses n e) more h .0
 
 -- The record of a loss among those of its file: it starts where the part does.
 pub row-stands : (done more : List Part) (n : ℕ) (e : List ℕ) (at : ℕ) → lossRows at (done ++ (loses n e ∷ more)) ≡ lossRows at done ++ (lossBytes (at + span done) (length e) n ∷ lossRows (at + span done + length e) more)

@@ -8,4 +8,6 @@ pub mod Landing
 pub mod Judging
 pub mod Writing
 pub mod Uniform
+pub mod Filing
+pub mod Saving
 pub mod Once

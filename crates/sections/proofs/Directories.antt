@@ -56,7 +56,7 @@ directory-made s old d starts rows recs new lost r v q n =
     let l : length e ≡ directoryPlaces = length-set d 18 (getD d 18 0 + 16) ∙ v .long in
     let h : length (drop directoryPlaces old) ≡ length old - directoryPlaces = length-drop directoryPlaces old in
     let here : (i : ℕ) → i < 18 → getD new i 0 ≡ getD d i 0 = λ i a.
-        ap (λ (m : List ℕ). getD m i 0) q ∙ List·getD-append e starts 0 i (omega (arith, l)) ∙ getD-set-other d 18 i (getD d 18 0 + 16) 0 (λ z. omega arith) in
+    ap (λ (m : List ℕ). getD m i 0) q ∙ List·getD-append e starts 0 i (omega (arith, l)) ∙ getD-set-other d 18 i (getD d 18 0 + 16) 0 (λ z. omega arith) in
     record {
       long = ap length q ∙ length-append e starts ∙ omega (arith, l, n, h);
       others = here 0 (omega arith) ∙ v .others;
@@ -69,7 +69,7 @@ directory-made s old d starts rows recs new lost r v q n =
 
 -- the same of what the code lends: the part of the index behind the directory, which comes back in its place
 module _ (s old : List ℕ) (r : directoryPlaces ≤ length old) {d last rows recs : List ℕ} {lost : ℕ} (v : Parted s d (take (length old - directoryPlaces) (drop directoryPlaces old)) last rows recs lost)
-  (n : length last ≡ length (take (length old - directoryPlaces) (drop directoryPlaces old))) where
+    (n : length last ≡ length (take (length old - directoryPlaces) (drop directoryPlaces old))) where
   abbrev behind : List ℕ
   behind = drop directoryPlaces old
 

@@ -101,8 +101,8 @@ returns-5 c =
     let e = asked i in
     let a = judged e .args in
     λ l n m.
-        keeps-stop (ruled-fault (a .at) (a .id) (a .version) (a .p .now) (small e l n m) (omega (arith, judged e .pre .1)) (stopped (c .before)))
-        (read-stays (a .id) (a .version) (a .p .now) (a .index .now) (i .index .ensures) (c .before .number .given .1))
+    keeps-stop (ruled-fault (a .at) (a .id) (a .version) (a .p .now) (small e l n m) (omega (arith, judged e .pre .1)) (stopped (c .before)))
+    (read-stays (a .id) (a .version) (a .p .now) (a .index .now) (i .index .ensures) (c .before .number .given .1))
 
 returns-6 : tie.Need-returns-6
 returns-6 c =
