@@ -24,6 +24,13 @@ pub mod Added
 pub mod AnyOrder
 pub mod Edited
 pub mod Made
+pub mod Together
+pub mod Counted
+pub mod Merging
+pub mod Rooms
+pub mod Mapped
+pub mod Lookups
+pub mod Pairs
 pub mod Examples
 pub mod Parts
 pub mod Rescued

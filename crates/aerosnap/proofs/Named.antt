@@ -8,7 +8,7 @@ use native.Mathlib.Omega.{arith}
 use lib.ListN.{length, take, drop}
 use lib.Seq.{take-append-seam}
 use lib.Dec.{leb, eqb}
-use Rattle.answer.specs.Numbers.{SHAPE, LIMIT, KEY, TEXT, VALUE, CUT, isFault}
+use Rattle.answer.specs.Numbers.{SIZE, CUT, MANY, SHAPE, LIMIT, KEY, TEXT, VALUE, ROOM, HAVE, ABSENT, isFault}
 use Rattle.answer.specs.Outcome.{Outcome, taken, refused, Faulty, Checks, checked, after, moved, shift, room, fitting}
 use Rattle.answer.specs.Calls.{asked, verdict, answer, memory, Writes}
 use Rattle.answer.specs.declared.Answer.{Answer}
@@ -222,29 +222,40 @@ Named o = Refuses Nonzero o
 pub content-faulty : (s : List ℕ) → Faulty (contentAt s)
 content-faulty s = after-faulty (fileOf s) (λ l. taken (contentOf l)) (file-faulty s) (λ _. tt)
 
-content-named : (s : List ℕ) → Named (contentAt s)
-content-named s = refuses-more (λ n. isFault n ≡ true) Nonzero fault-some (contentAt s) (content-faulty s)
+-- what holds of the number of every fault, and of ROOM, HAVE and ABSENT, holds of the number with which an edit is refused
+module _ (P : ℕ → Type 0) (faulty : (n : ℕ) → isFault n ≡ true → P n) where
+  own-numbered : (x : Item) → Every (λ c. P (c .1)) (ownChecks x)
+  own-numbered (device id v f p) = (faulty LIMIT refl, tt)
+  own-numbered (disk id x y) = (faulty LIMIT refl, (faulty TEXT refl, tt))
 
-fitting-named : (have : ℕ) (b : List ℕ) → Named (fitting have b)
-fitting-named have b = checked-refuses Nonzero (room have (length b)) (taken b) (omega arith, tt) tt
+  pub edit-numbered : P HAVE → P ABSENT → (e : Edit) (c u : Content) → Every (λ c. P (c .1)) (editChecks e c u)
+  edit-numbered h a (add x) c u = every-append _ (ownChecks x) (addChecks x c u) (own-numbered x) (h, (faulty LIMIT refl, (faulty LIMIT refl, (faulty MANY refl, (faulty SIZE refl, tt)))))
+  edit-numbered h a (remove n) c u = (a, tt)
+  edit-numbered h a (replace id v f p) c u = (faulty LIMIT refl, (a, (faulty LIMIT refl, (faulty SIZE refl, tt))))
+
+  pub fitting-refuses : P ROOM → (have : ℕ) (b : List ℕ) → Refuses P (fitting have b)
+  fitting-refuses r have b = checked-refuses P (room have (length b)) (taken b) (r, tt) tt
+
+  pub content-refuses : (s : List ℕ) → Refuses P (contentAt s)
+  content-refuses s = refuses-more (λ n. isFault n ≡ true) P faulty (contentAt s) (content-faulty s)
+
+  pub edit-to-refuses : P ROOM → P HAVE → P ABSENT → (have : ℕ) (c : Content) (e : Edit) → Refuses P (editTo have c e)
+  unfolding editTo
+  edit-to-refuses r h a have c e = checked-refuses P (editChecks e c (apply e c)) (fitting have (render (apply e c))) (edit-numbered h a e c (apply e c)) (fitting-refuses r have (render (apply e c)))
+
+  pub edit-refuses : P ROOM → P HAVE → P ABSENT → (have : ℕ) (s : List ℕ) (e : Edit) → Refuses P (editFile have s e)
+  unfolding editFile
+  edit-refuses r h a have s e = after-refuses P (contentAt s) (λ c. editTo have c e) (content-refuses s) (λ c. edit-to-refuses r h a have c e)
+
+  pub canonical-refuses : P ROOM → (have : ℕ) (s : List ℕ) → Refuses P (canonical have s)
+  unfolding canonical
+  canonical-refuses r have s = after-refuses P (contentAt s) (λ c. fitting have (render c)) (content-refuses s) (λ c. fitting-refuses r have (render c))
 
 pub canonical-named : (have : ℕ) (s : List ℕ) → Named (canonical have s)
-unfolding canonical
-canonical-named have s = after-refuses Nonzero (contentAt s) (λ c. fitting have (render c)) (content-named s) (λ c. fitting-named have (render c))
-
-own-numbered : (x : Item) → Every (λ c. Nonzero (c .1)) (ownChecks x)
-own-numbered (device id v f p) = (omega arith, tt)
-own-numbered (disk id x y) = (omega arith, (omega arith, tt))
-
-edit-numbered : (e : Edit) (c u : Content) → Every (λ c. Nonzero (c .1)) (editChecks e c u)
-edit-numbered (add x) c u = every-append _ (ownChecks x) (addChecks x c u) (own-numbered x) (omega arith, (omega arith, (omega arith, (omega arith, (omega arith, tt)))))
-edit-numbered (remove n) c u = (omega arith, tt)
-edit-numbered (replace id v f p) c u = (omega arith, (omega arith, (omega arith, (omega arith, tt))))
+canonical-named = canonical-refuses Nonzero fault-some (omega arith)
 
 pub edit-named : (have : ℕ) (s : List ℕ) (e : Edit) → Named (editFile have s e)
-unfolding editFile editTo
-edit-named have s e = after-refuses Nonzero (contentAt s) (λ c. editTo have c e) (content-named s) (λ c.
-    checked-refuses Nonzero (editChecks e c (apply e c)) (fitting have (render (apply e c))) (edit-numbered e c (apply e c)) (fitting-named have (render (apply e c))))
+edit-named = edit-refuses Nonzero fault-some (omega arith) (omega arith) (omega arith)
 
 -- ---- what a number says
 

@@ -6,5 +6,7 @@ pub mod Content
 pub mod Tables
 pub mod Adding
 pub mod Edits
+pub mod Many
+pub mod Maps
 pub mod Salvage
 pub mod Calls

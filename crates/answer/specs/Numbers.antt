@@ -107,6 +107,18 @@ RECORD = 24
 abbrev pub ABSENT : ℕ
 ABSENT = 25
 
+-- What only an add of many devices gives, of its request 8.
+
+-- an entry's part lies outside the second buffer
+abbrev pub PAYLOAD : ℕ
+PAYLOAD = 26
+
+-- What only an edit beside an untrue card gives, of its request 12.
+
+-- a number of the card leaves its bounds
+abbrev pub CARD : ℕ
+CARD = 28
+
 -- And the rings' last.
 
 -- cursors given out of turn
@@ -121,7 +133,7 @@ faults = SHORT ∷ MAGIC ∷ VERSION ∷ ENDIAN ∷ RESERVED ∷ SIZE ∷ CUT �
 
 -- what only a call that writes gives
 abbrev pub ofWriting : List ℕ
-ofWriting = ROOM ∷ HAVE ∷ ABSENT ∷ []
+ofWriting = ROOM ∷ HAVE ∷ ABSENT ∷ PAYLOAD ∷ CARD ∷ []
 
 -- what only a ring gives
 abbrev pub ofRings : List ℕ

@@ -57,6 +57,12 @@ pub const RECORD: u32 = 24;
 // Of a removal or a replacement (request 3).
 pub const ABSENT: u32 = 25;
 
+// Of many devices at once (request 8).
+pub const PAYLOAD: u32 = 26;
+
+// Of an edit beside an untrue card (request 12).
+pub const CARD: u32 = 28;
+
 pub const TURN: u32 = 29;
 
 #[repr(C)]

@@ -6,6 +6,9 @@ pub mod Sites
 pub mod Entry
 pub mod Landing
 pub mod Judging
+pub mod Plan
+pub mod Summing
+pub mod Carding
 pub mod Writing
 pub mod Uniform
 pub mod Filing

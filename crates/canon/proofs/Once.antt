@@ -1,6 +1,6 @@
 -- Each promise fixes its answer and every byte of lent memory: any two that it allows are equal.
 -- Assumes nothing.
-use mathlib.Core.Path.{_≡_}
+use mathlib.Core.Path.{_≡_, sym, _∙_}
 use mathlib.Core.List.{List}
 use Prim.Native.Nat.{ℕ}
 use lib.ListN.{length}
@@ -10,7 +10,10 @@ use Rattle.answer.proofs.Once.{equal-once, writes-once}
 use Rattle.aerosnap.specs.Salvage.{salvage}
 use Rattle.canon.specs.declared.Salvaged.{Salvaged}
 use Rattle.canon.specs.Salvaging.{Salvages}
-use Rattle.aerosnap.specs.Edits.{editFile}
+use Rattle.cards.specs.declared.Card.{Card}
+use Rattle.cards.specs.declared.Edited.{Edited}
+use Rattle.cards.specs.Cards.{openFile, openAnswer, editCard, WritesBeside}
+use Rattle.cards.proofs.Once.{beside-once}
 use Rattle.aerosnap.specs.Calls.{canonicalCall}
 use Rattle.canon.specs.declared.Edit.{Edit}
 use Rattle.canon.specs.Edits.{editOf}
@@ -19,9 +22,12 @@ pub canonical-once : (file old : List ℕ) {new now : List ℕ} {r p : Answer}
     → Writes (canonicalCall (length old) file) old r new → Writes (canonicalCall (length old) file) old p now → (r ≡ p) × (new ≡ now)
 canonical-once file old a b = writes-once a b
 
-pub edited-once : (e : Edit) (x y file old : List ℕ) {new now : List ℕ} {r p : Answer}
-    → Writes (editFile (length old) file (editOf e x y)) old r new → Writes (editFile (length old) file (editOf e x y)) old p now → (r ≡ p) × (new ≡ now)
-edited-once e x y file old a b = writes-once a b
+pub open-once : (file : List ℕ) {r p : Edited} → r ≡ openAnswer (openFile file) → p ≡ openAnswer (openFile file) → r ≡ p
+open-once file a b = a ∙ sym b
+
+pub edited-once : (e : Edit) (k : Card) (x y file old : List ℕ) {new now : List ℕ} {r p : Edited}
+    → WritesBeside k (0, editCard (length old) k file (editOf e x y)) old r new → WritesBeside k (0, editCard (length old) k file (editOf e x y)) old p now → (r ≡ p) × (new ≡ now)
+edited-once e k x y file old a b = beside-once a b
 
 pub salvage-once : (file out losses : List ℕ) {r p : Salvaged} {new now recs lines : List ℕ}
     → Salvages (salvage (length out) (length losses) file) out losses r new recs → Salvages (salvage (length out) (length losses) file) out losses p now lines → (r ≡ p) × (new ≡ now) × (recs ≡ lines)

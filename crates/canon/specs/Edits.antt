@@ -15,16 +15,14 @@ use Rattle.lists.specs.Lists.{keyAt, listBytes}
 use Rattle.writer.specs.Runs.{entryBy}
 use Rattle.aerosnap.specs.declared.Side.{Side}
 use Rattle.aerosnap.specs.File.{fileMost, sectionsMost, devicesMost, header}
-use Rattle.aerosnap.specs.Content.{Content, contentOf, secs, render, canonical, kindAt, idAt, entriesAt, tailAt}
+use Rattle.aerosnap.specs.Content.{Content, contentOf, secs, render, kindAt, idAt, entriesAt, tailAt}
 use Rattle.aerosnap.specs.Adding.{Item, device, disk, deviceNamed, diskNamed, sideOf, entryOf, there, ownChecks}
-use Rattle.aerosnap.specs.Edits.{stands, Edit, add, remove, replace, target, news, changed, apply, editFile}
+use Rattle.aerosnap.specs.Edits.{stands, Edit, add, remove, replace, target, news, changed, apply}
 use Rattle.sections.specs.Walks.{sectionsIn}
 use Rattle.canon.specs.declared.Edit as code
 use Rattle.canon.specs.declared.Edit.the-variants.{AddDevice, AddDisk, RemoveDevice, RemoveDisk, ReplaceDevice}
 use Rattle.canon.specs.declared.Site.{Site}
 use Rattle.canon.specs.declared.Cut.{Cut}
-use Rattle.canon.specs.declared.Work.{Work}
-use Rattle.canon.specs.declared.Work.the-variants.{Canonical, Change}
 use Rattle.canon.specs.Steps.{frame, ranks}
 
 -- ---- edits by their numbers
@@ -50,11 +48,6 @@ abbrev pub entryFor : Edit → List ℕ
 entryFor (add x) = entryOf x
 entryFor (remove n) = []
 entryFor (replace id v f p) = entryOf (device id v f p)
-
--- what is written of a file, for an output of so many bytes
-abbrev pub workOf : ℕ → List ℕ → Work → List ℕ → List ℕ → Outcome (List ℕ)
-workOf have s Canonical a b = canonical have s
-workOf have s (Change e) a b = editFile have s (editOf e a b)
 
 -- ---- what is asked
 

@@ -9,7 +9,13 @@ use Rattle.answer.specs.declared.Answer.{Answer}
 use Rattle.answer.specs.Outcome.{Outcome}
 use Rattle.answer.specs.Calls.{asked, verdict, Writes}
 use Rattle.answer.proofs.Once.{equal-once, writes-once}
-use Rattle.aerosnap.specs.Calls.{checkCall, sectionsCall, devicesCall, disksCall, cpusCall, mmusCall, canonicalCall, addDeviceCall, addDiskCall, removeDeviceCall, removeDiskCall, replaceDeviceCall}
+use Rattle.aerosnap.specs.Calls.{checkCall, sectionsCall, devicesCall, disksCall, cpusCall, mmusCall, canonicalCall}
+use Rattle.cards.specs.declared.Card.{Card}
+use Rattle.cards.specs.declared.Edited.{Edited}
+use Rattle.cards.specs.Cards.{openAnswer, WritesBeside}
+use Rattle.cards.specs.Calls.{openCall, editCall}
+use Rattle.cards.proofs.Once.{beside-once}
+use Rattle.aerosnap.specs.Edits.{Edit}
 use Rattle.snapshot.specs.declared.MetaFields.{MetaFields}
 use Rattle.snapshot.specs.MetaSection.{metaCall, asMeta}
 use Rattle.dskc.specs.Wrapper as wrapped
@@ -64,20 +70,12 @@ meta-once file e f = equal-once e f
 pub canonical-once : Fills canonicalCall
 canonical-once file old r s new now a b = writes-once a b
 
-pub add-device-once : (id version flags : ℕ) (payload : List ℕ) → Fills (λ have file. addDeviceCall have file id version flags payload)
-add-device-once id version flags payload file old r s new now a b = writes-once a b
+pub open-once : (file : List ℕ) (r p : Edited) → r ≡ openAnswer (openCall file) → p ≡ openAnswer (openCall file) → r ≡ p
+open-once file r p a b = a ∙ sym b
 
-pub add-disk-once : (id : ℕ) (base overlay : List ℕ) → Fills (λ have file. addDiskCall have file id base overlay)
-add-disk-once id base overlay file old r s new now a b = writes-once a b
-
-pub remove-device-once : (id version flags : ℕ) → Fills (λ have file. removeDeviceCall have file id version flags)
-remove-device-once id version flags file old r s new now a b = writes-once a b
-
-pub remove-disk-once : (id : ℕ) → Fills (λ have file. removeDiskCall have file id)
-remove-disk-once id file old r s new now a b = writes-once a b
-
-pub replace-device-once : (id version flags : ℕ) (payload : List ℕ) → Fills (λ have file. replaceDeviceCall have file id version flags payload)
-replace-device-once id version flags payload file old r s new now a b = writes-once a b
+-- cimbrolau_add_device, cimbrolau_add_disk, cimbrolau_remove_device, cimbrolau_remove_disk, cimbrolau_replace_device
+pub edit-once : (card : Card) (e : Edit) (file old : List ℕ) (r p : Edited) (new now : List ℕ) → WritesBeside card (editCall (length old) card file e) old r new → WritesBeside card (editCall (length old) card file e) old p now → (r ≡ p) × (new ≡ now)
+edit-once card e file old r p new now a b = beside-once a b
 
 pub wrapper-check-once : Judges wrapped.wrapperOf
 wrapper-check-once wrapper r s e f = equal-once e f

@@ -2,6 +2,8 @@
 // Each function hands its parameters to the call of the same meaning and returns what that answers; a slice comes as a pointer and a length.
 use access::Access;
 use answer::Answer;
+use cards::Card;
+use cards::Edited;
 use numbers::Numbers;
 use numbers::Told;
 use ready::Readiness;
@@ -12,7 +14,9 @@ use snapshot::MetaFields;
 ghost use mathlib.Core.Path.{_≡_};
 ghost use lib.ListN.{length};
 ghost use Rattle.answer.specs.Calls.{asked, verdict, Writes};
-ghost use Rattle.aerosnap.specs.Calls.{checkCall, sectionsCall, devicesCall, disksCall, cpusCall, mmusCall, canonicalCall, addDeviceCall, addDiskCall, removeDeviceCall, removeDiskCall, replaceDeviceCall};
+ghost use Rattle.aerosnap.specs.Calls.{checkCall, sectionsCall, devicesCall, disksCall, cpusCall, mmusCall, canonicalCall};
+ghost use Rattle.cards.specs.Cards.{openAnswer, WritesBeside};
+ghost use Rattle.cards.specs.Calls.{openCall, addDeviceCall, addDiskCall, removeDeviceCall, removeDiskCall, replaceDeviceCall};
 ghost use Rattle.snapshot.specs.MetaSection.{metaCall, asMeta};
 ghost use Rattle.dskc.specs.Wrapper as wrapped;
 ghost use Rattle.messages.specs.Reading.{readMessage, reading};
@@ -84,64 +88,75 @@ pub extern "C" fn cimbrolau_canonical(file: &[u8], out: &mut [u8]) -> Answer
 }
 
 #[no_mangle]
+pub extern "C" fn cimbrolau_open(file: &[u8]) -> Edited
+    ensures { λ r. ⌜ r ≡ openAnswer (openCall (now (file .entry))) ⌝ }
+{
+    snapshot::open(file)
+}
+
+#[no_mangle]
 pub extern "C" fn cimbrolau_add_device(
     file: &[u8],
+    card: Card,
     id: u32,
     version: u16,
     flags: u16,
     payload: &[u8],
     out: &mut [u8],
-) -> Answer
-    ensures { λ r. ⌜ Writes (addDeviceCall (length (now (out .entry))) (now (file .entry)) id version flags (now (payload .entry))) (now (out .entry)) r (now (out .exit)) ⌝ }
+) -> Edited
+    ensures { λ r. ⌜ WritesBeside card (addDeviceCall (length (now (out .entry))) card (now (file .entry)) id version flags (now (payload .entry))) (now (out .entry)) r (now (out .exit)) ⌝ }
 {
-    snapshot::add_device(file, id, version, flags, payload, out)
+    snapshot::add_device(file, card, id, version, flags, payload, out)
 }
 
 #[no_mangle]
 pub extern "C" fn cimbrolau_add_disk(
     file: &[u8],
+    card: Card,
     id: u32,
     base: &[u8],
     overlay: &[u8],
     out: &mut [u8],
-) -> Answer
-    ensures { λ r. ⌜ Writes (addDiskCall (length (now (out .entry))) (now (file .entry)) id (now (base .entry)) (now (overlay .entry))) (now (out .entry)) r (now (out .exit)) ⌝ }
+) -> Edited
+    ensures { λ r. ⌜ WritesBeside card (addDiskCall (length (now (out .entry))) card (now (file .entry)) id (now (base .entry)) (now (overlay .entry))) (now (out .entry)) r (now (out .exit)) ⌝ }
 {
-    snapshot::add_disk(file, id, base, overlay, out)
+    snapshot::add_disk(file, card, id, base, overlay, out)
 }
 
 #[no_mangle]
 pub extern "C" fn cimbrolau_remove_device(
     file: &[u8],
+    card: Card,
     id: u32,
     version: u16,
     flags: u16,
     out: &mut [u8],
-) -> Answer
-    ensures { λ r. ⌜ Writes (removeDeviceCall (length (now (out .entry))) (now (file .entry)) id version flags) (now (out .entry)) r (now (out .exit)) ⌝ }
+) -> Edited
+    ensures { λ r. ⌜ WritesBeside card (removeDeviceCall (length (now (out .entry))) card (now (file .entry)) id version flags) (now (out .entry)) r (now (out .exit)) ⌝ }
 {
-    snapshot::remove_device(file, id, version, flags, out)
+    snapshot::remove_device(file, card, id, version, flags, out)
 }
 
 #[no_mangle]
-pub extern "C" fn cimbrolau_remove_disk(file: &[u8], id: u32, out: &mut [u8]) -> Answer
-    ensures { λ r. ⌜ Writes (removeDiskCall (length (now (out .entry))) (now (file .entry)) id) (now (out .entry)) r (now (out .exit)) ⌝ }
+pub extern "C" fn cimbrolau_remove_disk(file: &[u8], card: Card, id: u32, out: &mut [u8]) -> Edited
+    ensures { λ r. ⌜ WritesBeside card (removeDiskCall (length (now (out .entry))) card (now (file .entry)) id) (now (out .entry)) r (now (out .exit)) ⌝ }
 {
-    snapshot::remove_disk(file, id, out)
+    snapshot::remove_disk(file, card, id, out)
 }
 
 #[no_mangle]
 pub extern "C" fn cimbrolau_replace_device(
     file: &[u8],
+    card: Card,
     id: u32,
     version: u16,
     flags: u16,
     payload: &[u8],
     out: &mut [u8],
-) -> Answer
-    ensures { λ r. ⌜ Writes (replaceDeviceCall (length (now (out .entry))) (now (file .entry)) id version flags (now (payload .entry))) (now (out .entry)) r (now (out .exit)) ⌝ }
+) -> Edited
+    ensures { λ r. ⌜ WritesBeside card (replaceDeviceCall (length (now (out .entry))) card (now (file .entry)) id version flags (now (payload .entry))) (now (out .entry)) r (now (out .exit)) ⌝ }
 {
-    snapshot::replace_device(file, id, version, flags, payload, out)
+    snapshot::replace_device(file, card, id, version, flags, payload, out)
 }
 
 // ---- disk-controller wrappers

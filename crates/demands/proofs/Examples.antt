@@ -3,7 +3,13 @@
 use Rattle.aerosnap.proofs.Examples as file
 use Rattle.messages.proofs.Examples as message
 use Rattle.entries.proofs.Examples as entry
+use mathlib.Core.Path.{ap}
+use mathlib.Core.List.{List}
+use Prim.Native.Nat.{ℕ}
+use Rattle.answer.specs.Outcome.{Outcome}
+use Rattle.cards.specs.declared.Card.{Card}
 use Rattle.demands.specs.Examples.{Examples}
+use Rattle.cards.proofs.Answers.{refused-beside}
 
 pub examples : Examples
 examples =
@@ -22,7 +28,7 @@ examples =
       P5 = f .P5;
       P5-devices = f .P5-devices;
       P6 = f .P6;
-      P7 = f .P7;
+      P7 = λ k. ap (λ (o : Outcome (List ℕ × Card)). (0, o)) (refused-beside 1000 k _ _ (f .P7));
       P8 = f .P8;
       P9 = f .P9;
       P9-canonical = f .P9-canonical;

@@ -5,7 +5,7 @@ use mathlib.Core.Logic.{_≢_}
 use mathlib.Core.List.{List, [], _∷_, _++_}
 use Prim.Native.Nat.{ℕ, suc, _<_, _≤_}
 use native.Mathlib.Omega.{arith}
-use lib.ListN.{length, drop, getD, replicate, length-replicate}
+use lib.ListN.{length, take, drop, getD, replicate, length-replicate}
 use lib.Seq.{take-append-seam}
 use Rattle.answer.specs.declared.Answer.{Answer}
 use Rattle.answer.specs.Outcome.{Outcome, taken}
@@ -20,12 +20,15 @@ use Rattle.aerosnap.specs.Payloads.{payload}
 use Rattle.aerosnap.specs.File.{ruled, sectionOf, sections, fileOf}
 use Rattle.aerosnap.specs.Content.{Content, contentAt, render, IsCanonical}
 use Rattle.aerosnap.specs.Adding.{Item, device, disk, Wide, listIn, entryOf, withItem}
-use Rattle.aerosnap.specs.Edits.{add, Call, editFile, editTo}
+use Rattle.aerosnap.specs.Edits.{Edit, add, Call, editFile, editTo}
 use Rattle.aerosnap.specs.Calls.{canonicalCall}
 use Rattle.aerosnap.proofs.Canonical.{canonical-exactly}
 use Rattle.aerosnap.proofs.Added.{add-exactly, grows}
 use Rattle.aerosnap.proofs.AnyOrder.{call-gives}
 use Rattle.aerosnap.proofs.Made.{call-made}
+use Rattle.cards.specs.declared.Card.{Card}
+use Rattle.cards.specs.declared.Edited.{Edited}
+use Rattle.cards.specs.Cards.{editCardTo, editCard, bytesBeside, answerBeside}
 use Rattle.dskc.specs.Wrapper as wrapped
 use Rattle.dskc.proofs.Examples as wrapper
 use Rattle.kinds.specs.declared.Message.{Message}
@@ -36,8 +39,9 @@ use Rattle.messages.specs.Writing.{fieldBytes, formBytes, valueChecks, writeChe
 use Rattle.numbers.specs.declared.Numbers.{Numbers}
 use Rattle.numbers.specs.Numbers.{messageOf, writeNumbers}
 use Rattle.demands.specs.Examples.{empty, u32, withDevices, oneByte, twoBytes, fourteenThree, threeFourteen, noDevices}
-use Rattle.demands.specs.RuledOut.{Program, Takes, output, Useful, addCall, Runs, RuledOut}
+use Rattle.demands.specs.RuledOut.{Program, Takes, output, Useful, RuledOut, EditProgram, TakesEdit, editOutput, RunsBeside, RuledOutBeside}
 use Rattle.demands.proofs.Examples.{examples}
+use Rattle.demands.proofs.Beside.{bare-call, demand3-beside}
 
 -- ---- programs that meet a promise
 
@@ -152,37 +156,6 @@ call-longer have s x b o k =
     let y : length (render d) ≡ length s = ap (λ (c : Content). length (render c)) w ∙ ap length q in
     omega (arith, grows x d .size, entry-long x)
 
-module _ (P : Program addCall) where
-  -- what the program does is a call
-  called : (s : List ℕ) (x : Item) (old : List ℕ) → Wide x → Takes P (s, x) old → Call (length old) s x (output P (s, x) old)
-  called s x old w h = call-made s (add x) old (P .leaves (s, x) old) (P .answers (s, x) old) w (P .meets (s, x) old) h
-
-  -- along a chain files only grow
-  runs-longer : (s b : List ℕ) (l : List (List ℕ × Item)) → IsCanonical s → Runs P s l b → length s ≤ length b
-  runs-longer s b [] o h = omega (arith, ap length h)
-  runs-longer s b (q ∷ l) o (w, t, h) =
-      let k = called s (q .1) (q .0) w t in
-      let i = call-gives (length (q .0)) s (q .1) (output P (s, q .1) (q .0)) k .canonical-is in
-      omega (arith, call-longer (length (q .0)) s (q .1) (output P (s, q .1) (q .0)) o k, runs-longer (output P (s, q .1) (q .0)) b l i h)
-
-  passed-on : (s b : List ℕ) (p q : List ℕ × Item) (l : List (List ℕ × Item)) → IsCanonical s → Runs P s (p ∷ q ∷ l) b → output P (s, p .1) (p .0) ≢ b
-  passed-on s b p q l o (w, t, (v, u, h)) e =
-      let a : List ℕ = output P (s, p .1) (p .0) in
-      let i = call-gives (length (p .0)) s (p .1) a (called s (p .1) (p .0) w t) .canonical-is in
-      let k = called a (q .1) (q .0) v u in
-      let d : List ℕ = output P (a, q .1) (q .0) in
-      let j = call-gives (length (q .0)) a (q .1) d k .canonical-is in
-      omega (arith, call-longer (length (q .0)) a (q .1) d i k, runs-longer d b l j h, ap length e)
-
--- the device (3,1,0) with two bytes, and (14,1,0) with one, added to the empty file
-add-useful : Useful addCall (λ i. i .0)
-unfolding leAt le bytesOf insert has read split entryAt walk listAt payload ruled sectionOf sections fileOf editTo editFile
-add-useful =
-    useful addCall (λ i. i .0) 54 (empty, device 3 1 0 (0xAB ∷ 0xCD ∷ [])) (withDevices 22 (u32 1 ++ twoBytes 3)) refl 53 (empty, device 14 1 0 (0x11 ∷ [])) (withDevices 21 (u32 1 ++ oneByte 14)) refl
-    (longs (λ (z : _≡_ {A = ℕ} 54 53). omega arith)) (longs (λ (z : _≡_ {A = ℕ} 54 16). omega arith))
-
--- ---- all of it
-
 pub ruled-out : RuledOut
 ruled-out = record {
   reader = λ read promise h. h empty (ap (λ (a : Answer). a .number) (promise empty ∙ ap verdict (examples .P1)));
@@ -192,8 +165,75 @@ ruled-out = record {
   wrapper-canonical = wrapper-useful;
   message-write = message-useful;
   numbers-write = numbers-useful;
-  add = add-useful;
-  does-nothing = λ P s x old w h. call-new (length old) s x (output P (s, x) old) (called P s x old w h);
-  longer = λ P s x old o w h. call-longer (length old) s x (output P (s, x) old) o (called P s x old w h);
-  passed-on = passed-on;
+}
+
+-- ---- edits beside a card
+
+module _ (P : EditProgram) where
+  edit-made : (k : Card) (s : List ℕ) (e : Edit) (old b : List ℕ) (j : Card) → editCard (length old) k s e ≡ taken (b, j)
+      → TakesEdit P k s e old × (P .answers k s e old .place ≡ length b) × (editOutput P k s e old ≡ b) × (P .answers k s e old .card ≡ j)
+  edit-made k s e old b j h =
+      let i : P .answers k s e old ≡ answerBeside k 0 (taken (b, j)) = P .meets k s e old .answers ∙ ap (answerBeside k 0) h in
+      let m : P .leaves k s e old ≡ b ++ drop (length b) old = P .meets k s e old .leaves ∙ ap (λ (o : Outcome (List ℕ × Card)). memory (bytesBeside o) old) h in
+      let p : P .answers k s e old .place ≡ length b = ap (λ (r : Edited). r .place) i in
+      (ap (λ (r : Edited). r .number) i, p, ap (λ (n : ℕ). take n (P .leaves k s e old)) p ∙ ap (take (length b)) m ∙ take-append-seam b (drop (length b) old), ap (λ (r : Edited). r .card) i)
+
+  -- what the program does is a call
+  edit-called : (k : Card) (s : List ℕ) (x : Item) (old : List ℕ) → Wide x → TakesEdit P k s (add x) old → Call (length old) s x (editOutput P k s (add x) old)
+  edit-called k s x old w h = bare-call (demand3-beside .made s k (add x) old (P .leaves k s (add x) old) (P .answers k s (add x) old) w (P .meets k s (add x) old) h)
+
+  runs-grow : (l : List (List ℕ × Item)) (s : List ℕ) (k : Card) (b : List ℕ) → IsCanonical s → RunsBeside P s k l b → length s ≤ length b
+  runs-grow [] s k b o h = omega (arith, ap length h)
+  runs-grow (q ∷ l) s k b o (w, t, h) =
+      let c = edit-called k s (q .1) (q .0) w t in
+      let i = call-gives (length (q .0)) s (q .1) (editOutput P k s (add (q .1)) (q .0)) c .canonical-is in
+      omega (arith, call-longer (length (q .0)) s (q .1) (editOutput P k s (add (q .1)) (q .0)) o c, runs-grow l (editOutput P k s (add (q .1)) (q .0)) (P .answers k s (add (q .1)) (q .0) .card) b i h)
+
+  handed-on : (k : Card) (s b : List ℕ) (p q : List ℕ × Item) (l : List (List ℕ × Item)) → IsCanonical s → RunsBeside P s k (p ∷ q ∷ l) b → editOutput P k s (add (p .1)) (p .0) ≢ b
+  handed-on k s b p q l o (w, t, (v, u, h)) e =
+      let a : List ℕ = editOutput P k s (add (p .1)) (p .0) in
+      let j : Card = P .answers k s (add (p .1)) (p .0) .card in
+      let i = call-gives (length (p .0)) s (p .1) a (edit-called k s (p .1) (p .0) w t) .canonical-is in
+      let c = edit-called j a (q .1) (q .0) v u in
+      let d : List ℕ = editOutput P j a (add (q .1)) (q .0) in
+      omega (arith, call-longer (length (q .0)) a (q .1) d i c, runs-grow l d (P .answers j a (add (q .1)) (q .0) .card) b (call-gives (length (q .0)) a (q .1) d c .canonical-is) h, ap length e)
+
+-- the same two adds to the empty file, beside its true card
+abbrev nothingYet : Card
+nothingYet = record { length = 16; sections = 0; devices = 0; payloads = 0 }
+
+abbrev three : Edit
+three = add (device 3 1 0 (0xAB ∷ 0xCD ∷ []))
+
+abbrev fourteen : Edit
+fourteen = add (device 14 1 0 (0x11 ∷ []))
+
+three-added : editCard 54 nothingYet empty three ≡ taken (withDevices 22 (u32 1 ++ twoBytes 3), record { length = 54; sections = 1; devices = 1; payloads = 2 })
+unfolding leAt le bytesOf insert has read split entryAt walk listAt payload ruled sectionOf sections fileOf editTo editCard editCardTo
+three-added = refl
+
+fourteen-added : editCard 53 nothingYet empty fourteen ≡ taken (withDevices 21 (u32 1 ++ oneByte 14), record { length = 53; sections = 1; devices = 1; payloads = 1 })
+unfolding leAt le bytesOf insert has read split entryAt walk listAt payload ruled sectionOf sections fileOf editTo editCard editCardTo
+fourteen-added = refl
+
+module _ (P : EditProgram) where
+  one-edit : TakesEdit P nothingYet empty three (lent 54) × (P .answers nothingYet empty three (lent 54) .place ≡ 54) × (editOutput P nothingYet empty three (lent 54) ≡ withDevices 22 (u32 1 ++ twoBytes 3))
+      × (P .answers nothingYet empty three (lent 54) .card ≡ record { length = 54; sections = 1; devices = 1; payloads = 2 })
+  one-edit = edit-made P nothingYet empty three (lent 54) (withDevices 22 (u32 1 ++ twoBytes 3)) (record { length = 54; sections = 1; devices = 1; payloads = 2 }) (ap (λ (n : ℕ). editCard n nothingYet empty three) (length-replicate {A = ℕ} 54 0) ∙ three-added)
+
+  other-edit : TakesEdit P nothingYet empty fourteen (lent 53) × (P .answers nothingYet empty fourteen (lent 53) .place ≡ 53) × (editOutput P nothingYet empty fourteen (lent 53) ≡ withDevices 21 (u32 1 ++ oneByte 14))
+      × (P .answers nothingYet empty fourteen (lent 53) .card ≡ record { length = 53; sections = 1; devices = 1; payloads = 1 })
+  other-edit = edit-made P nothingYet empty fourteen (lent 53) (withDevices 21 (u32 1 ++ oneByte 14)) (record { length = 53; sections = 1; devices = 1; payloads = 1 }) (ap (λ (n : ℕ). editCard n nothingYet empty fourteen) (length-replicate {A = ℕ} 53 0) ∙ fourteen-added)
+
+pub ruled-out-beside : RuledOutBeside
+ruled-out-beside = record {
+  refuses-everything = λ P h. h nothingYet empty three (lent 54) (one-edit P .0);
+  one-fixed-output = λ P c h.
+      longs (λ (z : _≡_ {A = ℕ} 54 53). omega arith) (sym (one-edit P .2) ∙ h nothingYet empty three (lent 54) (one-edit P .0) ∙ sym (h nothingYet empty fourteen (lent 53) (other-edit P .0)) ∙ other-edit P .2);
+  copies-its-input = λ P h. longs (λ (z : _≡_ {A = ℕ} 54 16). omega arith) (sym (one-edit P .2) ∙ h nothingYet empty three (lent 54) (one-edit P .0));
+  same-card = λ P h. let z : _≡_ {A = ℕ} 54 16 = ap (λ (k : Card). k .length) (sym (one-edit P .3) ∙ h nothingYet empty three (lent 54) (one-edit P .0)) in omega arith;
+  made-up = edit-made;
+  does-nothing = λ P k s x old w h. call-new (length old) s x (editOutput P k s (add x) old) (edit-called P k s x old w h);
+  longer = λ P k s x old o w h. call-longer (length old) s x (editOutput P k s (add x) old) o (edit-called P k s x old w h);
+  passed-on = handed-on;
 }

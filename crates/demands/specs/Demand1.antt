@@ -12,7 +12,7 @@ use Rattle.answer.specs.declared.Answer.{Answer}
 use Rattle.answer.specs.Numbers.{ROOM, isNumber}
 use Rattle.answer.specs.Outcome.{Outcome, taken, refused, Faulty}
 use Rattle.answer.specs.Calls.{verdict, Writes}
-use Rattle.aerosnap.specs.Calls.{checkCall, sectionsCall, devicesCall, disksCall, cpusCall, mmusCall, canonicalCall, addDeviceCall, addDiskCall, removeDeviceCall, removeDiskCall, replaceDeviceCall}
+use Rattle.aerosnap.specs.Calls.{checkCall, sectionsCall, devicesCall, disksCall, cpusCall, mmusCall, canonicalCall}
 use Rattle.dskc.specs.Wrapper as wrapped
 use Rattle.kinds.specs.declared.Message.{Message}
 use Rattle.kinds.specs.declared.Message.the-variants.{Nothing}
@@ -81,7 +81,7 @@ pub record TellsMessage (o : Outcome messages.Content) : Type 0 where
       → (r .number ≡ n) × (r .place ≡ p) × (numbersIn r ≡ record { tag = 0; a = 0; b = 0; c = 0; d = 0 }) × (r .data_place ≡ 0) × (r .data_length ≡ 0)
   pub once : (r s : Told) → r ≡ told (messages.reading o) → s ≡ told (messages.reading o) → r ≡ s
 
--- Each public call of `snapshot`, `dskc`, `aipc` and `numbers`; those of the C boundary (`cimbrolau`) promise the same, word for word, and stand beside them. Rings: Rings.antt.
+-- Each public call of `snapshot`, `dskc`, `aipc` and `numbers`; those of the C boundary (`cimbrolau`) promise the same, word for word, and stand beside them. Rings: Rings.antt. Edits and `open`: Beside.antt.
 pub record Demand1 : Type 0 where
   -- snapshot::check, cimbrolau_check
   pub check : (file : List ℕ) → Answers (checkCall file)
@@ -97,16 +97,6 @@ pub record Demand1 : Type 0 where
   pub mmus : (file : List ℕ) → Fills (λ have. mmusCall have file)
   -- snapshot::canonical, cimbrolau_canonical
   pub canonical : (file : List ℕ) → Fills (λ have. canonicalCall have file)
-  -- snapshot::add_device, cimbrolau_add_device
-  pub add-device : (file : List ℕ) (id version flags : ℕ) (payload : List ℕ) → Fills (λ have. addDeviceCall have file id version flags payload)
-  -- snapshot::add_disk, cimbrolau_add_disk
-  pub add-disk : (file : List ℕ) (id : ℕ) (base overlay : List ℕ) → Fills (λ have. addDiskCall have file id base overlay)
-  -- snapshot::remove_device, cimbrolau_remove_device
-  pub remove-device : (file : List ℕ) (id version flags : ℕ) → Fills (λ have. removeDeviceCall have file id version flags)
-  -- snapshot::remove_disk, cimbrolau_remove_disk
-  pub remove-disk : (file : List ℕ) (id : ℕ) → Fills (λ have. removeDiskCall have file id)
-  -- snapshot::replace_device, cimbrolau_replace_device
-  pub replace-device : (file : List ℕ) (id version flags : ℕ) (payload : List ℕ) → Fills (λ have. replaceDeviceCall have file id version flags payload)
   -- dskc::check, cimbrolau_wrapper_check
   pub wrapper-check : (wrapper : List ℕ) → Answers (wrapped.wrapperOf wrapper)
   -- dskc::controllers, cimbrolau_controllers

@@ -8,7 +8,9 @@ use Rattle.answer.specs.Numbers.{SHORT, ENDIAN, KEY, HAVE, CUT, SHAPE, VALUE, T
 use Rattle.answer.specs.Outcome.{taken, refused}
 use Rattle.wire.specs.Numbers.{bytesOf}
 use Rattle.entries.specs.Kinds.{address}
-use Rattle.aerosnap.specs.Calls.{checkCall, sectionsCall, devicesCall, disksCall, canonicalCall, addDeviceCall}
+use Rattle.aerosnap.specs.Calls.{checkCall, sectionsCall, devicesCall, disksCall, canonicalCall}
+use Rattle.cards.specs.declared.Card.{Card}
+use Rattle.cards.specs.Calls.{addDeviceCall}
 use Rattle.kinds.specs.declared.Message.the-variants.{Nothing, PortReadResp, DiskReadResp}
 use Rattle.messages.specs.declared.Reading.{Reading}
 use Rattle.messages.specs.Reading.{readMessage, reading}
@@ -77,8 +79,8 @@ pub record Examples : Type 0 where
   pub P5-devices : devicesCall 64 threeFourteen ≡ taken (head 3 ++ (u64 52 ++ (u64 2 ++ (u32 0 ++ (u32 0 ++ (head 14 ++ (u64 70 ++ (u64 1 ++ (u32 1 ++ u32 0)))))))))
   -- with both keys (3,1,0), KEY at 53
   pub P6 : checkCall (withDevices 39 (u32 2 ++ (oneByte 3 ++ twoBytes 3))) ≡ refused KEY 53
-  -- adding (3,1,0) to P5 gives HAVE
-  pub P7 : addDeviceCall 1000 threeFourteen 3 1 0 (0xAB ∷ 0xCD ∷ []) ≡ refused HAVE 0
+  -- adding (3,1,0) to P5 gives HAVE, beside every card
+  pub P7 : (k : Card) → addDeviceCall 1000 k threeFourteen 3 1 0 (0xAB ∷ 0xCD ∷ []) ≡ (0, refused HAVE 0)
   -- with section length 40, CUT at 16
   pub P8 : checkCall (set fourteenThree 24 40) ≡ refused CUT 16
   -- header and DEVICES with count 0, 36 bytes, has P1 as canonical form

@@ -21,9 +21,9 @@ pub record Removal : Type 0 where
   -- a call that answers 0 is such a call, and its file is the first `place` bytes of the lent memory; and such a call, made with any lent memory of that length, answers so
   pub made : (s : List ℕ) (e : Edit) (old new : List ℕ) (r : Answer) → WideEdit e → Writes (editFile (length old) s e) old r new → r .number ≡ 0 → EditCall (length old) s e (take (r .place) new)
   pub makes : (s : List ℕ) (e : Edit) (old new : List ℕ) (r : Answer) (b : List ℕ) → EditCall (length old) s e b → Writes (editFile (length old) s e) old r new → (r .number ≡ 0) × (take (r .place) new ≡ b)
-  -- an entry that isn't there is ABSENT at 0, a number of the card
+  -- an entry that isn't there is ABSENT at 0, a number of the list
   pub absent : (have : ℕ) (s : List ℕ) (n : Name) (c : Content) → contentAt s ≡ taken c → stands n c ≡ false → editFile have s (remove n) ≡ refused ABSENT 0
-  pub on-card : isNumber ABSENT ≡ true
+  pub on-list : isNumber ABSENT ≡ true
   -- a removal leaves the other entries of its list, in their order, and no other with that key
   pub leaves : (n : Name) (c : Content) → (entriesAt (sideOf n) (apply (remove n) c) ≡ without (kindAt (sideOf n) .key) (keyOf n) (entriesAt (sideOf n) c)) × (stands n (apply (remove n) c) ≡ false)
   -- the last entry's removal removes its section, if that has no tail (and else leaves it with its tail: Tails)

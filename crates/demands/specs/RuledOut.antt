@@ -10,8 +10,11 @@ use Rattle.answer.specs.Outcome.{Outcome, taken}
 use Rattle.answer.specs.Calls.{verdict, Writes}
 use Rattle.aerosnap.specs.Content.{contentAt, IsCanonical}
 use Rattle.aerosnap.specs.Adding.{Item, Wide}
-use Rattle.aerosnap.specs.Edits.{addItem}
+use Rattle.aerosnap.specs.Edits.{Edit, add}
 use Rattle.aerosnap.specs.Calls.{checkCall, canonicalCall}
+use Rattle.cards.specs.declared.Card.{Card}
+use Rattle.cards.specs.declared.Edited.{Edited}
+use Rattle.cards.specs.Cards.{editCard, WritesBeside}
 use Rattle.dskc.specs.Wrapper as wrapped
 use Rattle.kinds.specs.declared.Message.{Message}
 use Rattle.messages.specs.declared.Reading.{Reading}
@@ -42,15 +45,6 @@ pub record Useful {I : Type 0} (call : ℕ → I → Outcome (List ℕ)) (input 
   pub copies-its-input : (P : Program call) → ((i : I) (old : List ℕ) → Takes P i old → output P i old ≡ input i) → ⊥
   pub made-up-length : (P : Program call) (i : I) (old b : List ℕ) → call (length old) i ≡ taken b → Takes P i old × (P .answers i old .place ≡ length b) × (output P i old ≡ b)
 
--- a call of `add_device` or `add_disk`, by the file and the item
-abbrev pub addCall : ℕ → List ℕ × Item → Outcome (List ℕ)
-addCall have i = addItem have (i .0) (i .1)
-
--- adding items one after another, each with lent memory of its own: the program takes them all, and leads from the file s to b
-abbrev pub Runs : Program addCall → List ℕ → List (List ℕ × Item) → List ℕ → Type 0
-Runs P s [] b = s ≡ b
-Runs P s (q ∷ l) b = Wide (q .1) × Takes P (s, q .1) (q .0) × Runs P (output P (s, q .1) (q .0)) l b
-
 pub record RuledOut : Type 0 where
   -- a reader that refuses everything: of files, of wrappers, of messages
   pub reader : (read : List ℕ → Answer) → ((file : List ℕ) → read file ≡ verdict (checkCall file)) → ((file : List ℕ) → read file .number ≢ 0) → ⊥
@@ -61,9 +55,40 @@ pub record RuledOut : Type 0 where
   pub wrapper-canonical : Useful wrapped.canonicalCall (λ wrapper. wrapper)
   pub message-write : Useful (λ have (i : Message × List ℕ). writeMessage (i .0) (i .1) have) (λ i. i .1)
   pub numbers-write : Useful (λ have (i : Numbers × List ℕ). writeNumbers (i .0) (i .1) have) (λ i. i .1)
-  -- an add that refuses everything, or does nothing: the file that it writes is another, and has another content
-  pub add : Useful addCall (λ i. i .0)
-  pub does-nothing : (P : Program addCall) (s : List ℕ) (x : Item) (old : List ℕ) → Wide x → Takes P (s, x) old → contentAt (output P (s, x) old) ≢ contentAt s
+
+-- ---- edits beside a card
+
+-- a program for the calls that edit: by the card, the file, the edit and the lent memory, its answer and the memory afterwards
+pub record EditProgram : Type 0 where
+  pub answers : Card → List ℕ → Edit → List ℕ → Edited
+  pub leaves : Card → List ℕ → Edit → List ℕ → List ℕ
+  pub meets : (k : Card) (s : List ℕ) (e : Edit) (old : List ℕ) → WritesBeside k (0, editCard (length old) k s e) old (answers k s e old) (leaves k s e old)
+
+module _ (P : EditProgram) where
+  -- it takes the edit
+  abbrev pub TakesEdit : Card → List ℕ → Edit → List ℕ → Type 0
+  TakesEdit k s e old = P .answers k s e old .number ≡ 0
+
+  -- the file that it wrote
+  abbrev pub editOutput : Card → List ℕ → Edit → List ℕ → List ℕ
+  editOutput k s e old = take (P .answers k s e old .place) (P .leaves k s e old)
+
+  -- adding items one after another, each with lent memory of its own: the program takes them all, and leads from the file s and the card k to the file b
+  abbrev pub RunsBeside : List ℕ → Card → List (List ℕ × Item) → List ℕ → Type 0
+  RunsBeside s k [] b = s ≡ b
+  RunsBeside s k (q ∷ l) b = Wide (q .1) × TakesEdit k s (add (q .1)) (q .0) × RunsBeside (editOutput k s (add (q .1)) (q .0)) (P .answers k s (add (q .1)) (q .0) .card) l b
+
+pub record RuledOutBeside : Type 0 where
+  -- a program that refuses everything, writes one fixed output, copies its input, or hands every card back as it was
+  pub refuses-everything : (P : EditProgram) → ((k : Card) (s : List ℕ) (e : Edit) (old : List ℕ) → P .answers k s e old .number ≢ 0) → ⊥
+  pub one-fixed-output : (P : EditProgram) (fixed : List ℕ) → ((k : Card) (s : List ℕ) (e : Edit) (old : List ℕ) → TakesEdit P k s e old → editOutput P k s e old ≡ fixed) → ⊥
+  pub copies-its-input : (P : EditProgram) → ((k : Card) (s : List ℕ) (e : Edit) (old : List ℕ) → TakesEdit P k s e old → editOutput P k s e old ≡ s) → ⊥
+  pub same-card : (P : EditProgram) → ((k : Card) (s : List ℕ) (e : Edit) (old : List ℕ) → TakesEdit P k s e old → P .answers k s e old .card ≡ k) → ⊥
+  -- or makes a length or a card up
+  pub made-up : (P : EditProgram) (k : Card) (s : List ℕ) (e : Edit) (old b : List ℕ) (j : Card) → editCard (length old) k s e ≡ taken (b, j)
+      → TakesEdit P k s e old × (P .answers k s e old .place ≡ length b) × (editOutput P k s e old ≡ b) × (P .answers k s e old .card ≡ j)
+  -- an add that does nothing: the file that it writes is another, and has another content
+  pub does-nothing : (P : EditProgram) (k : Card) (s : List ℕ) (x : Item) (old : List ℕ) → Wide x → TakesEdit P k s (add x) old → contentAt (editOutput P k s (add x) old) ≢ contentAt s
   -- a chain of adds whose first writes the final file and whose later ones merely pass it on: each file is longer than the one before it
-  pub longer : (P : Program addCall) (s : List ℕ) (x : Item) (old : List ℕ) → IsCanonical s → Wide x → Takes P (s, x) old → length s < length (output P (s, x) old)
-  pub passed-on : (P : Program addCall) (s b : List ℕ) (p q : List ℕ × Item) (l : List (List ℕ × Item)) → IsCanonical s → Runs P s (p ∷ q ∷ l) b → output P (s, p .1) (p .0) ≢ b
+  pub longer : (P : EditProgram) (k : Card) (s : List ℕ) (x : Item) (old : List ℕ) → IsCanonical s → Wide x → TakesEdit P k s (add x) old → length s < length (editOutput P k s (add x) old)
+  pub passed-on : (P : EditProgram) (k : Card) (s b : List ℕ) (p q : List ℕ × Item) (l : List (List ℕ × Item)) → IsCanonical s → RunsBeside P s k (p ∷ q ∷ l) b → editOutput P k s (add (p .1)) (p .0) ≢ b

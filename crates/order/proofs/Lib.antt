@@ -6,6 +6,7 @@ pub mod Keeps
 pub mod Without
 pub mod Between
 pub mod Sorts
+pub mod Merged
 pub mod Buckets
 pub mod Places
 pub mod Entries

@@ -6,6 +6,8 @@ use answer::ROOM;
 use answer::TAKEN;
 use answer::Test;
 use canon::Edit;
+use cards::Card;
+use cards::Edited;
 use sections::Spot;
 use tables::ROW;
 use tables::Table;
@@ -24,7 +26,9 @@ ghost use Rattle.aerosnap.specs.Known.{known};
 ghost use Rattle.aerosnap.specs.Payloads.{list, bodyOf};
 ghost use Rattle.aerosnap.specs.File.{fileMost, fileOf};
 ghost use Rattle.aerosnap.specs.Tables as file_tables;
-ghost use Rattle.aerosnap.specs.Calls.{checkCall, sectionsCall, devicesCall, disksCall, cpusCall, mmusCall, canonicalCall, addDeviceCall, addDiskCall, removeDeviceCall, removeDiskCall, replaceDeviceCall};
+ghost use Rattle.aerosnap.specs.Calls.{checkCall, sectionsCall, devicesCall, disksCall, cpusCall, mmusCall, canonicalCall};
+ghost use Rattle.cards.specs.Cards.{openAnswer, WritesBeside};
+ghost use Rattle.cards.specs.Calls.{openCall, addDeviceCall, addDiskCall, removeDeviceCall, removeDiskCall, replaceDeviceCall};
 ghost use Rattle.sections.specs.Index.{HoldsStarts};
 ghost use Rattle.snapshot.specs.Walks.{Lists};
 ghost use Rattle.snapshot.specs.MetaSection.{silent, metaAt, metaCall, asMeta};
@@ -361,20 +365,29 @@ pub fn canonical(file: &[u8], out: &mut [u8]) -> Answer
     canon::canonical(file, out)
 }
 
+// The true card of a file's canonical form.
+pub fn open(file: &[u8]) -> Edited
+    ensures { λ r. ⌜ r ≡ openAnswer (openCall (now (file .entry))) ⌝ }
+{
+    canon::open(file)
+}
+
 // The canonical form of a file's content and one device more.
 pub fn add_device(
     file: &[u8],
+    card: Card,
     id: u32,
     version: u16,
     flags: u16,
     payload: &[u8],
     out: &mut [u8],
-) -> Answer
-    ensures { λ r. ⌜ Writes (addDeviceCall (length (now (out .entry))) (now (file .entry)) id version flags (now (payload .entry))) (now (out .entry)) r (now (out .exit)) ⌝ }
+) -> Edited
+    ensures { λ r. ⌜ WritesBeside card (addDeviceCall (length (now (out .entry))) card (now (file .entry)) id version flags (now (payload .entry))) (now (out .entry)) r (now (out .exit)) ⌝ }
 {
     let none = &file[..0];
     canon::edited(
         Edit::AddDevice(id, version, flags),
+        card,
         payload,
         none,
         file,
@@ -383,19 +396,34 @@ pub fn add_device(
 }
 
 // The canonical form of a file's content and one disk more.
-pub fn add_disk(file: &[u8], id: u32, base: &[u8], overlay: &[u8], out: &mut [u8]) -> Answer
-    ensures { λ r. ⌜ Writes (addDiskCall (length (now (out .entry))) (now (file .entry)) id (now (base .entry)) (now (overlay .entry))) (now (out .entry)) r (now (out .exit)) ⌝ }
+pub fn add_disk(
+    file: &[u8],
+    card: Card,
+    id: u32,
+    base: &[u8],
+    overlay: &[u8],
+    out: &mut [u8],
+) -> Edited
+    ensures { λ r. ⌜ WritesBeside card (addDiskCall (length (now (out .entry))) card (now (file .entry)) id (now (base .entry)) (now (overlay .entry))) (now (out .entry)) r (now (out .exit)) ⌝ }
 {
-    canon::edited(Edit::AddDisk(id), base, overlay, file, out)
+    canon::edited(Edit::AddDisk(id), card, base, overlay, file, out)
 }
 
 // The canonical form of a file's content without one of its devices.
-pub fn remove_device(file: &[u8], id: u32, version: u16, flags: u16, out: &mut [u8]) -> Answer
-    ensures { λ r. ⌜ Writes (removeDeviceCall (length (now (out .entry))) (now (file .entry)) id version flags) (now (out .entry)) r (now (out .exit)) ⌝ }
+pub fn remove_device(
+    file: &[u8],
+    card: Card,
+    id: u32,
+    version: u16,
+    flags: u16,
+    out: &mut [u8],
+) -> Edited
+    ensures { λ r. ⌜ WritesBeside card (removeDeviceCall (length (now (out .entry))) card (now (file .entry)) id version flags) (now (out .entry)) r (now (out .exit)) ⌝ }
 {
     let none = &file[..0];
     canon::edited(
         Edit::RemoveDevice(id, version, flags),
+        card,
         none,
         none,
         file,
@@ -404,27 +432,29 @@ pub fn remove_device(file: &[u8], id: u32, version: u16, flags: u16, out: &mut [
 }
 
 // The canonical form of a file's content without one of its disks.
-pub fn remove_disk(file: &[u8], id: u32, out: &mut [u8]) -> Answer
-    ensures { λ r. ⌜ Writes (removeDiskCall (length (now (out .entry))) (now (file .entry)) id) (now (out .entry)) r (now (out .exit)) ⌝ }
+pub fn remove_disk(file: &[u8], card: Card, id: u32, out: &mut [u8]) -> Edited
+    ensures { λ r. ⌜ WritesBeside card (removeDiskCall (length (now (out .entry))) card (now (file .entry)) id) (now (out .entry)) r (now (out .exit)) ⌝ }
 {
     let none = &file[..0];
-    canon::edited(Edit::RemoveDisk(id), none, none, file, out)
+    canon::edited(Edit::RemoveDisk(id), card, none, none, file, out)
 }
 
 // The canonical form of a file's content with another payload in one of its devices.
 pub fn replace_device(
     file: &[u8],
+    card: Card,
     id: u32,
     version: u16,
     flags: u16,
     payload: &[u8],
     out: &mut [u8],
-) -> Answer
-    ensures { λ r. ⌜ Writes (replaceDeviceCall (length (now (out .entry))) (now (file .entry)) id version flags (now (payload .entry))) (now (out .entry)) r (now (out .exit)) ⌝ }
+) -> Edited
+    ensures { λ r. ⌜ WritesBeside card (replaceDeviceCall (length (now (out .entry))) card (now (file .entry)) id version flags (now (payload .entry))) (now (out .entry)) r (now (out .exit)) ⌝ }
 {
     let none = &file[..0];
     canon::edited(
         Edit::ReplaceDevice(id, version, flags),
+        card,
         payload,
         none,
         file,

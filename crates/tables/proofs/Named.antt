@@ -123,6 +123,7 @@ module _ (s : List ℕ) (p : ℕ) (q : ℕ) (e more rest : List ℕ) (c : drop p
         id = v .0 ∙ n0;
         version = v .1 .0 ∙ n1;
         flags = v .1 .1 .0 ∙ n2;
+        size = v .1 .1 .1 .1 .0 ∙ n3 ∙ omega (arith, length-drop 16 e);
         payload = rw (v .1 .1 .1 .0, v .1 .1 .1 .1 .0, n3) (part s p e more c 16 (leAt 8 e 8) (omega arith) ∙ take-all (leAt 8 e 8) (drop 16 e) (omega (arith, length-drop 16 e)));
       }
 

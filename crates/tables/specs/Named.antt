@@ -17,6 +17,7 @@ pub record NamesFramed (s row e : List ℕ) : Type 0 where
   pub id : leAt 4 row 0 ≡ leAt 4 e 0
   pub version : leAt 2 row 4 ≡ leAt 2 e 4
   pub flags : leAt 2 row 6 ≡ leAt 2 e 6
+  pub size : leAt 8 row 16 ≡ length (drop 16 e)
   pub payload : take (leAt 8 row 16) (drop (leAt 8 row 8) s) ≡ drop 16 e
 
 -- the images of a disk: each the bytes behind its u32 length, the overlay behind the base

@@ -20,8 +20,13 @@ use Rattle.dskc.specs.Wrapper as wrapped
 use Rattle.messages.specs.declared.Reading.{Reading}
 use Rattle.messages.specs.Reading as messages
 use Rattle.demands.specs.Demand1.{InTable, Fills}
-use Rattle.demands.specs.Card.{withdrawn, addressCheck, WritesNever, Card}
+use Rattle.demands.specs.Refusals.{withdrawn, addressCheck, WritesNever, Refusals}
 use Rattle.demands.proofs.Demand1.{demand1}
+use Rattle.demands.proofs.Beside.{demand1-beside}
+use Rattle.cards.specs.declared.Card.{Card}
+use Rattle.cards.specs.declared.Edited.{Edited}
+use Rattle.cards.specs.Cards.{openAnswer, answerBeside, editCard}
+use Rattle.cards.specs.Calls.{openCall}
 use Rattle.order.specs.Keyed.{Every}
 use Rattle.aerosnap.proofs.Refusals.{Refuses, checked-refuses}
 use Rattle.fields.specs.declared.State.{State}
@@ -64,6 +69,14 @@ answer-not (refused n p) h r e k = number-not n h (sym (ap (λ (x : Answer). x .
 fills-not : {o : ℕ → Outcome (List ℕ)} → Fills o → WritesNever o
 fills-not {o} f old new r w = answer-not (o (length old)) (f .table (length old)) r (w .answers)
 
+open-not : (o : Outcome Card) → Faulty o → (r : Edited) → r ≡ openAnswer o → r .number ≢ withdrawn
+open-not (taken k) h r e z = zero-not (r .number) (ap (λ (x : Edited). x .number) e) z
+open-not (refused n p) h r e z = number-not n (fault-number n h) (sym (ap (λ (x : Edited). x .number) e) ∙ z)
+
+beside-not : (k : Card) (o : Outcome (List ℕ × Card)) → InTable o → (r : Edited) → r ≡ answerBeside k 0 o → r .number ≢ withdrawn
+beside-not k (taken t) h r e z = zero-not (r .number) (ap (λ (x : Edited). x .number) e) z
+beside-not k (refused n p) h r e z = number-not n h (sym (ap (λ (x : Edited). x .number) e) ∙ z)
+
 -- ---- fields of states
 
 values-number : (l : List (ℕ × ℕ × ℕ × ℕ)) (s : List ℕ) → Every (λ c. isNumber (c .1) ≡ true) (valueChecks l s)
@@ -96,8 +109,8 @@ set-not k s n i v new r w = go (setCall k s n i v) refl (w .answers)
         let u : _≡_ {A = ℕ} 0 1 = cc in
         omega arith
 
-pub card : Card
-card = record {
+pub refusals : Refusals
+refusals = record {
   device = device-below;
   function = function-below;
   never = never-fails;
@@ -110,11 +123,8 @@ card = record {
   cpus = λ file. fills-not (demand1 .cpus file);
   mmus = λ file. fills-not (demand1 .mmus file);
   canonical = λ file. fills-not (demand1 .canonical file);
-  add-device = λ file id version flags payload. fills-not (demand1 .add-device file id version flags payload);
-  add-disk = λ file id base overlay. fills-not (demand1 .add-disk file id base overlay);
-  remove-device = λ file id version flags. fills-not (demand1 .remove-device file id version flags);
-  remove-disk = λ file id. fills-not (demand1 .remove-disk file id);
-  replace-device = λ file id version flags payload. fills-not (demand1 .replace-device file id version flags payload);
+  opens = λ file. open-not (openCall file) (demand1-beside .opens file .faults);
+  edit = λ card file e old new r w. beside-not card (editCard (length old) card file e) (demand1-beside .edit file e .table (length old) card) r (w .answers);
   wrapper-check = λ wrapper. verdict-not (wrapped.wrapperOf wrapper) (demand1 .wrapper-check wrapper .faults);
   controllers = λ wrapper. fills-not (demand1 .controllers wrapper);
   wrapper-canonical = λ wrapper. fills-not (demand1 .wrapper-canonical wrapper);

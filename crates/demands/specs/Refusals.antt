@@ -11,8 +11,13 @@ use Rattle.answer.specs.declared.Answer.{Answer}
 use Rattle.answer.specs.Numbers.{isNumber}
 use Rattle.answer.specs.Outcome.{Outcome, Checks, checked, Pass}
 use Rattle.answer.specs.Calls.{asked, verdict, Writes}
+use Rattle.aerosnap.specs.Edits.{Edit}
+use Rattle.cards.specs.declared.Card.{Card}
+use Rattle.cards.specs.declared.Edited.{Edited}
+use Rattle.cards.specs.Cards.{openAnswer, WritesBeside}
+use Rattle.cards.specs.Calls.{openCall, editCall}
 use Rattle.entries.specs.Kinds.{deviceOf, functionOf}
-use Rattle.aerosnap.specs.Calls.{checkCall, sectionsCall, devicesCall, disksCall, cpusCall, mmusCall, canonicalCall, addDeviceCall, addDiskCall, removeDeviceCall, removeDiskCall, replaceDeviceCall}
+use Rattle.aerosnap.specs.Calls.{checkCall, sectionsCall, devicesCall, disksCall, cpusCall, mmusCall, canonicalCall}
 use Rattle.dskc.specs.Wrapper as wrapped
 use Rattle.kinds.specs.declared.Message.{Message}
 use Rattle.messages.specs.declared.Reading.{Reading}
@@ -43,7 +48,7 @@ addressCheck a = (leb (deviceOf a) 31 && leb (functionOf a) 7, withdrawn, 0) ∷
 abbrev pub WritesNever : (ℕ → Outcome (List ℕ)) → Type 0
 WritesNever o = (old new : List ℕ) (r : Answer) → Writes (o (length old)) old r new → r .number ≢ withdrawn
 
-pub record Card : Type 0 where
+pub record Refusals : Type 0 where
   -- five bits don't exceed 31, nor three bits 7
   pub device : (a : ℕ) → deviceOf a < 32
   pub function : (a : ℕ) → functionOf a < 8
@@ -59,11 +64,9 @@ pub record Card : Type 0 where
   pub cpus : (file : List ℕ) → WritesNever (λ have. cpusCall have file)
   pub mmus : (file : List ℕ) → WritesNever (λ have. mmusCall have file)
   pub canonical : (file : List ℕ) → WritesNever (λ have. canonicalCall have file)
-  pub add-device : (file : List ℕ) (id version flags : ℕ) (payload : List ℕ) → WritesNever (λ have. addDeviceCall have file id version flags payload)
-  pub add-disk : (file : List ℕ) (id : ℕ) (base overlay : List ℕ) → WritesNever (λ have. addDiskCall have file id base overlay)
-  pub remove-device : (file : List ℕ) (id version flags : ℕ) → WritesNever (λ have. removeDeviceCall have file id version flags)
-  pub remove-disk : (file : List ℕ) (id : ℕ) → WritesNever (λ have. removeDiskCall have file id)
-  pub replace-device : (file : List ℕ) (id version flags : ℕ) (payload : List ℕ) → WritesNever (λ have. replaceDeviceCall have file id version flags payload)
+  pub opens : (file : List ℕ) (r : Edited) → r ≡ openAnswer (openCall file) → r .number ≢ withdrawn
+  -- every edit
+  pub edit : (card : Card) (file : List ℕ) (e : Edit) (old new : List ℕ) (r : Edited) → WritesBeside card (editCall (length old) card file e) old r new → r .number ≢ withdrawn
   pub wrapper-check : (wrapper : List ℕ) (r : Answer) → r ≡ verdict (wrapped.wrapperOf wrapper) → r .number ≢ withdrawn
   pub controllers : (wrapper : List ℕ) → WritesNever (λ have. wrapped.controllersCall have wrapper)
   pub wrapper-canonical : (wrapper : List ℕ) → WritesNever (λ have. wrapped.canonicalCall have wrapper)

@@ -1,0 +1,4 @@
+pub mod Cards
+pub mod Whole
+pub mod Shifts
+pub mod Calls
