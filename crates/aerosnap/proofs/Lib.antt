@@ -32,4 +32,8 @@ pub mod Mapped
 pub mod Lookups
 pub mod Pairs
 pub mod Examples
+pub mod Parts
+pub mod Rescued
+pub mod Judged
 pub mod Cases
+pub mod Losses

@@ -8,10 +8,11 @@ use native.Mathlib.Omega.{arith}
 use lib.ListN.{length, take, drop}
 use lib.Seq.{take-append-seam}
 use lib.Dec.{leb, eqb}
-use Rattle.answer.specs.Numbers.{SIZE, MANY, SHAPE, LIMIT, KEY, TEXT, VALUE, ROOM, HAVE, ABSENT, isFault}
+use Rattle.answer.specs.Numbers.{SIZE, CUT, MANY, SHAPE, LIMIT, KEY, TEXT, VALUE, ROOM, HAVE, ABSENT, isFault}
 use Rattle.answer.specs.Outcome.{Outcome, taken, refused, Faulty, Checks, checked, after, moved, shift, room, fitting}
 use Rattle.answer.specs.Calls.{asked, verdict, answer, memory, Writes}
 use Rattle.answer.specs.declared.Answer.{Answer}
+use Rattle.answer.proofs.Checks.{and-true}
 use Rattle.answer.proofs.Table.{fault-some}
 use Rattle.wire.specs.Numbers.{leAt}
 use Rattle.utf8.specs.Scan.{isText, breakAt}
@@ -45,71 +46,101 @@ pub moved-faulty : {A : Type 0} (k : ℕ) (r : Outcome A) → Faulty r → Fault
 moved-faulty k (taken a) h = tt
 moved-faulty k (refused n p) h = h
 
-shift-faulty : (k : ℕ) (r : Outcome ℕ) → Faulty r → Faulty (shift k r)
-shift-faulty k (taken a) h = tt
-shift-faulty k (refused n p) h = h
+-- a fault of a section that is there whole: any but CUT
+abbrev pub isInner : ℕ → Bool
+isInner n = isFault n && not (eqb n CUT)
 
-one-faulty : (b : Bool) (n p : ℕ) → isFault n ≡ true → Faulty (asked ((b, n, p) ∷ []))
-one-faulty b n p h = checked-faulty ((b, n, p) ∷ []) (taken tt) (h, tt) tt
+abbrev Inner : ℕ → Type 0
+Inner n = isInner n ≡ true
+
+abbrev pub FaultyInside : {A : Type 0} → Outcome A → Type 0
+FaultyInside o = Refuses Inner o
+
+abbrev pub NumberedInside : Checks → Type 0
+NumberedInside = Every (λ c. Inner (c .1))
+
+inside-faulty : {A : Type 0} (o : Outcome A) → FaultyInside o → Faulty o
+inside-faulty (taken a) h = tt
+inside-faulty (refused n p) h = and-true (isFault n) (not (eqb n CUT)) h .0
+
+pub checked-inside : {A : Type 0} (l : Checks) (a : Outcome A) → NumberedInside l → FaultyInside a → FaultyInside (checked l a)
+checked-inside l a h k = checked-refuses Inner l a h k
+
+after-inside : {A B : Type 0} (r : Outcome A) (f : A → Outcome B) → FaultyInside r → ((a : A) → FaultyInside (f a)) → FaultyInside (after r f)
+after-inside r f h k = after-refuses Inner r f h k
+
+moved-inside : {A : Type 0} (k : ℕ) (r : Outcome A) → FaultyInside r → FaultyInside (moved k r)
+moved-inside k (taken a) h = tt
+moved-inside k (refused n p) h = h
+
+shift-inside : (k : ℕ) (r : Outcome ℕ) → FaultyInside r → FaultyInside (shift k r)
+shift-inside k (taken a) h = tt
+shift-inside k (refused n p) h = h
+
+one-inside : (b : Bool) (n p : ℕ) → Inner n → FaultyInside (asked ((b, n, p) ∷ []))
+one-inside b n p h = checked-inside ((b, n, p) ∷ []) (taken tt) (h, tt) tt
 
 -- ---- formats
 
 abbrev pub FormFaults : Format → Type 0
-FormFaults (block n ask) = (e : List ℕ) → Faulty (ask e)
-FormFaults (sized w checks ask) = ((n : ℕ) → Numbered (checks n)) × ((e : List ℕ) → Faulty (ask e))
+FormFaults (block n ask) = (e : List ℕ) → FaultyInside (ask e)
+FormFaults (sized w checks ask) = ((n : ℕ) → NumberedInside (checks n)) × ((e : List ℕ) → FaultyInside (ask e))
 FormFaults (option f) = FormFaults f
 FormFaults (pair f g) = FormFaults f × FormFaults g
-FormFaults (also f ask) = FormFaults f × ((e : List ℕ) → Faulty (ask e))
+FormFaults (also f ask) = FormFaults f × ((e : List ℕ) → FaultyInside (ask e))
 
-read-faulty : (f : Format) (b : List ℕ) → FormFaults f → Faulty (read f b)
+read-inside : (f : Format) (b : List ℕ) → FormFaults f → FaultyInside (read f b)
 unfolding read
-read-faulty (block n ask) b h = checked-faulty ((leb n (length b), SHAPE, 0) ∷ []) (after (ask (take n b)) (λ _. taken n)) (refl, tt) (after-faulty (ask (take n b)) (λ _. taken n) (h (take n b)) (λ _. tt))
-read-faulty (sized w checks ask) b h =
+read-inside (block n ask) b h = checked-inside ((leb n (length b), SHAPE, 0) ∷ []) (after (ask (take n b)) (λ _. taken n)) (refl, tt) (after-inside (ask (take n b)) (λ _. taken n) (h (take n b)) (λ _. tt))
+read-inside (sized w checks ask) b h =
     let y : List ℕ = take (leAt w b 0) (drop w b) in
-    checked-faulty (sizedChecks w checks b) (after (moved w (ask y)) (λ _. taken (w + leAt w b 0))) (refl, every-append _ (checks (leAt w b 0)) _ (h .0 (leAt w b 0)) (refl, tt))
-    (after-faulty (moved w (ask y)) (λ _. taken (w + leAt w b 0)) (moved-faulty w (ask y) (h .1 y)) (λ _. tt))
-read-faulty (option f) b h =
-    checked-faulty (optionChecks b) (elim (eqb (leAt 1 b 0) 0) [ true ↦ taken 1 | false ↦ shift 1 (read f (drop 1 b)) ]) (refl, (refl, tt)) (go (eqb (leAt 1 b 0) 0) (read-faulty f (drop 1 b) h))
+    checked-inside (sizedChecks w checks b) (after (moved w (ask y)) (λ _. taken (w + leAt w b 0))) (refl, every-append _ (checks (leAt w b 0)) _ (h .0 (leAt w b 0)) (refl, tt))
+    (after-inside (moved w (ask y)) (λ _. taken (w + leAt w b 0)) (moved-inside w (ask y) (h .1 y)) (λ _. tt))
+read-inside (option f) b h =
+    checked-inside (optionChecks b) (elim (eqb (leAt 1 b 0) 0) [ true ↦ taken 1 | false ↦ shift 1 (read f (drop 1 b)) ]) (refl, (refl, tt)) (go (eqb (leAt 1 b 0) 0) (read-inside f (drop 1 b) h))
   where
-    go : (c : Bool) → Faulty (read f (drop 1 b)) → Faulty {A = ℕ} (elim c as (λ _. Outcome ℕ) [ true ↦ taken 1 | false ↦ shift 1 (read f (drop 1 b)) ])
+    go : (c : Bool) → FaultyInside (read f (drop 1 b)) → FaultyInside {A = ℕ} (elim c as (λ _. Outcome ℕ) [ true ↦ taken 1 | false ↦ shift 1 (read f (drop 1 b)) ])
     go true k = tt
-    go false k = shift-faulty 1 (read f (drop 1 b)) k
-read-faulty (pair f g) b h = after-faulty (read f b) (λ k. shift k (read g (drop k b))) (read-faulty f b (h .0)) (λ k. shift-faulty k (read g (drop k b)) (read-faulty g (drop k b) (h .1)))
-read-faulty (also f ask) b h =
-    after-faulty (read f b) (λ k. after (ask (take k b)) (λ _. taken k)) (read-faulty f b (h .0)) (λ k. after-faulty (ask (take k b)) (λ _. taken k) (h .1 (take k b)) (λ _. tt))
+    go false k = shift-inside 1 (read f (drop 1 b)) k
+read-inside (pair f g) b h = after-inside (read f b) (λ k. shift k (read g (drop k b))) (read-inside f b (h .0)) (λ k. shift-inside k (read g (drop k b)) (read-inside g (drop k b) (h .1)))
+read-inside (also f ask) b h =
+    after-inside (read f b) (λ k. after (ask (take k b)) (λ _. taken k)) (read-inside f b (h .0)) (λ k. after-inside (ask (take k b)) (λ _. taken k) (h .1 (take k b)) (λ _. tt))
 
-values-faulty : (l : List (ℕ × ℕ × ℕ × ℕ)) (e : List ℕ) → Faulty (values l e)
+values-inside : (l : List (ℕ × ℕ × ℕ × ℕ)) (e : List ℕ) → FaultyInside (values l e)
 unfolding values
-values-faulty [] e = tt
-values-faulty (r ∷ l) e = checked-faulty ((leb (r .2) (leAt (r .1) e (r .0)) && leb (leAt (r .1) e (r .0)) (r .3), VALUE, r .0) ∷ []) (values l e) (refl, tt) (values-faulty l e)
+values-inside [] e = tt
+values-inside (r ∷ l) e = checked-inside ((leb (r .2) (leAt (r .1) e (r .0)) && leb (leAt (r .1) e (r .0)) (r .3), VALUE, r .0) ∷ []) (values l e) (refl, tt) (values-inside l e)
 
 text-faults : (most : ℕ) → FormFaults (text most)
-text-faults most = ((λ n. (refl, tt)), λ e. one-faulty (isText e) TEXT (breakAt e) refl)
+text-faults most = ((λ n. (refl, tt)), λ e. one-inside (isText e) TEXT (breakAt e) refl)
 
 -- ---- lists
 
 -- what is asked of the entries of a kind
 pub record EntryFaults (d : Description) : Type 0 where
-  pub early : (b : List ℕ) → Numbered (d .early b)
+  pub early : (b : List ℕ) → NumberedInside (d .early b)
   pub form : FormFaults (d .form)
 
 module _ {d : Description} (K : EntryFaults d) (s : List ℕ) where
-  entry-faulty : (at : ℕ) (seen : List ℕ) → Faulty (entryAt d s at seen)
+  entry-inside : (at : ℕ) (seen : List ℕ) → FaultyInside (entryAt d s at seen)
   unfolding entryAt
-  entry-faulty at seen =
+  entry-inside at seen =
       let b : List ℕ = drop at s in
       let again : Bool = has (keyAt d s) (keyAt d s at) seen in
-      shift-faulty at (checked (entryChecks d again b) (read (d .form) b))
-      (checked-faulty (entryChecks d again b) (read (d .form) b) (every-append _ (leadChecks d b) ((not again, KEY, 0) ∷ []) (refl, K .early b) (refl, tt)) (read-faulty (d .form) b (K .form)))
+      shift-inside at (checked (entryChecks d again b) (read (d .form) b))
+      (checked-inside (entryChecks d again b) (read (d .form) b) (every-append _ (leadChecks d b) ((not again, KEY, 0) ∷ []) (refl, K .early b) (refl, tt)) (read-inside (d .form) b (K .form)))
 
-  walk-faulty : (n at : ℕ) (seen : List ℕ) → Faulty (walk d s n at seen)
+  walk-inside : (n at : ℕ) (seen : List ℕ) → FaultyInside (walk d s n at seen)
   unfolding walk
-  walk-faulty zero at seen = checked-faulty (endChecks d s at) (taken seen) (refl, tt) tt
-  walk-faulty (suc n) at seen = after-faulty (entryAt d s at seen) (λ e. walk d s n e (insert (keyAt d s) at seen)) (entry-faulty at seen) (λ e. walk-faulty n e (insert (keyAt d s) at seen))
+  walk-inside zero at seen = checked-inside (endChecks d s at) (taken seen) (refl, tt) tt
+  walk-inside (suc n) at seen = after-inside (entryAt d s at seen) (λ e. walk d s n e (insert (keyAt d s) at seen)) (entry-inside at seen) (λ e. walk-inside n e (insert (keyAt d s) at seen))
+
+  list-inside : FaultyInside (listAt d s)
+  unfolding listAt
+  list-inside = checked-inside (countChecks d s) (walk d s (leAt 4 s 0) 4 []) (refl, (refl, tt)) (walk-inside (leAt 4 s 0) 4 [])
 
   pub list-faulty : Faulty (listAt d s)
-  unfolding listAt
-  list-faulty = checked-faulty (countChecks d s) (walk d s (leAt 4 s 0) 4 []) (refl, (refl, tt)) (walk-faulty (leAt 4 s 0) 4 [])
+  list-faulty = inside-faulty (listAt d s) list-inside
 
 -- ---- payloads
 
@@ -123,13 +154,13 @@ BodyFaults opaque = Unit {0}
 body-faults : (id v : ℕ) → BodyFaults (bodyOf id v)
 body-faults id v = by (eqb id META) (eqb id CPU) (eqb id MMU) (eqb id DEVICES) (eqb id DISKS) (eqb id CPUS) (eqb id MMUS)
   where
-    blob-faults : ((n : ℕ) → Numbered ((leb n 67108864, LIMIT, 0) ∷ [])) × ((e : List ℕ) → Faulty {A = Unit {0}} (taken tt))
+    blob-faults : ((n : ℕ) → NumberedInside ((leb n 67108864, LIMIT, 0) ∷ [])) × ((e : List ℕ) → FaultyInside {A = Unit {0}} (taken tt))
     blob-faults = ((λ n. (refl, tt)), λ e. tt)
 
-    held-faulty : (e : List ℕ) → Faulty (heldChecks v e)
-    held-faulty e =
+    held-inside : (e : List ℕ) → FaultyInside (heldChecks v e)
+    held-inside e =
         let y : List ℕ = drop 4 e in
-        checked-faulty ((extends y, SHAPE, 0) ∷ []) (moved 4 (cpuState v y)) (refl, tt) (moved-faulty 4 (cpuState v y) (values-faulty (cpuValues v (length y)) y))
+        checked-inside ((extends y, SHAPE, 0) ∷ []) (moved 4 (cpuState v y)) (refl, tt) (moved-inside 4 (cpuState v y) (values-inside (cpuValues v (length y)) y))
 
     by : (a b c d e f g : Bool) → BodyFaults (bodyBy a b c d e f g v)
     by true b c d e f g = tt
@@ -137,27 +168,27 @@ body-faults id v = by (eqb id META) (eqb id CPU) (eqb id MMU) (eqb id DEVICES) (
     by false false true d e f g = tt
     by false false false true e f g = record { early = λ b. tt; form = ((λ e. tt), blob-faults) }
     by false false false false true f g = record { early = λ b. tt; form = ((λ e. tt), (text-faults 65536, text-faults 65536)) }
-    by false false false false false true g = record { early = λ b. tt; form = ((λ e. tt), ((((λ n. (refl, tt)), λ e. tt), held-faulty), blob-faults)) }
+    by false false false false false true g = record { early = λ b. tt; form = ((λ e. tt), ((((λ n. (refl, tt)), λ e. tt), held-inside), blob-faults)) }
     by false false false false false false true = record { early = λ b. tt; form = λ e. tt }
     by false false false false false false false = tt
 
-payload-faulty : (k : Body) → BodyFaults k → (p : List ℕ) → Faulty (payload k p)
+payload-inside : (k : Body) → BodyFaults k → (p : List ℕ) → FaultyInside (payload k p)
 unfolding payload
-payload-faulty meta K p =
-    after-faulty (read metaForm p) (λ _. taken tt) (read-faulty metaForm p ((λ e. tt), ((λ e. tt), ((λ e. tt), text-faults 4096)))) (λ e. tt)
-payload-faulty (cpu v) K p = checked-faulty ((cpuSized v p, SHAPE, 0) ∷ []) (cpuState v p) (refl, tt) (values-faulty (cpuValues v (length p)) p)
-payload-faulty (mmu v) K p = one-faulty (eqb (length p) (mmuLength v)) SHAPE 0 refl
-payload-faulty (list d) K p = after-faulty (listAt d p) (λ _. taken tt) (list-faulty K p) (λ _. tt)
-payload-faulty opaque K p = tt
+payload-inside meta K p =
+    after-inside (read metaForm p) (λ _. taken tt) (read-inside metaForm p ((λ e. tt), ((λ e. tt), ((λ e. tt), text-faults 4096)))) (λ e. tt)
+payload-inside (cpu v) K p = checked-inside ((cpuSized v p, SHAPE, 0) ∷ []) (cpuState v p) (refl, tt) (values-inside (cpuValues v (length p)) p)
+payload-inside (mmu v) K p = one-inside (eqb (length p) (mmuLength v)) SHAPE 0 refl
+payload-inside (list d) K p = after-inside (listAt d p) (λ _. taken tt) (list-inside K p) (λ _. tt)
+payload-inside opaque K p = tt
 
 -- ---- the file
 
-ruled-faulty : (before : List (List ℕ)) (at id v f : ℕ) (p : List ℕ) → Faulty (ruled before at id v f p)
+pub ruled-inside : (before : List (List ℕ)) (at id v f : ℕ) (p : List ℕ) → FaultyInside (ruled before at id v f p)
 unfolding ruled
-ruled-faulty before at id v f p = go (known id)
+ruled-inside before at id v f p = go (known id)
   where
-    go : (k : Bool) → Faulty {A = Unit {0}} (elim k as (λ _. Outcome (Unit {0})) [ true ↦ checked (knownChecks before at id v f p) (moved (at + 16) (payload (bodyOf id v) p)) | false ↦ taken tt ])
-    go true = checked-faulty (knownChecks before at id v f p) (moved (at + 16) (payload (bodyOf id v) p)) (refl, (refl, (refl, (refl, tt)))) (moved-faulty (at + 16) (payload (bodyOf id v) p) (payload-faulty (bodyOf id v) (body-faults id v) p))
+    go : (k : Bool) → FaultyInside {A = Unit {0}} (elim k as (λ _. Outcome (Unit {0})) [ true ↦ checked (knownChecks before at id v f p) (moved (at + 16) (payload (bodyOf id v) p)) | false ↦ taken tt ])
+    go true = checked-inside (knownChecks before at id v f p) (moved (at + 16) (payload (bodyOf id v) p)) (refl, (refl, (refl, (refl, tt)))) (moved-inside (at + 16) (payload (bodyOf id v) p) (payload-inside (bodyOf id v) (body-faults id v) p))
     go false = tt
 
 section-faulty : (before : List (List ℕ)) (at : ℕ) (b : List ℕ) → Faulty (sectionOf before at b)
@@ -165,7 +196,7 @@ unfolding sectionOf
 section-faulty before at b =
     let r : Outcome (Unit {0}) = ruled before at (idOf b) (versionOf b) (flagsOf b) (payloadOf b) in
     checked-faulty (frameChecks before at b) (after r (λ _. taken (16 + lengthOf b))) (refl, (refl, (refl, tt)))
-    (after-faulty r (λ _. taken (16 + lengthOf b)) (ruled-faulty before at (idOf b) (versionOf b) (flagsOf b) (payloadOf b)) (λ _. tt))
+    (after-faulty r (λ _. taken (16 + lengthOf b)) (inside-faulty r (ruled-inside before at (idOf b) (versionOf b) (flagsOf b) (payloadOf b))) (λ _. tt))
 
 sections-faulty : (n : ℕ) (before : List (List ℕ)) (at : ℕ) (b : List ℕ) → Faulty (sections n before at b)
 unfolding sections

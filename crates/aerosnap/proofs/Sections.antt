@@ -36,7 +36,7 @@ module _ (e more : List ℕ) (h : length e ≡ 16 + lengthOf e) where
       let l : length (drop 16 e) ≡ lengthOf e = length-drop 16 e ∙ (omega arith) in
       rw (length-front, drop-append-le 16 e more (omega arith), take-append-le (lengthOf e) (drop 16 e) more (omega arith)) (take-all (lengthOf e) (drop 16 e) (omega arith))
 
-  ruled-front : (before : List (List ℕ)) (at : ℕ) → ruled before at (idOf (e ++ more)) (versionOf (e ++ more)) (flagsOf (e ++ more)) (payloadOf (e ++ more)) ≡ ruled before at (idOf e) (versionOf e) (flagsOf e) (drop 16 e)
+  pub ruled-front : (before : List (List ℕ)) (at : ℕ) → ruled before at (idOf (e ++ more)) (versionOf (e ++ more)) (flagsOf (e ++ more)) (payloadOf (e ++ more)) ≡ ruled before at (idOf e) (versionOf e) (flagsOf e) (drop 16 e)
   ruled-front before at = cc (id-front, leAt-append 2 e more 4 (omega arith), leAt-append 2 e more 6 (omega arith), payload-front)
 
 -- ---- one section, given those before it

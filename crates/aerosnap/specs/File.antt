@@ -1,7 +1,7 @@
 -- The file: the header, and sections up to the end of the file.
 -- Assumes nothing.
 use mathlib.Core.List.{List, [], _∷_, _++_}
-use mathlib.Core.Bool.{true, false, not, _||_}
+use mathlib.Core.Bool.{Bool, true, false, not, _&&_, _||_}
 use Prim.Native.Nat.{ℕ, zero, suc, _+_, _-_}
 use lib.ListN.{length, take, drop}
 use lib.Dec.{leb, ltb, eqb}
@@ -59,6 +59,10 @@ payloadOf e = take (lengthOf e) (drop 16 e)
 
 abbrev pub slotOf : List ℕ → ℕ
 slotOf e = slot (idOf e)
+
+-- the section that begins b is there whole
+abbrev pub fitsIn : List ℕ → Bool
+fitsIn b = leb 16 (length b) && leb (lengthOf b) (length b - 16)
 
 -- what is asked of the section that begins b and starts at a place, after the sections before it: its header fits, it is not the 65th, its payload fits
 abbrev pub frameChecks : List (List ℕ) → ℕ → List ℕ → Checks

@@ -8,4 +8,5 @@ pub mod Adding
 pub mod Edits
 pub mod Many
 pub mod Maps
+pub mod Salvage
 pub mod Calls

@@ -11,4 +11,6 @@ pub mod Summing
 pub mod Carding
 pub mod Writing
 pub mod Uniform
+pub mod Filing
+pub mod Saving
 pub mod Once

@@ -6,7 +6,10 @@ use Prim.Native.Nat.{ℕ}
 use lib.ListN.{length}
 use Rattle.answer.specs.declared.Answer.{Answer}
 use Rattle.answer.specs.Calls.{Writes}
-use Rattle.answer.proofs.Once.{writes-once}
+use Rattle.answer.proofs.Once.{equal-once, writes-once}
+use Rattle.aerosnap.specs.Salvage.{salvage}
+use Rattle.canon.specs.declared.Salvaged.{Salvaged}
+use Rattle.canon.specs.Salvaging.{Salvages}
 use Rattle.cards.specs.declared.Card.{Card}
 use Rattle.cards.specs.declared.Edited.{Edited}
 use Rattle.cards.specs.Cards.{openFile, openAnswer, editCard, WritesBeside}
@@ -25,3 +28,7 @@ open-once file a b = a ∙ sym b
 pub edited-once : (e : Edit) (k : Card) (x y file old : List ℕ) {new now : List ℕ} {r p : Edited}
     → WritesBeside k (0, editCard (length old) k file (editOf e x y)) old r new → WritesBeside k (0, editCard (length old) k file (editOf e x y)) old p now → (r ≡ p) × (new ≡ now)
 edited-once e k x y file old a b = beside-once a b
+
+pub salvage-once : (file out losses : List ℕ) {r p : Salvaged} {new now recs lines : List ℕ}
+    → Salvages (salvage (length out) (length losses) file) out losses r new recs → Salvages (salvage (length out) (length losses) file) out losses p now lines → (r ≡ p) × (new ≡ now) × (recs ≡ lines)
+salvage-once file out losses a b = (equal-once (a .answers) (b .answers), equal-once (a .file) (b .file), equal-once (a .records) (b .records))

@@ -2,6 +2,7 @@
 // Each function hands its parameters to the call of the same meaning and returns what that answers; a slice comes as a pointer and a length.
 use access::Access;
 use answer::Answer;
+use canon::Salvaged;
 use cards::Card;
 use cards::Edited;
 use numbers::Numbers;
@@ -15,6 +16,8 @@ ghost use mathlib.Core.Path.{_≡_};
 ghost use lib.ListN.{length};
 ghost use Rattle.answer.specs.Calls.{asked, verdict, Writes};
 ghost use Rattle.aerosnap.specs.Calls.{checkCall, sectionsCall, devicesCall, disksCall, cpusCall, mmusCall, canonicalCall};
+ghost use Rattle.aerosnap.specs.Salvage.{salvage};
+ghost use Rattle.canon.specs.Salvaging.{Salvages};
 ghost use Rattle.cards.specs.Cards.{openAnswer, WritesBeside};
 ghost use Rattle.cards.specs.Calls.{openCall, addDeviceCall, addDiskCall, removeDeviceCall, removeDiskCall, replaceDeviceCall};
 ghost use Rattle.snapshot.specs.MetaSection.{metaCall, asMeta};
@@ -85,6 +88,13 @@ pub extern "C" fn cimbrolau_canonical(file: &[u8], out: &mut [u8]) -> Answer
     ensures { λ r. ⌜ Writes (canonicalCall (length (now (out .entry))) (now (file .entry))) (now (out .entry)) r (now (out .exit)) ⌝ }
 {
     snapshot::canonical(file, out)
+}
+
+#[no_mangle]
+pub extern "C" fn cimbrolau_salvage(file: &[u8], out: &mut [u8], losses: &mut [u8]) -> Salvaged
+    ensures { λ r. ⌜ Salvages (salvage (length (now (out .entry))) (length (now (losses .entry))) (now (file .entry))) (now (out .entry)) (now (losses .entry)) r (now (out .exit)) (now (losses .exit)) ⌝ }
+{
+    snapshot::salvage(file, out, losses)
 }
 
 #[no_mangle]

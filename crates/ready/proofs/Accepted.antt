@@ -11,14 +11,14 @@ use Rattle.answer.specs.Calls.{verdict}
 use Rattle.answer.proofs.Table.{fault-some}
 use Rattle.entries.specs.Kinds.{controllers}
 use Rattle.lists.specs.Lists.{listAt}
-use Rattle.aerosnap.proofs.Named.{checked-faulty, moved-faulty, EntryFaults, list-faulty}
+use Rattle.aerosnap.proofs.Named.{checked-faulty, checked-inside, moved-faulty, EntryFaults, list-faulty}
 use Rattle.dskc.specs.Wrapper.{headerChecks, wrapperOf}
 use Rattle.ready.specs.Missing.{isTaken}
 
 controller-faults : EntryFaults controllers
 controller-faults = record {
   early = λ b. (refl, tt);
-  form = ((λ e. checked-faulty (controllers .early e) (taken tt) (refl, tt) tt), ((λ n. tt), λ e. tt));
+  form = ((λ e. checked-inside (controllers .early e) (taken tt) (refl, tt) tt), ((λ n. tt), λ e. tt));
 }
 
 -- every fault of a wrapper has a number of document 01's table other than ROOM and HAVE, as those of a file have

@@ -12,8 +12,8 @@ use borrow.Author.Tests.{leb-true, le-leb, lt-leb}
 use Rattle.answer.proofs.Checks.{and-true}
 use Rattle.wire.specs.Numbers.{leAt}
 use Rattle.wire.proofs.Numbers.{leAt-drop, leAt-here}
-use Rattle.aerosnap.specs.File.{lengthOf}
-use Rattle.sections.specs.Index.{isListId, countIn, fitsIn, counts}
+use Rattle.aerosnap.specs.File.{lengthOf, fitsIn}
+use Rattle.sections.specs.Index.{isListId, countIn, counts}
 
 -- ---- a section at a place: its count, and whether it is there whole
 

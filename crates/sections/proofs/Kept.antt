@@ -224,18 +224,31 @@ module _ (i : ℕ) (d : ℕ → Description) (q : (v : ℕ) → bodyOf i v ≡ l
           omega (arith, one-most e (a .0) j, ap (weigh many) z)
       go false t r = r
 
-pub starts-bound : (s : List ℕ) {l : List (List ℕ)} → fileOf s ≡ taken l → length (flat startsOf l) ≤ 4864
-starts-bound s {l} h =
-    let v = file-sound s h .1 in
+pub starts-most : (l : List (List ℕ)) → Every IsSection l → Once l → length (flat startsOf l) ≤ 4864
+starts-most l are once =
     omega (
       arith,
       length-flat startsOf l,
       four-lists l,
-      list-most 4 (λ _. devices) (λ v. refl) 4096 (λ v. omega arith) refl l (v .are) (v .once),
-      list-most 5 (λ _. disks) (λ v. refl) 256 (λ v. omega arith) refl l (v .are) (v .once),
-      list-most 7 cpus (λ v. refl) 256 (λ v. omega arith) refl l (v .are) (v .once),
-      list-most 8 mmus (λ v. refl) 256 (λ v. omega arith) refl l (v .are) (v .once),
+      list-most 4 (λ _. devices) (λ v. refl) 4096 (λ v. omega arith) refl l are once,
+      list-most 5 (λ _. disks) (λ v. refl) 256 (λ v. omega arith) refl l are once,
+      list-most 7 cpus (λ v. refl) 256 (λ v. omega arith) refl l are once,
+      list-most 8 mmus (λ v. refl) 256 (λ v. omega arith) refl l are once,
     )
+
+pub starts-bound : (s : List ℕ) {l : List (List ℕ)} → fileOf s ≡ taken l → length (flat startsOf l) ≤ 4864
+starts-bound s {l} h = let v = file-sound s h .1 in starts-most l (v .are) (v .once)
+
+-- no more are kept than there are
+pub kept-less : (have : ℕ) (l : List (List ℕ)) → length (kept have l) ≤ length (flat startsOf l)
+kept-less have [] = omega arith
+kept-less have (e ∷ l) =
+    let w : List ℕ = whole have (startsOf e) in
+    omega (arith, length-append w (kept (have - length w) l), length-append (startsOf e) (flat startsOf l), kept-less (have - length w) l, less (leb (length (startsOf e)) have))
+  where
+    less : (b : Bool) → length (cond b (startsOf e) []) ≤ length (startsOf e)
+    less true = omega arith
+    less false = omega arith
 
 -- ---- how many stand before those of a section
 

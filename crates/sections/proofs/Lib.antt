@@ -6,3 +6,6 @@ pub mod Found
 pub mod Headers
 pub mod Reading
 pub mod Once
+pub mod Seats
+pub mod Dividing
+pub mod Directories

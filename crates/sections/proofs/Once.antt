@@ -10,8 +10,11 @@ use lib.ListN.{drop}
 use Rattle.answer.specs.declared.Piece.{Piece}
 use Rattle.answer.specs.Outcome.{Outcome}
 use Rattle.answer.proofs.Outcomes.{taken-is}
-use Rattle.aerosnap.specs.File.{devicesMost}
+use Rattle.aerosnap.specs.File.{devicesMost, fitsIn}
 use Rattle.answer.proofs.Once.{equal-once, piece-once}
+use Rattle.sections.specs.declared.Division.{Division}
+use Rattle.sections.specs.Directory.{Divides}
+use Rattle.sections.proofs.Directories.{divides-once}
 use Rattle.sections.specs.declared.Spot.{Spot}
 use Rattle.sections.specs.declared.Spot.the-variants.{Fault, At}
 use Rattle.sections.specs.Index.{isListId, counts, Scanned, spotOf, Spotted}
@@ -40,3 +43,9 @@ check-and-find-once i r p a b = (spot-once r p (equal-once (a .answers) (b .answ
 
 pub count-entries-once : (s : List ℕ) {r p : ℕ} → r ≡ counts 64 (drop 16 s) → p ≡ counts 64 (drop 16 s) → r ≡ p
 count-entries-once s e f = equal-once e f
+
+pub fits-once : (s : List ℕ) (at : ℕ) {r p : Bool} → r ≡ fitsIn (drop at s) → p ≡ fitsIn (drop at s) → r ≡ p
+fits-once s at e f = equal-once e f
+
+pub divide-once : (s old rows : List ℕ) (r p : Division) {new now recs lines : List ℕ} → Divides s old rows r new recs → Divides s old rows p now lines → (r ≡ p) × (new ≡ now) × (recs ≡ lines)
+divide-once s old rows r p a b = divides-once s old rows r p a b

@@ -88,6 +88,9 @@ module _ (id v : ℕ) (p old : List ℕ) where
         let stop = made-stop (keptOf (length old) id v p) length (sym (ap pieceOf h) ∙ w .answers) in
         sym (made-stop read (λ _. its-starts) (sym (checked-after (partChecks p) (payload (bodyOf id v) p) (λ _. taken its-starts) ∙ stop)))
 
+    pub read-stays : {n q : ℕ} → r ≡ Stop n q → new ≡ old
+    read-stays h = w .leaves ∙ ap (λ (o : Outcome (List ℕ)). lentAfter o old) (made-stop (keptOf (length old) id v p) length (sym (ap pieceOf h) ∙ w .answers))
+
     pub read-took : {n : ℕ} → r ≡ Ends n → Took n new
     read-took {n} h =
         let a = made-taken (keptOf (length old) id v p) length (sym (ap pieceOf h) ∙ w .answers) in
@@ -107,11 +110,11 @@ fault-place id v p h e = rw (← (e ∙ pass-checked (partChecks p) (payload (bo
 -- ---- what is kept of a section
 
 module _ {A : Type 0} {o : Outcome A} {k old new : List ℕ} where
-  pub keeps-stop : {n p : ℕ} → refused n p ≡ o → Keeps o k old (Stop n p) new
-  keeps-stop h = record { answers = ap (λ (r : Outcome A). after r (λ _. taken (length k))) h; leaves = λ a q. absurd (taken-refused (sym q ∙ sym h)) }
+  pub keeps-stop : {n p : ℕ} → refused n p ≡ o → new ≡ old → Keeps o k old (Stop n p) new
+  keeps-stop h w = record { answers = ap (λ (r : Outcome A). after r (λ _. taken (length k))) h; leaves = λ a q. absurd (taken-refused (sym q ∙ sym h)); stays = λ _ _ _. w }
 
   pub keeps-done : {a : A} {n : ℕ} → taken a ≡ o → n ≡ length k → new ≡ k ++ drop (length k) old → Keeps o k old (Ends n) new
-  keeps-done h n w = record { answers = ap taken n ∙ ap (λ (r : Outcome A). after r (λ _. taken (length k))) h; leaves = λ _ _. w }
+  keeps-done h n w = record { answers = ap taken n ∙ ap (λ (r : Outcome A). after r (λ _. taken (length k))) h; leaves = λ _ _. w; stays = λ n p q. absurd (taken-refused (h ∙ q)) }
 
 -- ---- marks
 
@@ -165,6 +168,7 @@ module _ (l : List (List ℕ)) (s : List ℕ) (at : ℕ) where
     over-rest {k} h = record {
       answers = h .answers ∙ sym (ap (λ (o : Outcome ℕ). after o (λ _. taken (length k))) (sym (w .same)) ∙ after-after rules (λ _. taken (16 + leAt 8 s (at + 8))) (λ _. taken (length k)));
       leaves = λ a q. h .leaves _ (after-taken rules (λ _. taken (16 + leAt 8 s (at + 8))) (w .same ∙ q) .1);
+      stays = λ n p q. h .stays n p (made-stop rules (λ _. 16 + leAt 8 s (at + 8)) (sym (w .same ∙ q)));
     }
 
     pub section-rules : Judges have old r new m → Keeps (sectionOf l at (drop at s)) (whole have (startsOf (drop at s))) old r new

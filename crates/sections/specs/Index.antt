@@ -2,9 +2,9 @@
 -- Assumes nothing.
 use mathlib.Core.Path.{_≡_}
 use mathlib.Core.List.{List, [], _∷_, _++_}
-use mathlib.Core.Bool.{Bool, cond, _&&_, _||_}
+use mathlib.Core.Bool.{Bool, cond, _||_}
 use Prim.Native.Nat.{ℕ, zero, suc, _+_, _-_, _≤_}
-use lib.Dec.{leb, eqb}
+use lib.Dec.{eqb}
 use lib.ListN.{length, drop}
 use Rattle.answer.specs.declared.Piece.{Piece}
 use Rattle.answer.specs.Outcome.{Outcome, taken, refused, after}
@@ -13,7 +13,7 @@ use Rattle.wire.specs.Numbers.{leAt}
 use Rattle.order.specs.Keyed.{flat}
 use Rattle.aerosnap.specs.Known.{DEVICES, DISKS, CPUS, MMUS}
 use Rattle.aerosnap.specs.Payloads.{bodyOf}
-use Rattle.aerosnap.specs.File.{idOf, versionOf, lengthOf, payloadOf, fileOf}
+use Rattle.aerosnap.specs.File.{idOf, versionOf, lengthOf, payloadOf, fitsIn, fileOf}
 use Rattle.aerosnap.specs.Content.{isId}
 use Rattle.lists.specs.Lists.{whole}
 use Rattle.lists.specs.Promises.{lentAfter}
@@ -62,19 +62,16 @@ pub record Reading (l : List (List ℕ)) (index : List ℕ) (used : ℕ) : Type 
 abbrev pub HoldsStarts : List ℕ → ℕ → Type 0
 HoldsStarts s n = (l : List (List ℕ)) → fileOf s ≡ taken l → length (flat startsOf l) ≤ n
 
--- the section that begins b is there whole
-abbrev pub fitsIn : List ℕ → Bool
-fitsIn b = leb 16 (length b) && leb (lengthOf b) (length b - 16)
-
 -- how many entries the at most n sections of b say that they have, up to one that does not fit
 unfoldable pub counts : ℕ → List ℕ → ℕ
 counts zero b = 0
 counts (suc n) b = cond (fitsIn b) (countIn b + counts n (drop (16 + lengthOf b) b)) 0
 
--- a section read, of which the outcome is o, and its starts k kept: how many, or the fault; and unless there is one, they stand first in the lent places that held `old`
+-- a section read, of which the outcome is o, and its starts k kept: how many, or the fault; and unless there is one, they stand first in the lent places that held `old`, which a fault leaves as they were
 pub record Keeps {A : Type 0} (o : Outcome A) (k old : List ℕ) (r : Piece) (new : List ℕ) : Type 0 where
   pub answers : pieceOf r ≡ after o (λ _. taken (length k))
   pub leaves : (a : A) → o ≡ taken a → new ≡ k ++ drop (length k) old
+  pub stays : (n p : ℕ) → o ≡ refused n p → new ≡ old
 
 -- the promise of the call that reads sections: how many there are, and their starts in the lent places that held `old`
 pub record Scanned (o : Outcome (List (List ℕ))) (old : List ℕ) (r : Piece) (new : List ℕ) : Type 0 where

@@ -7,6 +7,7 @@ use answer::MAGIC;
 use answer::MANY;
 use answer::Piece;
 use answer::RESERVED;
+use answer::ROOM;
 use answer::SECVER;
 use answer::SHORT;
 use answer::SIZE;
@@ -19,24 +20,27 @@ use wire::u16_at;
 use wire::u32_at;
 use wire::u64_at;
 ghost use mathlib.Core.Path.{_≡_};
-ghost use mathlib.Core.Bool.{true, not, _||_};
+ghost use mathlib.Core.Bool.{true, not, _||_, cond};
 ghost use mathlib.Core.List.{List, [], _∷_, _++_};
 ghost use Prim.Native.Nat.{ℕ, _+_, _≤_, _<_};
 ghost use lib.Dec.{leb, eqb};
-ghost use lib.ListN.{length, take, drop};
+ghost use lib.ListN.{length, take, drop, getD};
 ghost use Rattle.answer.specs.Outcome.{taken};
 ghost use Rattle.answer.specs.Calls.{testOf, asked};
 ghost use Rattle.wire.specs.Numbers.{leAt};
 ghost use Rattle.answer.specs.declared.Test.the-variants.{Fine};
 ghost use Rattle.lists.specs.Lists.{whole};
-ghost use Rattle.lists.specs.Promises.{MayWrite};
+ghost use Rattle.lists.specs.Promises.{zeros, MayWrite};
+ghost use Rattle.wire.specs.Parts.{Wrote};
 ghost use Rattle.aerosnap.specs.Known as known;
 ghost use Rattle.aerosnap.specs.Payloads.{bodyOf};
-ghost use Rattle.aerosnap.specs.File.{fileMost, devicesMost, headerChecks, idOf, fileOf};
+ghost use Rattle.aerosnap.specs.File.{fileMost, devicesMost, headerChecks, idOf, fitsIn, fileOf};
 ghost use Rattle.aerosnap.specs.File as file;
+ghost use Rattle.aerosnap.specs.Salvage.{partLength, readPart, lossBytes};
 ghost use Rattle.payloads.specs.Starts.{starts};
 ghost use Rattle.sections.specs.Walks.{Marks, walkedFrom, sectionsIn, Read, placeOf};
-ghost use Rattle.sections.specs.Index.{startsOf, firstOf, isListId, countIn, fitsIn, counts, Keeps, Scanned, spotOf, Spotted};
+ghost use Rattle.sections.specs.Index.{startsOf, firstOf, isListId, countIn, counts, Keeps, Scanned, spotOf, Spotted};
+ghost use Rattle.sections.specs.Directory.{directoryPlaces, writtenSize, seated, tallied, Parted, Divided, Divides};
 
 // A place and a number of starts, or a fault.
 pub enum Spot {
@@ -338,10 +342,12 @@ pub fn check_and_find(file: &[u8], id: u32, index: &mut [u32]) -> Spot
 }
 
 // Whether the section at a place is there whole.
-fn fits(s: &[u8], at: usize) -> bool
-    requires { ⌜ at ≤ length (now s) ⌝ }
+pub fn fits(s: &[u8], at: usize) -> bool
     ensures { λ r. ⌜ r ≡ fitsIn (drop at (now (s .entry))) ⌝ }
 {
+    if s.len() < at {
+        return false;
+    }
     if s.len() - at < 16 {
         return false;
     }
@@ -368,4 +374,180 @@ pub fn count_entries(file: &[u8]) -> usize
         i += 1;
     }
     n
+}
+
+// ---- what is kept of a file, and what is lost
+
+// How many places of an index say where the sections stand that are kept: first how many others there are, then for each known id where its section starts, and at which place of the index
+// the starts of its list begin, then how many sections and bytes the canonical form has.
+pub const DIRECTORY: usize = 19;
+
+// The first fault of the header, or how many parts of the file are lost.
+pub enum Division {
+    Fault(u32, usize),
+    Lost(usize),
+}
+
+// How long the part at a place is: a section that fits in the file, or else all that is left.
+fn part_length(s: &[u8], at: usize) -> usize
+    requires { ⌜ (at ≤ length (now s)) × (length (now s) ≤ fileMost) ⌝ }
+    ensures { λ r. ⌜ r ≡ partLength (drop at (now (s .entry))) ⌝ }
+{
+    if fits(s, at) {
+        return 16 + (u64_at(s, at + 8) as usize);
+    }
+    s.len() - at
+}
+
+// What the reader says of it after the n sections that are kept: whether it fits is asked first.
+fn part_at(s: &[u8], at: usize, n: usize, seen: &[u8; 9], starts: &mut [u32]) -> Piece
+    requires { ⌜ (at ≤ length (now s)) × (length (now s) ≤ fileMost) ⌝ }
+    ensures { λ r. ⌜ ((l : List (List ℕ)) → Marks (now (seen .entry)) l n
+        → Keeps (readPart l at (drop at (now (s .entry)))) (whole (length (now (starts .entry))) (startsOf (drop at (now (s .entry))))) (now (starts .entry)) r (now (starts .exit))) ⌝ }
+{
+    if !fits(s, at) {
+        return Piece::Stop(CUT, at);
+    }
+    section_at(s, at, n, seen, starts)
+}
+
+// The record of a loss over the start of `out`, if there is room for it.
+fn put_loss(at: usize, w: usize, number: u32, out: &mut [u8]) -> usize
+    ensures { λ r. ⌜ Wrote (whole (length (now (out .entry))) (lossBytes at w number)) (now (out .entry)) (now (out .exit)) r ⌝ }
+{
+    if out.len() < 24 {
+        return 0;
+    }
+    wire::put_u64(out, 0, at as u64);
+    wire::put_u64(out, 8, w as u64);
+    wire::put_u32(out, 16, number);
+    wire::put_u32(out, 20, 0);
+    24
+}
+
+// How many bytes are written of a section of w bytes.
+fn written_size(id: u32, w: usize) -> usize
+    ensures { λ r. ⌜ r ≡ writtenSize id w ⌝ }
+{
+    if !is_list(id) {
+        return w;
+    }
+    if w == 20 {
+        return 0;
+    }
+    w
+}
+
+// One section more in the directory: a known one at its id, another counted.
+fn seat(id: u32, at: u32, first: u32, dir: &mut [u32])
+    requires { ⌜ (length (now dir) ≡ directoryPlaces) × (getD (now dir) 0 0 ≤ 64) ⌝ }
+    ensures { λ _. ⌜ now (dir .exit) ≡ seated id at first (now (dir .entry)) ⌝ }
+{
+    if known(id) {
+        let k = id as usize;
+        dir[k] = at;
+        dir[k + 8] = first;
+        return;
+    }
+    dir[0] += 1;
+}
+
+// How many sections a size stands for: none is written of a section of no bytes.
+fn one_of(size: u32) -> u32
+    ensures { λ r. ⌜ (r ≡ cond (eqb size 0) 0 1) × (r ≤ 1) ⌝ }
+{
+    if size == 0 {
+        return 0;
+    }
+    1
+}
+
+// So many bytes more are written.
+fn tally(size: u32, dir: &mut [u32])
+    requires { ⌜ (length (now dir) ≡ directoryPlaces) × (getD (now dir) 17 0 ≤ 64) × (getD (now dir) 18 0 + size ≤ fileMost) ⌝ }
+    ensures { λ _. ⌜ now (dir .exit) ≡ tallied size (now (dir .entry)) ⌝ }
+{
+    dir[17] += one_of(size);
+    dir[18] += size;
+}
+
+// The same of a section of w bytes at a place, before whose list so many starts are kept.
+fn enter(id: u32, at: usize, w: usize, used: usize, dir: &mut [u32])
+    requires { ⌜ (length (now dir) ≡ directoryPlaces) × (getD (now dir) 0 0 ≤ 64) × (getD (now dir) 17 0 ≤ 64) × (getD (now dir) 18 0 + w ≤ fileMost) × (at ≤ fileMost) × (used ≤ 4864) ⌝ }
+    ensures { λ _. ⌜ now (dir .exit) ≡ tallied (writtenSize id w) (seated id at (directoryPlaces + used) (now (dir .entry))) ⌝ }
+{
+    seat(id, at as u32, (DIRECTORY + used) as u32, dir);
+    tally(written_size(id, w) as u32, dir);
+}
+
+// The parts behind a header that is as it should be: how many are lost. The directory is filled, the starts of each list go into the tail of the starts, and the record of each loss into the tail of the records.
+fn find_parts(s: &[u8], dir: &mut [u32], starts: &mut [u32], losses: &mut [u8]) -> usize
+    requires { ⌜ (16 ≤ length (now s)) × (length (now s) ≤ fileMost) × (now dir ≡ zeros directoryPlaces) ⌝ }
+    ensures { λ r. ⌜ Parted (now (s .entry)) (now (dir .exit)) (now (starts .entry)) (now (starts .exit)) (now (losses .entry)) (now (losses .exit)) r ⌝ }
+{
+    let mut seen = [0u8; 9];
+    let mut at = 16;
+    let mut n = 0;
+    let mut used = 0;
+    let mut lost = 0;
+    let mut t = 0;
+    while at < s.len() {
+        let w = part_length(s, at);
+        match part_at(s, at, n, &seen, &mut starts[used..]) {
+            Piece::Stop(number, _) => {
+                t += put_loss(at, w, number, &mut losses[t..]);
+                lost += 1;
+                at += w;
+            }
+            Piece::Ends(k) => {
+                let id = u32_at(s, at);
+                enter(id, at, w, used, dir);
+                note(&mut seen, id);
+                n += 1;
+                used += k;
+                at += w;
+            }
+        }
+    }
+    lost
+}
+
+// The directory into the first places of an index.
+fn put_directory(dir: &[u32], index: &mut [u32])
+    requires { ⌜ (length (now dir) ≡ directoryPlaces) × (directoryPlaces ≤ length (now index)) ⌝ }
+    ensures { λ _. ⌜ now (index .exit) ≡ now (dir .entry) ++ drop directoryPlaces (now (index .entry)) ⌝ }
+{
+    let mut i: usize = 0;
+    while i < DIRECTORY {
+        index[i] = dir[i];
+        i += 1;
+    }
+}
+
+// The parts of a file whose header is as it should be, for an index that has room for the directory.
+fn divide_in(file: &[u8], index: &mut [u32], losses: &mut [u8]) -> usize
+    requires { ⌜ (16 ≤ length (now file)) × (length (now file) ≤ fileMost) × (directoryPlaces ≤ length (now index)) ⌝ }
+    ensures { λ r. ⌜ Divided (now (file .entry)) (now (index .entry)) (now (index .exit)) (now (losses .entry)) (now (losses .exit)) r ⌝ }
+{
+    let mut dir = [0u32; 19];
+    let lost = find_parts(file, &mut dir, &mut index[DIRECTORY..], losses);
+    dir[18] += 16;
+    put_directory(&dir, index);
+    lost
+}
+
+// What is kept of a file and what is lost: how many parts are lost, or the first fault of the header; an index that has no room for the directory is refused. The index then holds the directory and the
+// starts of the lists that are kept, as far as there is room for whole lists, and `losses` the records of what is lost, as far as there is room for whole records. A refusal leaves both as they were.
+pub fn divide(file: &[u8], index: &mut [u32], losses: &mut [u8]) -> Division
+    ensures { λ r. ⌜ Divides (now (file .entry)) (now (index .entry)) (now (losses .entry)) r (now (index .exit)) (now (losses .exit)) ⌝ }
+{
+    match header(&file[..]) {
+        Test::Fault(number, place) => Division::Fault(number, place),
+        Test::Fine => {
+            if index.len() < DIRECTORY {
+                return Division::Fault(ROOM, DIRECTORY);
+            }
+            Division::Lost(divide_in(&file[..], index, losses))
+        }
+    }
 }

@@ -6,6 +6,7 @@ use answer::ROOM;
 use answer::TAKEN;
 use answer::Test;
 use canon::Edit;
+use canon::Salvaged;
 use cards::Card;
 use cards::Edited;
 use sections::Spot;
@@ -27,6 +28,8 @@ ghost use Rattle.aerosnap.specs.Payloads.{list, bodyOf};
 ghost use Rattle.aerosnap.specs.File.{fileMost, fileOf};
 ghost use Rattle.aerosnap.specs.Tables as file_tables;
 ghost use Rattle.aerosnap.specs.Calls.{checkCall, sectionsCall, devicesCall, disksCall, cpusCall, mmusCall, canonicalCall};
+ghost use Rattle.aerosnap.specs.Salvage.{salvage};
+ghost use Rattle.canon.specs.Salvaging.{Salvages};
 ghost use Rattle.cards.specs.Cards.{openAnswer, WritesBeside};
 ghost use Rattle.cards.specs.Calls.{openCall, addDeviceCall, addDiskCall, removeDeviceCall, removeDiskCall, replaceDeviceCall};
 ghost use Rattle.sections.specs.Index.{HoldsStarts};
@@ -363,6 +366,13 @@ pub fn canonical(file: &[u8], out: &mut [u8]) -> Answer
     ensures { λ r. ⌜ Writes (canonicalCall (length (now (out .entry))) (now (file .entry))) (now (out .entry)) r (now (out .exit)) ⌝ }
 {
     canon::canonical(file, out)
+}
+
+// What can be kept of a file, written canonically, and one record for each loss: u64 start, u64 bytes lost, u32 refusal number, u32 0. The place counts the file's bytes.
+pub fn salvage(file: &[u8], out: &mut [u8], losses: &mut [u8]) -> Salvaged
+    ensures { λ r. ⌜ Salvages (salvage (length (now (out .entry))) (length (now (losses .entry))) (now (file .entry))) (now (out .entry)) (now (losses .entry)) r (now (out .exit)) (now (losses .exit)) ⌝ }
+{
+    canon::salvage(file, out, losses)
 }
 
 // The true card of a file's canonical form.

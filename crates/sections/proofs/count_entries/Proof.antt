@@ -2,7 +2,7 @@ use mathlib.Core.Path.{_≡_, sym, _∙_}
 use mathlib.Core.Bool.{true}
 use lib.ListN.{length, drop}
 use Rattle.wire.specs.Numbers.{leAt}
-use Rattle.sections.specs.Index.{fitsIn}
+use Rattle.aerosnap.specs.File.{fitsIn}
 use borrow.Author.Tests.{not-true, not-false}
 use Rattle.sections.proofs.Counts.{Counting, counting-start, counting-none, counting-stop, counting-goes, counting-next, counting-done}
 use Prim.Native.Nat.{_+_, _-_, _≤_}
@@ -39,9 +39,6 @@ returns c = counting-none (c .before .before .args .file .now) (c .if1 .taken)
 loop-holds : tie.Need-loop-holds Inv-loop μ-loop
 loop-holds c = counting-start _ (c .if1 .left)
 
-fits-requires : tie.Need-fits-requires Inv-loop μ-loop
-fits-requires c κs = (c .before .loop .inv) .inside
-
 returns-2 : tie.Need-returns-2 Inv-loop μ-loop
 returns-2 c = counting-stop (c .before .before .before .loop .inv) (c .before .before .loop-test .taken) (sym (c .before .fits2 .ensures) ∙ not-true _ (c .if2 .taken))
 
@@ -76,7 +73,7 @@ count-entries-spec =
     μ-loop
     returns
     loop-holds
-    fits-requires
+    (λ c κs. search needs)
     returns-2
     entries-at-requires
     add-n

@@ -1,11 +1,11 @@
 use Rattle.answer.proofs.Checks.{left-pass, left-fail}
-use Rattle.sections.proofs.Rules.{Ruling, ruled-all, ruled-fault, ruled-fine, some-flags, zero-flags, Took, read-stop, read-took, fault-place, keeps-stop, keeps-done, marked, unmarked}
+use Rattle.sections.proofs.Rules.{Ruling, ruled-all, ruled-fault, ruled-fine, some-flags, zero-flags, Took, read-stop, read-stays, read-took, fault-place, keeps-stop, keeps-done, marked, unmarked}
 use Rattle.sections.specs.Walks.{Marks}
 use Rattle.aerosnap.specs.Payloads.{bodyOf, payload}
 use Rattle.lists.specs.Lists.{partChecks}
 use Rattle.answer.specs.Outcome.{refused, checked}
 use borrow.Author.Tests.{not-true, not-false}
-use mathlib.Core.Path.{_≡_, sym, _∙_}
+use mathlib.Core.Path.{refl, _≡_, sym, _∙_}
 use mathlib.Core.List.{List}
 use Prim.Native.Nat.{ℕ}
 use native.Mathlib.Omega.{arith}
@@ -74,20 +74,20 @@ took c =
     read-took (a .id) (a .version) (a .p .now) (a .index .now) (i .index .ensures) (c .n .given .1)
 
 returns : tie.Need-returns
-returns c = λ l n m. keeps-stop (left-fail (all (c .before .before .before .before) l) (sym (c .before .takes .ensures) ∙ not-true _ (c .if1 .taken)))
+returns c = λ l n m. keeps-stop (left-fail (all (c .before .before .before .before) l) (sym (c .before .takes .ensures) ∙ not-true _ (c .if1 .taken))) refl
 
 returns-2 : tie.Need-returns-2
-returns-2 c = λ l n m. keeps-stop (left-fail (versioned (c .before) l) (some-flags (start (c .before) .args .flags) (c .if2 .taken)))
+returns-2 c = λ l n m. keeps-stop (left-fail (versioned (c .before) l) (some-flags (start (c .before) .args .flags) (c .if2 .taken))) refl
 
 returns-3 : tie.Need-returns-3
 returns-3 c =
     let k = c .before .before in
     let a = slotted k .args in
     let e = k .slot .ensures in
-    λ l n m. keeps-stop (left-fail (unflagged (k .before) l) (marked (a .seen .now) l n (a .id) _ m (e .0) (e .1) (e .2) (c .if3 .taken)))
+    λ l n m. keeps-stop (left-fail (unflagged (k .before) l) (marked (a .seen .now) l n (a .id) _ m (e .0) (e .1) (e .2) (c .if3 .taken))) refl
 
 returns-4 : tie.Need-returns-4
-returns-4 c = λ l n m. keeps-stop (left-fail (alone (c .before .before) l n m) (sym (c .before .small .ensures) ∙ not-true _ (c .if4 .taken)))
+returns-4 c = λ l n m. keeps-stop (left-fail (alone (c .before .before) l n m) (sym (c .before .small .ensures) ∙ not-true _ (c .if4 .taken))) refl
 
 add-t26 : tie.Need-add-t26
 add-t26 c =
@@ -97,9 +97,12 @@ add-t26 c =
 
 returns-5 : tie.Need-returns-5
 returns-5 c =
-    let e = asked (refused-by (c .before)) in
+    let i = refused-by (c .before) in
+    let e = asked i in
     let a = judged e .args in
-    λ l n m. keeps-stop (ruled-fault (a .at) (a .id) (a .version) (a .p .now) (small e l n m) (omega (arith, judged e .pre .1)) (stopped (c .before)))
+    λ l n m.
+    keeps-stop (ruled-fault (a .at) (a .id) (a .version) (a .p .now) (small e l n m) (omega (arith, judged e .pre .1)) (stopped (c .before)))
+    (read-stays (a .id) (a .version) (a .p .now) (a .index .now) (i .index .ensures) (c .before .number .given .1))
 
 returns-6 : tie.Need-returns-6
 returns-6 c =

@@ -3,6 +3,7 @@ use Rattle.sections.specs.Walks.{Marks}
 use Rattle.answer.proofs.Checks.{left-pass, left-fail}
 use borrow.Author.Tests.{le-leb, lt-leb, le-ltb, lt-ltb}
 use lib.ListN.{length}
+use mathlib.Core.Path.{refl}
 use mathlib.Core.List.{List}
 use Rattle.wire.specs.Numbers.{leAt}
 use Prim.Native.Nat.{ℕ, _+_, _-_}
@@ -38,13 +39,13 @@ whole : (c : tie.Else3) (l : List (List ℕ)) → let t = start (counted c .befo
 whole c l k = left-pass (few (counted c) l k) (let a = start (counted c .before) .args in le-leb (leAt 8 (a .s .now) (a .at + 8)) (length (a .s .now) - a .at - 16) (omega (arith, c .before .u64-at .ensures)))
 
 returns : tie.Need-returns
-returns c = λ l k. keeps-stop (left-fail (all (c .before .before .before) l) (lt-leb _ _ (c .if1 .taken)))
+returns c = λ l k. keeps-stop (left-fail (all (c .before .before .before) l) (lt-leb _ _ (c .if1 .taken))) refl
 
 returns-2 : tie.Need-returns-2
-returns-2 c = λ l k. keeps-stop (left-fail (headed (c .before) l) (le-ltb (length l) 64 (omega (arith, k .count))))
+returns-2 c = λ l k. keeps-stop (left-fail (headed (c .before) l) (le-ltb (length l) 64 (omega (arith, k .count)))) refl
 
 returns-3 : tie.Need-returns-3
-returns-3 c = λ l k. keeps-stop (left-fail (few (c .before .before) l k) (let a = start (c .before .before .before) .args in lt-leb (leAt 8 (a .s .now) (a .at + 8)) (length (a .s .now) - a .at - 16) (omega (arith, c .before .u64-at .ensures))))
+returns-3 c = λ l k. keeps-stop (left-fail (few (c .before .before) l k) (let a = start (c .before .before .before) .args in lt-leb (leAt 8 (a .s .now) (a .at + 8)) (length (a .s .now) - a .at - 16) (omega (arith, c .before .u64-at .ensures)))) refl
 
 returns-4 : tie.Need-returns-4
 returns-4 c =

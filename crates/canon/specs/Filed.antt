@@ -1,0 +1,40 @@
+-- The sections that are kept of a file, by the directory of an index: what writers ask, whether all of the file is taken or only a part of it is kept.
+-- Assumes nothing.
+use mathlib.Core.List.{List, [], _++_}
+use mathlib.Core.Bool.{cond}
+use Prim.Native.Nat.{ℕ, zero, suc, _+_, _-_, _≤_}
+use lib.ListN.{length, take, drop}
+use Rattle.answer.specs.Outcome.{Pass}
+use Rattle.order.specs.Keyed.{flat}
+use Rattle.aerosnap.specs.Known.{known}
+use Rattle.aerosnap.specs.File.{headerChecks, idOf, lengthOf, fitsIn}
+use Rattle.aerosnap.specs.Salvage.{partsOf, allKept}
+use Rattle.sections.specs.Index.{startsOf}
+use Rattle.sections.specs.Directory.{directoryPlaces, Directory}
+
+-- the sections that are kept of a file
+abbrev pub held : List ℕ → List (List ℕ)
+held s = allKept (partsOf s)
+
+-- so many places of an index have room for the directory and all starts of what is kept
+pub record HoldsKept (s : List ℕ) (n : ℕ) : Type 0 where
+  pub directory : directoryPlaces ≤ n
+  pub starts : length (flat startsOf (held s)) ≤ n - directoryPlaces
+
+-- the index has the directory of what is kept of s, and all starts of its lists
+pub record Filed (s index : List ℕ) : Type 0 where
+  pub passes : Pass (headerChecks s)
+  pub old : List ℕ
+  pub directory : Directory (partsOf s) old index
+  pub room : HoldsKept s (length old)
+
+-- the bytes of the first u sections of b whose ids are not known, up to one that does not fit; n sections are looked at
+unfoldable pub otherBytes : ℕ → ℕ → List ℕ → List ℕ
+otherBytes zero u b = []
+otherBytes (suc n) zero b = []
+otherBytes (suc n) (suc u) b =
+    cond (fitsIn b) (cond (known (idOf b)) (otherBytes n (suc u) (drop (16 + lengthOf b) b)) (take (16 + lengthOf b) b ++ otherBytes n u (drop (16 + lengthOf b) b))) []
+
+-- those of a file
+abbrev pub othersFrom : List ℕ → ℕ → ℕ → List ℕ
+othersFrom s u at = otherBytes (length s) u (drop at s)
