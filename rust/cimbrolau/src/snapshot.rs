@@ -3,6 +3,7 @@
 use crate::raw;
 use crate::records::{self, position, table_most, u16_at, u32_at, u64_at, RECORD};
 use crate::refusal::{filled, outcome, Result};
+pub use crate::salvage::{salvage, Loss, Rescued};
 
 /// The shortest snapshot: the header, and no section.
 ///
@@ -301,7 +302,7 @@ const CPUS: usize = 256;
 const MMUS: usize = 256;
 
 /// So many bytes, or as many as a file may have.
-fn file_most(bytes: usize) -> usize {
+pub(crate) fn file_most(bytes: usize) -> usize {
     bytes.min(MOST_BYTES as usize)
 }
 
