@@ -13,6 +13,7 @@ use crate::library;
 use crate::make::DeviceKey;
 use crate::random::Random;
 use crate::rings::RingCalls;
+use crate::salvage::Salvage;
 
 const ROOM: u32 = 16;
 pub(crate) const MARGIN: usize = 16;
@@ -29,6 +30,8 @@ pub struct Comparison {
     pub answers: Counts,
     /// The calls that the reference's are compared with on regions; the library's but where a control plants errors.
     pub rings: RingCalls,
+    /// The same for salvage.
+    pub salvage: Salvage,
     /// Whether exactly the memory needed is lent, as for outputs too long to write often.
     pub exact: bool,
     /// The library's and the reference's lent memory, with margins.
@@ -90,6 +93,7 @@ impl Comparison {
             calls: 0,
             answers: Counts::default(),
             rings: library::RINGS,
+            salvage: library::salvage,
             exact: false,
             ours: vec![],
             theirs: vec![],
@@ -107,6 +111,7 @@ impl Comparison {
         assert_eq!(ours.1, theirs.1, "meta of {:02X?}", &file[..file.len().min(SHOWN)]);
         self.outputs(&FILE_CALLS, file);
         self.ready_somewhere(file);
+        self.salvage_short(file);
         self.unchanged(before, file);
         answer
     }
@@ -293,14 +298,20 @@ impl Comparison {
     }
 
     /// A call that answers a number and a place.
-    fn answer(&mut self, call: &str, inputs: &[&[u8]], ours: Answer, theirs: Answer) -> Answer {
+    pub(crate) fn answer(
+        &mut self,
+        call: &str,
+        inputs: &[&[u8]],
+        ours: Answer,
+        theirs: Answer,
+    ) -> Answer {
         self.same(call, inputs, ours, theirs);
         self.answers.add(theirs.number);
         theirs
     }
 
     /// What the library gave has to be what the reference gave.
-    fn same<T: PartialEq + Debug>(
+    pub(crate) fn same<T: PartialEq + Debug>(
         &mut self,
         call: &str,
         inputs: &[&[u8]],
@@ -417,7 +428,7 @@ pub(crate) fn lay_pattern(memory: &mut Vec<u8>, length: usize, salt: u8) {
 }
 
 /// Whether the pattern stands in the margins and behind the written bytes.
-fn pattern_stands(memory: &[u8], written: usize, salt: u8) -> bool {
+pub(crate) fn pattern_stands(memory: &[u8], written: usize, salt: u8) -> bool {
     let period = pattern(salt);
     let mut at = 0;
     while at < memory.len() {

@@ -10,6 +10,7 @@
 //!   [`damage`]: faults in them;
 //! - [`compare`]: one input given to both, and what is compared; [`rings`]: the same for calls that change a
 //!   region in place, [`sheets`]: for fields of states; [`counts`]: how often each number was answered;
+//! - [`salvage`]: what is kept of damaged files and what is lost, and that the two together are the file;
 //! - [`planted`]: errors that have to be found;
 //! - [`record`]: calls and their answers written to a file, for the library in WebAssembly.
 //!
@@ -25,5 +26,6 @@ pub mod random;
 pub mod record;
 pub mod regions;
 pub mod rings;
+pub mod salvage;
 pub mod sheets;
 pub mod text;

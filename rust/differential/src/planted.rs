@@ -1,5 +1,7 @@
 //! Errors planted in the reference's rings, to stand in the library's place: what looks for differences has to find each.
 
+pub mod salvage;
+
 use reference::answer::{BIG, FULL, RECORD, REGION, TURN};
 use reference::{Answer, Cursors, Pair, Record};
 
