@@ -4,7 +4,7 @@ use differential::planted;
 use reference::answer::{CUT, KEY, MANY, SECVER, TEXT, VALUE};
 use reference::Answer;
 
-use crate::subject::{files, messages, regions, states, wrappers, Call, Subject};
+use crate::subject::{files, messages, regions, salvage, states, wrappers, Call, Subject};
 
 const TAKEN: Answer = Answer { number: 0, place: 0 };
 
@@ -20,6 +20,8 @@ fn with(mut subject: Subject, call: &str, error: Call) -> Subject {
 pub fn all() -> Vec<(&'static str, Subject)> {
     let mut all: Vec<(&str, Subject)> =
         planted::ALL.iter().map(|(name, calls)| (*name, regions(*calls))).collect();
+    let in_salvage = planted::salvage::ALL.iter();
+    all.extend(in_salvage.map(|(name, call)| (*name, with(files(), "salvage", salvage(*call)))));
     let check = |error: fn(&[u8], Answer) -> Answer| -> Subject {
         with(files(), "check", Box::new(move |file, _| error(file, reference::check(file))))
     };

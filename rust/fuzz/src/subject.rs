@@ -3,6 +3,7 @@
 use differential::library;
 use differential::random::Random;
 use differential::rings::{RingCalls, REFERENCE};
+use differential::salvage::{Salvage, LOSS};
 use reference::answer::ROOM;
 use reference::{Answer, Reading};
 
@@ -65,8 +66,37 @@ pub fn files() -> Subject {
             pair!("canonical", side => side::canonical),
             pair!("add_device", side => |file, out| side::add_device(file, 3, 1, 0, b"new", out)),
             pair!("add_disk", side => |file, out| side::add_disk(file, 256, b"base", b"", out)),
+            Pair {
+                name: "salvage",
+                ours: salvage(library::salvage),
+                theirs: salvage(reference::salvage),
+                lends: Lends::Input(LOSS * LOSSES + 24),
+            },
         ],
     }
+}
+
+/// How many records salvage has room for.
+const LOSSES: usize = 2;
+
+/// Salvage, with room for a file as long as its input, or, if that has an odd length, for one of half its length. Behind the
+/// records stands what it answers; what counts as its answer is why something was lost first and how often, so that files
+/// that are damaged in new ways are kept.
+pub fn salvage(salvage: Salvage) -> Call {
+    Box::new(move |file, lent| {
+        let (out, rest) = lent.split_at_mut(file.len());
+        let (records, told) = rest.split_at_mut(LOSS * LOSSES);
+        let room = if file.len() % 2 == 0 { file.len() } else { file.len() / 2 };
+        let answer = salvage(file, &mut out[..room], records);
+        let numbers = [answer.number.into(), answer.place, answer.losses];
+        for (part, number) in told.chunks_exact_mut(8).zip(numbers) {
+            part.copy_from_slice(&number.to_le_bytes());
+        }
+        match (answer.number, answer.losses) {
+            (0, 0) | (1.., _) => Answer { number: answer.number, place: answer.place },
+            (0, losses) => Answer { number: 100 + u32::from(records[16]), place: 4 * losses },
+        }
+    })
 }
 
 /// Disk-controller wrappers.
