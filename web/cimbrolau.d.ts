@@ -21,6 +21,8 @@ export const REFUSALS: ReadonlyArray<readonly [number: number, name: string, wor
 export const MOST_LENT: number;
 export const MOST_MEMORY: number;
 export const MOST_FILE: number;
+/** Bytes in the record of a loss. */
+export const LOSS: number;
 export const CPU_FIELDS: readonly string[];
 export const MMU_FIELDS: readonly string[];
 export const MESSAGES: ReadonlyArray<readonly [tag: number, kind: string, fields: ReadonlyArray<readonly [name: string, bits: number]>, data?: 'data' | 'text']>;
@@ -70,6 +72,14 @@ export interface Meta {
   time: bigint;
   parent?: bigint;
   label?: string;
+}
+/** A part of a damaged file that is lost. Number, name and words are those of a refusal. */
+export interface Loss {
+  start: number;
+  bytes: number;
+  number: number;
+  name: string;
+  words: string;
 }
 export interface Controller {
   address: number;
@@ -128,6 +138,7 @@ export interface Raw {
   remove_device(file: Bytes, id: number, version: number, flags: number, out: Lent): Answer;
   remove_disk(file: Bytes, id: number, out: Lent): Answer;
   replace_device(file: Bytes, id: number, version: number, flags: number, payload: Bytes, out: Lent): Answer;
+  salvage(file: Bytes, out: Lent, losses: Lent): Answer & { losses: number; records?: Bytes };
   wrapper_check(wrapper: Bytes): Answer;
   controllers(wrapper: Bytes, table: Lent): Answer;
   wrapper_canonical(wrapper: Bytes, out: Lent): Answer;
@@ -167,6 +178,8 @@ export class Cimbrolau {
   removeDevice(file: Bytes, key: DeviceKey): Bytes;
   removeDisk(file: Bytes, id: number): Bytes;
   replaceDevice(file: Bytes, key: DeviceKey, payload: Bytes): Bytes;
+  /** What can be kept of a damaged file, in canonical form, and what is lost. */
+  salvage(file: Bytes): { file: Bytes; losses: Loss[] };
 
   wrapperCheck(wrapper: Bytes): void;
   controllers(wrapper: Bytes): Controller[];
