@@ -61,18 +61,20 @@ const FEW: usize = 64;
 ///
 /// ```
 /// use cimbrolau::{snapshot, Kind};
-/// let good = snapshot::add_disk(&snapshot::EMPTY, 1, b"panel.img", b"")?;
+/// let mut good = snapshot::EMPTY.to_vec();
+/// good.extend([5, 0, 0, 0, 1, 0, 0, 0, 16, 0, 0, 0, 0, 0, 0, 0]); // a DISKS section
+/// good.extend([1, 0, 0, 0, 1, 0, 0, 0, 0, 0, 0, 0, 0, 0, 0, 0]); // disk 1, with no backend
 /// let mut file = good.clone();
 /// file.extend([4, 0, 0, 0, 9, 0, 0, 0, 0, 0, 0, 0, 0, 0, 0, 0]); // DEVICES of a version that is not taken
 /// file.extend([6, 0, 0, 0, 1, 0, 0, 0, 200, 0, 0, 0, 0, 0, 0, 0]); // RAM of 200 bytes, of which
-/// file.extend([0x55; 70]); // the disk kept 70
+/// file.extend([0x55; 70]); // 70 are there
 /// assert_eq!(snapshot::check(&file).unwrap_err().kind, Kind::SecVer);
 ///
 /// let rescued = snapshot::salvage(&file)?;
 /// assert_eq!(rescued.file, good);
 /// let [devices, ram] = rescued.losses[..] else { panic!("two losses") };
-/// assert_eq!((devices.start, devices.bytes, devices.kind), (57, 16, Kind::SecVer));
-/// assert_eq!((ram.start, ram.bytes, ram.kind), (73, 86, Kind::Cut));
+/// assert_eq!((devices.start, devices.bytes, devices.kind), (48, 16, Kind::SecVer));
+/// assert_eq!((ram.start, ram.bytes, ram.kind), (64, 86, Kind::Cut));
 /// # Ok::<(), cimbrolau::Refusal>(())
 /// ```
 pub fn salvage(file: &[u8]) -> Result<Rescued> {
