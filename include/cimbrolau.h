@@ -16,7 +16,7 @@
  *
  * What a caller owes, and nothing can check:
  *   - each length is the number of bytes that the pointer before it points to; for a length of 0 any pointer will do, also a null one;
- *   - a lent buffer (`table`, `list`, `out`) overlaps no input of the same call, and nothing else touches either while the call runs.
+ *   - a lent buffer (`table`, `list`, `out`, `losses`) overlaps no input and no other buffer of the same call, and nothing else touches either while the call runs.
  * All else is checked by the call.
  */
 #ifndef CIMBROLAU_H
@@ -241,6 +241,30 @@ struct cimbrolau_edited cimbrolau_remove_disk(const uint8_t *file, size_t file_l
 
 /* The same with another payload in one of its devices, under the same key: CIMBROLAU_LIMIT, CIMBROLAU_ABSENT, CIMBROLAU_LIMIT, CIMBROLAU_SIZE, all at 0. */
 struct cimbrolau_edited cimbrolau_replace_device(const uint8_t *file, size_t file_length, struct cimbrolau_card card, uint32_t id, uint16_t version, uint16_t flags, const uint8_t *payload, size_t payload_length, uint8_t *out, size_t out_length);
+
+/*
+ * Salvage: what can be kept of a damaged file. Each section is kept that would be accepted behind those kept before; each other one that fits in the
+ * file is dropped; the first that does not fit takes all bytes to the end with it. `out` gets the canonical form of what is kept, which is always
+ * accepted and never longer than the file; `losses` a record of 24 bytes for each loss, in the order of the file. An accepted file has none.
+ *
+ *   u64 start, u64 bytes lost, u32 number of the refusal, u32 0
+ *
+ * The struct has that layout: an array of them may be lent. A section with its header is one loss, at its header's start; what does not fit has
+ * CIMBROLAU_CUT. Refused are a file that is too long or whose header is wrong, then CIMBROLAU_ROOM for `out`, then for `losses`; a refusal touches
+ * neither. A file of n bytes has fewer than n / 16 losses, so that n + n / 2 bytes are room enough for the records.
+ */
+struct cimbrolau_loss {
+    uint64_t start, bytes;
+    uint32_t number, zero;
+};
+
+struct cimbrolau_salvaged {
+    uint32_t number;
+    uint64_t place;  /* the bytes written to `out` */
+    uint64_t losses; /* the records written to `losses`; 0 beside a refusal */
+};
+
+struct cimbrolau_salvaged cimbrolau_salvage(const uint8_t *file, size_t file_length, uint8_t *out, size_t out_length, uint8_t *losses, size_t losses_length);
 
 /* ---- disk-controller wrappers */
 
@@ -487,6 +511,8 @@ CIMBROLAU_LAYOUT_OF(48, edited, card, 16);
 
 #undef CIMBROLAU_LAYOUT
 #undef CIMBROLAU_LAYOUT_OF
+
+typedef char cimbrolau_layout_loss[offsetof(struct cimbrolau_loss, bytes) == 8 && offsetof(struct cimbrolau_loss, number) == 16 && sizeof(struct cimbrolau_loss) == 24 ? 1 : -1];
 
 #ifdef __cplusplus
 }

@@ -21,6 +21,8 @@ export const REFUSALS: ReadonlyArray<readonly [number: number, name: string, wor
 export const MOST_LENT: number;
 export const MOST_MEMORY: number;
 export const MOST_FILE: number;
+/** Bytes in the record of a loss. */
+export const LOSS: number;
 export const CPU_FIELDS: readonly string[];
 export const MMU_FIELDS: readonly string[];
 export const MESSAGES: ReadonlyArray<readonly [tag: number, kind: string, fields: ReadonlyArray<readonly [name: string, bits: number]>, data?: 'data' | 'text']>;
@@ -86,6 +88,14 @@ export interface Meta {
   parent?: bigint;
   label?: string;
 }
+/** A part of a damaged file that is lost. Number, name and words are those of a refusal. */
+export interface Loss {
+  start: number;
+  bytes: number;
+  number: number;
+  name: string;
+  words: string;
+}
 export interface Controller {
   address: number;
   tag: Bytes;
@@ -146,6 +156,7 @@ export interface Raw {
   remove_device(file: Bytes, card: AnyCard, id: number, version: number, flags: number, out: Lent): AnswerWithCard;
   remove_disk(file: Bytes, card: AnyCard, id: number, out: Lent): AnswerWithCard;
   replace_device(file: Bytes, card: AnyCard, id: number, version: number, flags: number, payload: Bytes, out: Lent): AnswerWithCard;
+  salvage(file: Bytes, out: Lent, losses: Lent): Answer & { losses: number; records?: Bytes };
   wrapper_check(wrapper: Bytes): Answer;
   controllers(wrapper: Bytes, table: Lent): Answer;
   wrapper_canonical(wrapper: Bytes, out: Lent): Answer;
@@ -187,6 +198,8 @@ export class Cimbrolau {
   removeDevice(file: Bytes, card: AnyCard, key: DeviceKey): Edited;
   removeDisk(file: Bytes, card: AnyCard, id: number): Edited;
   replaceDevice(file: Bytes, card: AnyCard, key: DeviceKey, payload: Bytes): Edited;
+  /** What can be kept of a damaged file, in canonical form, and what is lost. */
+  salvage(file: Bytes): { file: Bytes; losses: Loss[] };
 
   wrapperCheck(wrapper: Bytes): void;
   controllers(wrapper: Bytes): Controller[];

@@ -37,12 +37,17 @@ export const REFUSALS = [
   [29, 'TURN', 'cursors given out of turn'],
 ];
 
+/** The row of a number. */
+function rowOf(number) {
+  const row = REFUSALS.find(([known]) => known === number);
+  if (!row) throw new Error(`cimbrolau.wasm answered ${number}, which this module does not know: they are of different versions`);
+  return row;
+}
+
 /** A refusal: its number, its name, the byte of the input at which it stands (of ROOM the length needed), and what it says. */
 export class Refusal extends Error {
   constructor(number, place) {
-    const row = REFUSALS.find(([known]) => known === number);
-    if (!row) throw new Error(`cimbrolau.wasm answered ${number}, which this module does not know: they are of different versions`);
-    const [, name, words] = row;
+    const [, name, words] = rowOf(number);
     super(`${number} ${name} at ${place}: ${words}`);
     this.name = name;
     this.number = number;
@@ -89,6 +94,7 @@ const CALLS = `
   edited   remove_device      file card:card id:u32 version:u16 flags:u16 >out
   edited   remove_disk        file card:card id:u32 >out
   edited   replace_device     file card:card id:u32 version:u16 flags:u16 payload >out
+  salvaged salvage            file >out >losses
   answer   wrapper_check      wrapper
   answer   controllers        wrapper >table
   answer   wrapper_canonical  wrapper >out
@@ -116,6 +122,7 @@ const ANSWERS = {
   answer: 'number:u32 place:size',
   edited: 'number:u32 index:u32 place:size length:u64 sections:u64 devices:u64 payloads:u64',
   ready: 'number:u32 yes:u32 place:size',
+  salvaged: 'number:u32 place:size losses:size',
   meta: 'number:u32 present:u32 place:size id:u64 has_parent:u32 has_label:u32 parent:u64 time:u64 label_place:size label_length:size',
   message: 'number:u32 place:size tag:u32 a:u64 b:u64 c:u64 d:u64 data_place:size data_length:size',
   cursors: 'number:u32 place:size head:i32 reserve:i32 commit:i32',
@@ -258,13 +265,13 @@ export class Cimbrolau {
       const length = kind === 'out' && typeof bytes === 'number' ? bytes : isBytes(bytes) ? bytes.length : NaN;
       if (Number.isNaN(length)) throw new TypeError(`${parameter.name}: a Uint8Array is wanted`);
       if (length > MOST_LENT) throw new TooLarge(`${parameter.name}: ${whole(length)} bytes; with addresses of 32 bits at most ${whole(MOST_LENT)} can be lent at once`);
-      return { kind, bytes, length, start: place(length) };
+      return { kind, name: parameter.name, bytes, length, start: place(length) };
     });
     if (end > MOST_MEMORY) throw new TooLarge(`this call needs ${whole(end)} bytes of memory at once; addresses of 32 bits have at most ${whole(MOST_MEMORY)}`);
     return { answer, parts, end };
   }
 
-  /** One call. What it answers as an object; `written` is what stands at the start of an output that was lent by its length. */
+  /** One call. What it answers as an object; `written` is what stands at the start of an output that was lent by its length, `records` that of losses. */
   #call(call, given) {
     if (given.length !== call.parameters.length) {
       throw new TypeError(`${call.name} takes ${call.parameters.length} arguments: ${call.parameters.map(({ name }) => name).join(', ')}`);
@@ -290,9 +297,7 @@ export class Cimbrolau {
 
   /** A call that throws what it refuses. */
   #do(name, ...given) {
-    const answered = this.raw[name](...given);
-    if (answered.number !== 0) throw new Refusal(answered.number, answered.place);
-    return answered;
+    return accepted(this.raw[name](...given));
   }
 
   // ---- snapshot files
@@ -404,6 +409,24 @@ export class Cimbrolau {
   #edit(name, ...given) {
     const edited = this.#do(name, ...given);
     return { file: edited.written, card: cardOf(edited) };
+  }
+
+  /**
+   * What can be kept of a damaged file, and what is lost. `file` is the canonical form of the sections that are kept, and is always accepted; `losses` has for each
+   * loss where it starts, how many bytes it has, and why: number, name and words of a refusal. Only a file that is too long or whose header is wrong is refused.
+   */
+  salvage(file) {
+    const out = atMost(file.length);
+    const first = this.raw.salvage(file, out, LOSS * FEW);
+    // What is kept has room, so that ROOM says how long the records are.
+    const { written, records: lost } = first.number === ROOM ? this.#do('salvage', file, out, first.place) : accepted(first);
+    const view = new DataView(lost.buffer);
+    const losses = Array.from({ length: lost.length / LOSS }, (_, at) => {
+      const number = view.getUint32(LOSS * at + 16, true);
+      const [, name, words] = rowOf(number);
+      return { start: READ.size(view, LOSS * at), bytes: READ.size(view, LOSS * at + 8), number, name, words };
+    });
+    return { file: written, losses };
   }
 
   // ---- disk-controller wrappers
@@ -535,15 +558,27 @@ export async function load(source) {
   return new Cimbrolau(source instanceof WebAssembly.Module ? source : await WebAssembly.compile(source));
 }
 
-/** What a call answered, with what it wrote copied to where it was lent. */
+/** An answer that is no refusal. */
+function accepted(answered) {
+  if (answered.number !== 0) throw new Refusal(answered.number, answered.place);
+  return answered;
+}
+
+const ROOM = 16;
+/** Bytes in the record of a loss, and how many losses salvage has room for at first. */
+export const LOSS = 24;
+const FEW = 64;
+
+/** What a call answered, with what it wrote copied to where it was lent. Salvage writes to two outputs, of which the second has the records of losses. */
 function taken(call, memory, answer, parts) {
   const view = new DataView(memory.buffer);
   const answered = {};
   for (const { name, type, at } of call.answer) answered[name] = READ[type](view, answer + at);
   for (const part of parts) {
     if (!part || part.kind === 'in') continue;
-    const { kind, bytes, length, start } = part;
-    if (!isBytes(bytes)) answered.written = memory.slice(start, start + (answered.number === 0 ? answered.place : 0));
+    const { kind, name, bytes, length, start } = part;
+    if (!isBytes(bytes) && name === 'losses') answered.records = memory.slice(start, start + LOSS * answered.losses);
+    else if (!isBytes(bytes)) answered.written = memory.slice(start, start + (answered.number === 0 ? answered.place : 0));
     else if (kind === 'out') bytes.set(memory.subarray(start, start + length));
     else store(bytes, memory.subarray(start, start + length));
   }

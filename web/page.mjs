@@ -191,9 +191,46 @@ function looked(library, name, bytes) {
     file.canonical = sameBytes(file.form, bytes);
   } catch (error) {
     file.error = error;
-    if (error instanceof Refusal) file.before = sectionsBefore(library, bytes, error.place);
+    if (error instanceof Refusal) {
+      file.before = sectionsBefore(library, bytes, error.place);
+      file.rescued = rescuedOf(library, bytes);
+    }
   }
   return file;
+}
+
+/** So many losses are shown one by one. */
+const SHOWN = 100;
+
+/** What salvage would keep of a refused file: its canonical form, the sections, and what is lost. Nothing, where the header itself is wrong. */
+function rescuedOf(library, bytes) {
+  try {
+    const { file: form, losses } = library.salvage(bytes);
+    const kept = keptSections(library, bytes, losses);
+    const shown = losses.slice(0, SHOWN).map((loss) => ({ ...loss, id: loss.bytes < 16 ? undefined : idAt(library, bytes, loss.start) }));
+    return { form, kept, shown, count: losses.length, lost: losses.reduce((sum, loss) => sum + loss.bytes, 0) };
+  } catch (error) {
+    if (error instanceof Refusal) return undefined;
+    throw error;
+  }
+}
+
+/** The sections that are kept, in the order of the file, each with its start there: the file without what is lost is one that is accepted. */
+function keptSections(library, bytes, losses) {
+  const rest = new Uint8Array(bytes.length - losses.reduce((sum, loss) => sum + loss.bytes, 0));
+  let [from, to] = [0, 0];
+  for (const { start, bytes: length } of [...losses, { start: bytes.length, bytes: 0 }]) {
+    rest.set(bytes.subarray(from, start), to);
+    to += start - from;
+    from = start + length;
+  }
+  let [at, next] = [16, 0];
+  return library.sections(rest).map((section) => {
+    for (; losses[next]?.start === at; next += 1) at += losses[next].bytes;
+    const start = at;
+    at += 16 + section.length;
+    return { ...section, start };
+  });
 }
 
 function sameBytes(one, other) {
@@ -251,6 +288,27 @@ function drawPlace(bytes, place, before) {
   ];
 }
 
+function drawRescued({ bytes, rescued: { form, kept, shown, count, lost } }) {
+  const nameOf = ({ id }) => (id === undefined ? 'a header that is cut' : sectionName(id));
+  const parts = [
+    { start: 0, length: 16, kind: 'k0', words: 'the header of the file, 16 bytes' },
+    ...kept.map(({ id, start, length }) => ({ start, length: 16 + length, kind: colour(id), name: sectionName(id), words: `kept: ${sectionName(id)}, ${size(length)}` })),
+    ...shown.map((loss) => ({ start: loss.start, length: loss.bytes, kind: 'lost', words: `lost: ${nameOf(loss)}, ${size(loss.bytes)}, ${loss.name}` })),
+  ];
+  const words = `Kept: ${kept.map(({ id }) => sectionName(id)).join(', ') || 'no section'}. Lost: ${shown.map(nameOf).join(', ')}`;
+  return [
+    make('h3', {}, 'What salvage would keep'),
+    make('p', {}, `${plural(kept.length, 'section')}, in canonical form ${size(form.length)}. Of ${plural(bytes.length, 'byte')} ${whole(lost)} ${lost === 1 ? 'is' : 'are'} lost.`),
+    strip(parts, bytes.length, words, 'in colour: what is kept; grey: what is lost', size(bytes.length)),
+    table(
+      'What is lost, in the order of the file',
+      ['!Section', '#From byte', '#Bytes', '"Why'],
+      shown.map((loss) => [nameOf(loss), whole(loss.start), whole(loss.bytes), `${loss.number} ${loss.name}: ${loss.words}`]),
+    ),
+    count > SHOWN ? make('p', { class: 'soft' }, `and ${plural(count - SHOWN, 'loss', 'losses')} more`) : null,
+  ];
+}
+
 function drawRefusal({ bytes, error, before }) {
   if (!(error instanceof Refusal)) return [verdict('bad', '\u2715', make('p', {}, make('strong', {}, 'Not read')), make('p', { class: 'plain' }, error.message))];
   const { number, name, place } = error;
@@ -270,9 +328,9 @@ function drawRefusal({ bytes, error, before }) {
   ];
 }
 
-function save(file) {
-  const address = URL.createObjectURL(new Blob([file.form], { type: 'application/octet-stream' }));
-  const link = make('a', { href: address, download: file.name.replace(/(\.[^.]*)?$/, '.canonical$1') });
+function save({ name }, form, kind) {
+  const address = URL.createObjectURL(new Blob([form], { type: 'application/octet-stream' }));
+  const link = make('a', { href: address, download: name.replace(/(\.[^.]*)?$/, `.${kind}$1`) });
   link.click();
   setTimeout(() => URL.revokeObjectURL(address), 60_000);
 }
@@ -281,12 +339,15 @@ function drawFile(file) {
   const remove = make('button', { class: 'quiet', type: 'button', 'aria-label': `Remove ${plain(file.name)} from the page`, onclick: () => put(files.filter((one) => one !== file)).then(() => $('choose').focus()) }, 'Remove');
   const top = make('div', { class: 'top' }, make('h2', {}, plain(file.name)), make('span', { class: 'soft' }, size(file.length ?? file.bytes.length)));
   const card = (...children) => make('article', { class: 'card', 'aria-label': plain(file.name) }, top, children);
-  if (file.error) return card(drawRefusal(file), make('div', { class: 'acts' }, remove));
+  if (file.error) {
+    const keep = file.rescued && make('button', { type: 'button', onclick: () => save(file, file.rescued.form, 'salvaged') }, 'Save what is kept');
+    return card(drawRefusal(file), file.rescued && drawRescued(file), make('div', { class: 'acts' }, keep, remove));
+  }
   const order = file.canonical ? 'It is in canonical form.' : 'Its canonical form has other bytes: the order of sections, or of entries, differs.';
   return card(
     verdict('good', '\u2713', make('p', {}, make('strong', {}, 'Follows the rules')), make('p', { class: 'plain' }, order)),
     readiness(file),
-    make('div', { class: 'acts' }, make('button', { type: 'button', onclick: () => save(file) }, 'Save the canonical form'), remove),
+    make('div', { class: 'acts' }, make('button', { type: 'button', onclick: () => save(file, file.form, 'canonical') }, 'Save the canonical form'), remove),
     drawSections(file),
     drawDevices(file),
     drawDisks(file),

@@ -110,6 +110,17 @@ async function choose(...chosen) {
   await tab('DOM.setFileInputFiles', { nodeId, files: chosen.map(path) });
   await until(`document.querySelectorAll("#files article").length >= ${Math.min(2, cards + chosen.length)} && !document.querySelector("#status").textContent.startsWith("Reading")`);
 }
+/** Waits until a file is saved. */
+async function arrives(downloads, name) {
+  for (let tries = 0; tries < 100; tries += 1) {
+    try {
+      if (readdirSync(downloads).includes(name)) return;
+    } catch {
+      // The folder comes with the first file.
+    }
+    await pause(50);
+  }
+}
 async function picture(name, scheme) {
   await tab('Emulation.setEmulatedMedia', { features: [{ name: 'prefers-color-scheme', value: scheme }] });
   const height = await says('Math.ceil(document.documentElement.getBoundingClientRect().height)');
@@ -152,7 +163,7 @@ const tests = {
     for (const wanted of ['Refused: a text is not UTF-8', '14 TEXT at byte', 'correct the text there', `It lies in the section DISKS, which starts at byte 6\u202f961. The 4 sections before it follow the rules.`]) assert.ok(words.includes(wanted), `${wanted}\n${words}`);
     assert.equal(await says('document.querySelector(".here").firstChild.textContent'), 'FC');
     assert.equal(await says('Number(document.querySelector(".here").parentNode.querySelector("th").textContent)'), Math.floor(place / 16) * 16);
-    assert.equal(await says('[...document.querySelectorAll("button")].some((button) => button.textContent.startsWith("Save"))'), false);
+    assert.deepEqual(await says('[...document.querySelectorAll(".acts button")].map((button) => button.textContent)'), ['Save what is kept', 'Remove']);
     if (pictures) await picture(join(root, 'docs/page-damaged.png'), 'dark');
   },
   async 'damage in other places'() {
@@ -171,6 +182,23 @@ const tests = {
       const words = await text();
       assert.ok(words.includes(wanted), `${wanted}\n${words}`);
     }
+  },
+  async 'what salvage would keep'() {
+    const { file: kept, losses } = cimbrolau.salvage(damaged);
+    assert.deepEqual(losses.map(({ start, name }) => [start, name]), [[6961, 'TEXT']]);
+    await open();
+    await choose('panel-damaged.aerosnap');
+    const words = await text();
+    for (const wanted of ['What salvage would keep', '5 sections, in canonical form', `Of ${good.length.toLocaleString('en').replaceAll(',', '\u202f')} bytes ${losses[0].bytes} are lost.`, '14 TEXT: not UTF-8']) assert.ok(words.includes(wanted), `${wanted}\n${words}`);
+    const downloads = join(folder, 'kept');
+    await ask('Browser.setDownloadBehavior', { behavior: 'allow', downloadPath: downloads });
+    await says('[...document.querySelectorAll("button")].find((button) => button.textContent === "Save what is kept").click()');
+    await arrives(downloads, 'panel-damaged.salvaged.aerosnap');
+    assert.equal(Buffer.compare(readFileSync(join(downloads, 'panel-damaged.salvaged.aerosnap')), kept), 0);
+    // Of a file whose header is wrong nothing can be kept.
+    await open();
+    await choose('nothing.aerosnap');
+    assert.doesNotMatch(await text(), /salvage/);
   },
   async 'a file that is dropped'() {
     await open();
@@ -201,14 +229,7 @@ const tests = {
     await ask('Browser.setDownloadBehavior', { behavior: 'allow', downloadPath: downloads });
     await choose('panel.aerosnap');
     await says('[...document.querySelectorAll("button")].find((button) => button.textContent.startsWith("Save")).click()');
-    for (let tries = 0; tries < 100; tries += 1) {
-      try {
-        if (readdirSync(downloads).includes('panel.canonical.aerosnap')) break;
-      } catch {
-        // The folder comes with the first file.
-      }
-      await pause(50);
-    }
+    await arrives(downloads, 'panel.canonical.aerosnap');
     assert.equal(Buffer.compare(readFileSync(join(downloads, 'panel.canonical.aerosnap')), cimbrolau.canonical(good)), 0);
   },
   async 'the policy lets nothing out'() {

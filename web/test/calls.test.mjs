@@ -133,6 +133,36 @@ test('an untrue card moves as well, up to its bounds, and a refusal hands it bac
   assert.throws(() => cimbrolau.removeDisk(panel, { ...card, length: 2n ** 64n }, 1), TypeError);
 });
 
+test('salvage', () => {
+  const form = cimbrolau.canonical(panel);
+  assert.deepEqual(cimbrolau.salvage(panel), { file: form, losses: [] });
+  // A key that comes again in DEVICES, and the end of META cut off.
+  const damaged = panel.slice(0, 410);
+  damaged[209] = 3;
+  const { file, losses } = cimbrolau.salvage(damaged);
+  cimbrolau.check(file);
+  assert.deepEqual(cimbrolau.sections(file).map(({ id }) => id), [5, 6, 4096]);
+  assert.deepEqual(losses, [
+    { start: 126, bytes: 136, number: 13, name: 'KEY', words: 'key again' },
+    { start: 358, bytes: 52, number: 7, name: 'CUT', words: 'section passes the end' },
+  ]);
+  assert.throws(() => cimbrolau.salvage(panel.slice(0, 9)), refused('SHORT', 0));
+  // More losses than the first call has room for: sections of RAM of a version that is not taken.
+  const many = new Uint8Array(16 + 16 * 1000);
+  many.set(EMPTY);
+  for (let at = 16; at < many.length; at += 16) many.set([6, 0, 0, 0, 9], at);
+  const rescued = cimbrolau.salvage(many);
+  assert.deepEqual(rescued.file, EMPTY);
+  assert.deepEqual(rescued.losses.map(({ start, bytes, name }) => [start, bytes, name]), Array.from({ length: 1000 }, (_, at) => [16 + 16 * at, 16, 'SECVER']));
+  // Both rooms, and outputs that a refusal leaves as they were.
+  const [out, records] = [file.length, 48].map((length) => new Uint8Array(length).fill(7));
+  assert.deepEqual(cimbrolau.raw.salvage(damaged, out.subarray(1), records), { number: 16, place: file.length, losses: 0 });
+  assert.deepEqual(cimbrolau.raw.salvage(damaged, out, records.subarray(1)), { number: 16, place: 48, losses: 0 });
+  assert.ok([...out, ...records].every((byte) => byte === 7));
+  assert.deepEqual(cimbrolau.raw.salvage(damaged, out, records), { number: 0, place: file.length, losses: 2 });
+  assert.deepEqual(out, file);
+});
+
 test('refusals have a number, a name, a place and words', () => {
   const cut = panel.slice(0, -1);
   assert.throws(() => cimbrolau.check(cut), (error) => {

@@ -4,7 +4,7 @@ import { closeSync, existsSync, fstatSync, openSync, readFileSync, readSync } fr
 import test from 'node:test';
 import { fileURLToPath } from 'node:url';
 
-import { Cimbrolau, calls } from '../cimbrolau.mjs';
+import { Cimbrolau, LOSS, calls } from '../cimbrolau.mjs';
 
 const WASM = new URL('../../target/wasm/cimbrolau.wasm', import.meta.url);
 const ANSWERS = process.env.DIFFERENTIAL_ANSWERS ?? fileURLToPath(new URL('../../target/wasm/answers', import.meta.url));
@@ -91,14 +91,16 @@ const watch = {
   },
 };
 
-/** Reads a record behind its name: what is given, what is answered, and what the lent memory holds then. */
+/** Reads a record behind its name: what is given, what is answered, and what the lent memory holds then; `more` is lent before the last. */
 function recorded(reader, call, first) {
   const given = [];
+  const outputs = [];
   let lent = null;
-  for (const { kind } of call.parameters) {
+  for (const { kind, name } of call.parameters) {
     if (kind === 'out') {
       const length = reader.u32();
       lent = pattern(length, reader.u8());
+      outputs.push({ name, at: given.length, lent });
       given.push(lent.slice());
     } else if (kind === 'in' || kind === 'both') {
       const length = reader.u32();
@@ -120,21 +122,23 @@ function recorded(reader, call, first) {
   if (call.parameters.some(({ kind }) => kind === 'both')) {
     const from = reader.u32();
     lent.set(reader.bytes(reader.u32()), from);
-  } else if (lent && wanted[0] === 0) {
-    lent.set(reader.bytes(wanted[call.answer.findIndex(({ name }) => name === 'place')]));
+  } else if (wanted[0] === 0) {
+    const number = (field) => wanted[call.answer.findIndex(({ name }) => name === field)];
+    for (const output of outputs) output.lent.set(reader.bytes(output.name === 'losses' ? LOSS * number('losses') : number('place')));
   }
-  return { given, wanted, lent };
+  return { given, wanted, lent, more: outputs.slice(0, -1) };
 }
 
 /** Whether a call answers as it should; what differs in words, or nothing. */
-function compared(cimbrolau, call, { given, wanted, lent }) {
+function compared(cimbrolau, call, { given, wanted, lent, more = [] }) {
   const answered = cimbrolau.raw[call.name](...given);
   for (let at = 0; at < wanted.length; at += 1) {
     const { name } = call.answer[at];
     if (answered[name] !== wanted[at]) return `${name} is ${answered[name]}, natively ${wanted[at]}`;
   }
-  const at = call.parameters.findIndex(({ kind }) => kind === 'out' || kind === 'both');
-  return lent && !same(given[at], lent) ? 'the lent bytes differ' : '';
+  const at = call.parameters.findLastIndex(({ kind }) => kind === 'out' || kind === 'both');
+  const differs = (lent && !same(given[at], lent)) || more.some((output) => !same(given[output.at], output.lent));
+  return differs ? 'the lent bytes differ' : '';
 }
 
 test('the answers of the native library', () => {

@@ -97,6 +97,23 @@ pub fn panel(more: u32, order: Order) -> Vec<u8> {
     file(&[(META, meta()), (RAM, ram), (DEVICES, devices), (DISKS, disks)])
 }
 
+/// A panel whose list of disks is cut, and of whose devices two have one key: META and RAM are whole.
+pub fn damaged_panel() -> Vec<u8> {
+    let devices = device_list(&[3, 4, 13, 3], 64);
+    let ram = vec![0xA5; 1 << 20];
+    let mut file = file(&[(META, meta()), (RAM, ram), (DEVICES, devices), (DISKS, one_disk())]);
+    file.pop();
+    file
+}
+
+/// A file of so many sections of RAM with no payload, whose version is not taken.
+pub fn broken(count: usize) -> Vec<u8> {
+    let mut file = cimbrolau::snapshot::EMPTY.to_vec();
+    let header = [6, 0, 0, 0, 9, 0, 0, 0, 0, 0, 0, 0, 0, 0, 0, 0];
+    (0..count).for_each(|_| file.extend(header));
+    file
+}
+
 fn meta() -> Vec<u8> {
     let mut payload = vec![0; 8 + 1 + 8];
     payload.push(1);

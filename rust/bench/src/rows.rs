@@ -46,7 +46,7 @@ const MIB: usize = 1 << 20;
 type Group = (&'static str, fn(Tell));
 
 /// All rows.
-pub const GROUPS: [Group; 7] = [
+pub const GROUPS: [Group; 8] = [
     ("sizes", sizes),
     ("counts", counts),
     ("texts", texts),
@@ -54,6 +54,7 @@ pub const GROUPS: [Group; 7] = [
     ("rings", rings),
     ("ready", ready),
     ("states", states),
+    ("salvage", salvage),
 ];
 
 /// The reference beside itself, on a short call and on a long one: how far a ratio can be trusted in this run.
@@ -493,6 +494,51 @@ fn ready_row(file: &[u8], input: &str, listed: u64) -> Row {
         contestant(|list| reference::ready(black_box(file), list)),
     ];
     row("ready", input, "reference", READY, &contest(&contestants, &mut ours))
+}
+
+/// The most that salvage may take beside the reference's. It walks a file twice, since both rooms are asked before the first
+/// byte is written and losses have no bound; the reference keeps what it found in memory of its own.
+const SALVAGE: f64 = 2.0;
+
+/// Salvage of files that are accepted, of one that has lost its end and its list, and of one that is nothing but losses.
+fn salvage(tell: Tell) {
+    tell(salvage_row(&inputs::ram(16), "16 B, no section", 0));
+    tell(salvage_row(&inputs::ram(1024), "1 KiB, RAM", 0));
+    tell(salvage_row(&inputs::ram(MIB), "1 MiB, RAM", 0));
+    for order in Order::ALL {
+        let file = inputs::devices(1024, 64, order);
+        tell(salvage_row(&file, &format!("1024 devices {}", order.name()), 0));
+    }
+    tell(salvage_row(&inputs::damaged_panel(), "a panel, 1 MiB, damaged and cut", 2));
+    let broken = inputs::broken(65_535);
+    tell(salvage_row(&broken, "65535 broken sections of 16 B", 65_535));
+}
+
+/// What is kept and what is lost, with so many losses.
+fn salvage_row(file: &[u8], input: &str, losses: usize) -> Row {
+    let records = 24 * losses;
+    let mut ours = vec![0xEE; file.len() + records];
+    let mut theirs = ours.clone();
+    // The records stand before the file, in one buffer.
+    let library = |lent: &mut [u8]| {
+        let (records, out) = lent.split_at_mut(records);
+        let answer = raw::salvage(black_box(file), out, records);
+        (answer.number, answer.place, answer.losses)
+    };
+    let peer = |lent: &mut [u8]| {
+        let (records, out) = lent.split_at_mut(records);
+        let answer = reference::salvage(black_box(file), out, records);
+        (answer.number, answer.place, answer.losses)
+    };
+    let (answer, expected) = (library(&mut ours), peer(&mut theirs));
+    assert_eq!((answer.0, answer.2), (0, losses as u64), "{input}: another answer");
+    assert!(answer == expected && ours == theirs, "{input}: they differ");
+    let contestants = [
+        contestant(library),
+        contestant(peer),
+        contestant(|lent| lent[..file.len()].copy_from_slice(black_box(file))),
+    ];
+    row("salvage", input, "reference", SALVAGE, &contest(&contestants, &mut ours))
 }
 
 fn row(call: &'static str, input: &str, peer: &'static str, target: f64, outcome: &Outcome) -> Row {

@@ -4,8 +4,8 @@
 use crate::command::Command;
 use crate::{add_device, add_disk, canon, card, check, completions, diff, explain, extract, list};
 use crate::{
-    manual, message, ready, region, remove_device, remove_disk, replace_device, set, sheet, show,
-    wrapper,
+    manual, message, ready, region, remove_device, remove_disk, replace_device, salvage, set,
+    sheet, show, wrapper,
 };
 
 pub const ALL: &[Command] = &[
@@ -19,6 +19,7 @@ pub const ALL: &[Command] = &[
     card::COMMAND,
     ready::COMMAND,
     canon::COMMAND,
+    salvage::COMMAND,
     add_device::COMMAND,
     add_disk::COMMAND,
     remove_device::COMMAND,

@@ -22,7 +22,7 @@ use std::path::{Path, PathBuf};
 use std::time::{Duration, Instant};
 
 /// Whether a word means standard input or output.
-fn is_dash(word: &OsStr) -> bool {
+pub fn is_dash(word: &OsStr) -> bool {
     word == "-"
 }
 

@@ -17,7 +17,7 @@ one, whole. Commands that write to one file wait for each other, up to a minute.
 
 Status: 0 done; 1 refused, with the refusal on standard error as `refused NUMBER NAME at PLACE: WHY`, or
 different, not there or not ready; 2 a command line that is not understood; 3 a file that cannot be read or
-written, or too little memory.
+written, or too little memory; 4 done, but something is lost (`cim salvage`).
 ";
 
 /// The column at which what a command does is said.

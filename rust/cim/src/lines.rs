@@ -5,6 +5,7 @@ use crate::failure::Failure;
 use crate::files;
 use crate::json::Object;
 use crate::words::Words;
+use std::ffi::OsStr;
 use std::fmt::{Arguments, Write};
 
 /// Lines that are being made.
@@ -37,5 +38,14 @@ impl Lines {
 
     pub fn print(self) -> Result<(), Failure> {
         files::print(&self.text)
+    }
+
+    /// Prints them beside an output: on standard error if that is standard output.
+    pub fn print_beside(self, out: &OsStr) -> Result<(), Failure> {
+        if !files::is_dash(out) {
+            return self.print();
+        }
+        files::complain(self.text.trim_end());
+        Ok(())
     }
 }

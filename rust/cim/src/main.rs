@@ -2,7 +2,7 @@
 //!
 //! A command reads its input whole, asks the proved library, and prints or writes what that answers. It ends with
 //! status 0; 1 where the library refuses; 2 for a command line that it does not understand; 3 where a file cannot be
-//! read or written.
+//! read or written; 4 where a part of a damaged file is lost.
 
 #![deny(unsafe_code)]
 
@@ -47,6 +47,7 @@ mod registers;
 mod remove_device;
 mod remove_disk;
 mod replace_device;
+mod salvage;
 mod show;
 mod wrapper;
 

@@ -4,6 +4,7 @@
 //! that is cut inside a section is CUT at that section's start. A list that is cut and counts fewer entries is taken, or has
 //! bytes left over where the next entry starts; one that is cut before that does not fit. What no call says is not said.
 
+use crate::json::Object;
 use crate::names;
 use crate::shown::{name_of, size};
 use cimbrolau::snapshot::{self, Device, DeviceKey, Section};
@@ -62,15 +63,15 @@ fn section_start(file: &[u8], place: usize) -> Option<usize> {
 }
 
 /// The header of a section that the table of sections does not show, because its file is refused.
-struct Head {
+pub struct Head {
     key: DeviceKey,
-    length: u64,
+    pub length: u64,
 }
 
 impl Head {
     /// Read by the library: a section's header has the layout of a device's, and its length is a number of 8 bytes, as a
     /// message carries one.
-    fn read(file: &[u8], start: usize) -> Option<Head> {
+    pub fn read(file: &[u8], start: usize) -> Option<Head> {
         let key = device_key(file.get(start..start + 8)?)?;
         let mut message = Message::FrameReady { frame_id: 0 }.write().ok()?;
         let number = message.len() - 8;
@@ -81,10 +82,20 @@ impl Head {
         }
     }
 
-    fn words(&self) -> String {
+    pub fn words(&self) -> String {
         let DeviceKey { id, version, flags } = self.key;
         let section = Section { id, version, flags, offset: 0, length: 0, position: 0 };
         names::section_words(&section)
+    }
+
+    /// What it says, as an object.
+    pub fn object(&self) -> Object {
+        let DeviceKey { id, version, flags } = self.key;
+        Object::new("section")
+            .number("id", id)
+            .number("version", version)
+            .number("flags", flags)
+            .number("length", self.length)
     }
 }
 

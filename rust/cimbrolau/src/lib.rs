@@ -43,6 +43,7 @@ pub mod ready;
 mod records;
 mod refusal;
 pub mod region;
+mod salvage;
 pub mod sheet;
 pub mod snapshot;
 pub mod wrapper;

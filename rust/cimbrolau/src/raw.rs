@@ -177,6 +177,19 @@ pub struct Readiness {
     pub place: u64,
 }
 
+/// What salvage answers: how many bytes are kept, and how many losses there are.
+#[repr(C)]
+#[must_use]
+#[derive(Clone, Copy, Debug, PartialEq, Eq)]
+pub struct Salvaged {
+    /// 0 where the header is taken and both outputs have room, else the number of the refusal.
+    pub number: u32,
+    /// The bytes of the file written, or the refusal's place.
+    pub place: u64,
+    /// The records written, 24 bytes each; 0 beside a refusal.
+    pub losses: u64,
+}
+
 /// What taking answers: where the payload stands in the region.
 #[repr(C)]
 #[must_use]
@@ -196,11 +209,14 @@ pub struct Record {
 const _: () = assert!(size_of::<Answer>() == 16 && size_of::<Numbers>() == 72);
 const _: () = assert!(size_of::<Cursors>() == 32 && size_of::<Pair>() == 24);
 const _: () = assert!(size_of::<Record>() == 32 && size_of::<Readiness>() == 16);
+const _: () = assert!(size_of::<Salvaged>() == 24);
 const _: () = assert!(size_of::<Card>() == 32 && size_of::<Edited>() == 48);
 
 /// The library's own functions. A slice is lent as a pointer and a length, for the time of the call.
 mod c {
-    use super::{Access, Answer, Card, Cursors, Edited, Meta, Numbers, Pair, Readiness, Record};
+    use super::{
+        Access, Answer, Card, Cursors, Edited, Meta, Numbers, Pair, Readiness, Record, Salvaged,
+    };
 
     extern "C" {
         pub fn cimbrolau_cpu_field(
@@ -329,6 +345,14 @@ mod c {
             out: *mut u8,
             out_length: usize,
         ) -> Edited;
+        pub fn cimbrolau_salvage(
+            file: *const u8,
+            file_length: usize,
+            out: *mut u8,
+            out_length: usize,
+            losses: *mut u8,
+            losses_length: usize,
+        ) -> Salvaged;
         pub fn cimbrolau_wrapper_check(wrapper: *const u8, wrapper_length: usize) -> Answer;
         pub fn cimbrolau_controllers(
             wrapper: *const u8,
@@ -667,6 +691,33 @@ pub fn replace_device(
             payload.len(),
             out.as_mut_ptr(),
             out.len(),
+        )
+    }
+}
+
+/// Writes the canonical form of what can be kept of a damaged snapshot file, and a record of 24 bytes for each loss: u64 start,
+/// u64 bytes lost, u32 refusal number, u32 0.
+///
+/// ```
+/// use cimbrolau::raw;
+/// let file = [&cimbrolau::snapshot::EMPTY[..], b"stray"].concat();
+/// let (mut out, mut losses) = ([0; 16], [0; 24]);
+/// let answer = raw::salvage(&file, &mut out, &mut losses);
+/// assert_eq!((answer.number, answer.place, answer.losses), (0, 16, 1));
+/// assert_eq!(out, cimbrolau::snapshot::EMPTY);
+/// assert_eq!(losses, [16, 0, 0, 0, 0, 0, 0, 0, 5, 0, 0, 0, 0, 0, 0, 0, 7, 0, 0, 0, 0, 0, 0, 0]); // CUT
+/// ```
+pub fn salvage(file: &[u8], out: &mut [u8], losses: &mut [u8]) -> Salvaged {
+    // SAFETY: each pointer and length are of one live slice; the library reads `file` and writes within `out` and `losses`,
+    // which no other references name, during the call alone.
+    unsafe {
+        c::cimbrolau_salvage(
+            file.as_ptr(),
+            file.len(),
+            out.as_mut_ptr(),
+            out.len(),
+            losses.as_mut_ptr(),
+            losses.len(),
         )
     }
 }

@@ -5,6 +5,7 @@
 use crate::raw::{self, Card};
 use crate::records::{self, position, table_most, u16_at, u32_at, u64_at, RECORD};
 use crate::refusal::{edited, filled, outcome, Result};
+pub use crate::salvage::{salvage, Loss, Rescued};
 
 /// The shortest snapshot: the header, and no section.
 ///
@@ -303,7 +304,7 @@ const CPUS: usize = 256;
 const MMUS: usize = 256;
 
 /// So many bytes, or as many as a file may have.
-fn file_most(bytes: usize) -> usize {
+pub(crate) fn file_most(bytes: usize) -> usize {
     bytes.min(MOST_BYTES as usize)
 }
 

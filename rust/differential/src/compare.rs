@@ -13,6 +13,7 @@ use crate::edits::{Edit, EditCalls};
 use crate::library;
 use crate::random::Random;
 use crate::rings::RingCalls;
+use crate::salvage::Salvage;
 use crate::sheets::SheetCalls;
 
 const ROOM: u32 = 16;
@@ -36,6 +37,8 @@ pub struct Comparison {
     pub edits: EditCalls,
     /// The numbers that untrue cards are made of, apart from those of the inputs.
     pub(crate) cards: Random,
+    /// The same for salvage.
+    pub salvage: Salvage,
     /// Whether exactly the memory needed is lent, as for outputs too long to write often.
     pub exact: bool,
     /// The library's and the reference's lent memory, with margins.
@@ -95,6 +98,7 @@ impl Comparison {
             sheets: library::SHEETS,
             edits: library::EDITS,
             cards: Random::new(!seed),
+            salvage: library::salvage,
             exact: false,
             ours: vec![],
             theirs: vec![],
@@ -116,6 +120,7 @@ impl Comparison {
             self.edit_beside(file, card, edit);
         }
         self.ready_somewhere(file);
+        self.salvage_short(file);
         self.unchanged(before, file);
         answer
     }
@@ -210,7 +215,13 @@ impl Comparison {
     }
 
     /// A call that answers a number and a place.
-    fn answer<T: Answered>(&mut self, call: &str, inputs: &[&[u8]], ours: T, theirs: T) -> T {
+    pub(crate) fn answer<T: Answered>(
+        &mut self,
+        call: &str,
+        inputs: &[&[u8]],
+        ours: T,
+        theirs: T,
+    ) -> T {
         self.same(call, inputs, ours, theirs);
         self.answers.add(theirs.answer().number);
         theirs
@@ -361,7 +372,7 @@ pub(crate) fn lay_pattern(memory: &mut Vec<u8>, length: usize, salt: u8) {
 }
 
 /// Whether the pattern stands in the margins and behind the written bytes.
-fn pattern_stands(memory: &[u8], written: usize, salt: u8) -> bool {
+pub(crate) fn pattern_stands(memory: &[u8], written: usize, salt: u8) -> bool {
     let period = pattern(salt);
     let mut at = 0;
     while at < memory.len() {

@@ -11,6 +11,7 @@
 //! - [`compare`]: one input given to both, and what is compared; [`edits`]: the same for edits beside a card, [`rings`]: for
 //!   calls that change a region in place, [`sheets`]: for fields of states; [`counts`]: how often each number was answered;
 //! - [`model`]: a plain map that answers edits by looking up and counting;
+//! - [`salvage`]: what is kept of damaged files and what is lost, and that the two together are the file;
 //! - [`planted`]: errors that have to be found;
 //! - [`record`]: calls and their answers written to a file, for the library in WebAssembly.
 //!
@@ -28,5 +29,6 @@ pub mod random;
 pub mod record;
 pub mod regions;
 pub mod rings;
+pub mod salvage;
 pub mod sheets;
 pub mod text;

@@ -1,10 +1,12 @@
 //! The library's calls, with the reference's signatures, recorded where a run asks for it. No other module names the library.
 
 use cimbrolau::raw;
-use reference::{Access, Answer, Card, Cursors, Edited, Meta, Pair, Readiness, Reading, Record};
+use reference::{
+    Access, Answer, Card, Cursors, Edited, Meta, Pair, Readiness, Reading, Record, Salvaged,
+};
 
 use crate::edits::{numbers, Edit, EditCalls};
-use crate::record::{changes, looks, number, writes, Bytes, Fields};
+use crate::record::{changes, looks, number, salvages, writes, Bytes, Fields};
 use crate::rings::RingCalls;
 use crate::sheets::SheetCalls;
 
@@ -126,6 +128,13 @@ pub fn ready(file: &[u8], list: &mut [u8]) -> Readiness {
     writes("ready", &[Bytes(file)], list, |list| {
         let given = raw::ready(file, list);
         Readiness { number: given.number, yes: given.yes, place: given.place }
+    })
+}
+
+pub fn salvage(file: &[u8], out: &mut [u8], losses: &mut [u8]) -> Salvaged {
+    salvages(file, out, losses, |out, losses| {
+        let given = raw::salvage(file, out, losses);
+        Salvaged { number: given.number, place: given.place, losses: given.losses }
     })
 }
 

@@ -8,14 +8,14 @@
 //! is given, in the order of the header: a number as 8 bytes, bytes behind their length in 4 (0xFFFF_FFFF: the first bytes of the record before), a lent output as its
 //! length in 4 bytes and the salt of its pattern in one; the fields of the answer, 8 bytes each; then what was written. For an output these are as many bytes as the
 //! answer says, if it is taken. For bytes changed in place: where the change starts and how many bytes it has, 4 bytes each, and these bytes. The last record is the
-//! byte 0xFF with the number of inputs and of calls.
+//! byte 0xFF with the number of inputs and of calls. Of two outputs each has its length and its salt, and what was written stands in their order.
 
 use std::fs::File;
 use std::io::{BufWriter, Write};
 use std::path::Path;
 use std::sync::{Mutex, OnceLock};
 
-use reference::{Access, Answer, Cursors, Edited, Pair, Readiness, Reading, Record};
+use reference::{Access, Answer, Cursors, Edited, Pair, Readiness, Reading, Record, Salvaged};
 
 use crate::edits::numbers;
 
@@ -60,6 +60,7 @@ fields! {
     Pair: number place start end;
     Record: number place payload_place payload_length;
     Readiness: number yes place;
+    Salvaged: number place losses;
     Access: kind level present long_mode size granularity unusable rest;
 }
 
@@ -162,6 +163,36 @@ pub fn writes<T: Written>(
         recorder.record(name, given, out.len(), again, &lent);
     }
     call(out)
+}
+
+/// Salvage, which writes to two lent outputs: the file's, and 24 bytes for each loss.
+pub fn salvages(
+    file: &[u8],
+    out: &mut [u8],
+    losses: &mut [u8],
+    call: impl Fn(&mut [u8], &mut [u8]) -> Salvaged,
+) -> Salvaged {
+    if let Some(recorder) = RECORDER.get() {
+        let mut recorder = recorder.lock().unwrap();
+        let salt = recorder.calls as u8;
+        let lengths = [out.len(), losses.len()];
+        let lent = lengths.map(|length| [&(length as u32).to_le_bytes()[..], &[salt]].concat());
+        let again = || {
+            let mut own = lengths.map(|length| pattern(length, salt));
+            let [out, losses] = &mut own;
+            let answer = call(out, losses);
+            let kept = if answer.number == 0 { answer.place as usize } else { 0 };
+            let written = [kept, 24 * answer.losses as usize];
+            for ((own, length), written) in own.iter().zip(lengths).zip(written) {
+                let before = pattern(length, salt);
+                assert!(own[written..] == before[written..], "salvage wrote too much");
+            }
+            (answer.fields(), [&own[0][..written[0]], &own[1][..written[1]]].concat())
+        };
+        let longest = lengths[0].max(lengths[1]);
+        recorder.record("salvage", &[Bytes(file)], longest, again, &lent.concat());
+    }
+    call(out, losses)
 }
 
 /// A call that changes its first argument in place; `given` are the others.

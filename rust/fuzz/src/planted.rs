@@ -4,7 +4,9 @@ use differential::planted;
 use reference::answer::{CUT, KEY, MANY, SECVER, TEXT, VALUE};
 use reference::{Answer, Meta};
 
-use crate::subject::{cards, files, messages, meta, regions, states, wrappers, Call, Subject};
+use crate::subject::{
+    cards, files, messages, meta, regions, salvage, states, wrappers, Call, Subject,
+};
 
 const TAKEN: Answer = Answer { number: 0, place: 0 };
 
@@ -23,6 +25,8 @@ pub fn all() -> Vec<(&'static str, Subject)> {
     let sheets = planted::sheets::ALL.iter().chain(planted::sheets::WORDS);
     all.extend(sheets.map(|(name, calls)| (*name, states(*calls))));
     all.extend(planted::cards::ALL.iter().map(|(name, calls)| (*name, cards(*calls))));
+    let in_salvage = planted::salvage::ALL.iter();
+    all.extend(in_salvage.map(|(name, call)| (*name, with(files(), "salvage", salvage(*call)))));
     let check = |error: fn(&[u8], Answer) -> Answer| -> Subject {
         with(files(), "check", Box::new(move |file, _| error(file, reference::check(file))))
     };

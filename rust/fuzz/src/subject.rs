@@ -4,6 +4,7 @@ use differential::edits::{self, card, numbers, Edit, EditCalls, BOUNDS};
 use differential::library;
 use differential::random::Random;
 use differential::rings::{RingCalls, REFERENCE};
+use differential::salvage::{Salvage, LOSS};
 use differential::sheets::SheetCalls;
 use reference::answer::ROOM;
 use reference::{Access, Answer, Meta, Reading};
@@ -73,6 +74,12 @@ pub fn files() -> Subject {
             pair!("canonical", side => side::canonical),
             edit("add_device", Edit::AddDevice((3, 1, 0), b"new")),
             edit("add_disk", Edit::AddDisk(256, b"base", b"")),
+            Pair {
+                name: "salvage",
+                ours: salvage(library::salvage),
+                theirs: salvage(reference::salvage),
+                lends: Lends::Input(LOSS * LOSSES + 24),
+            },
         ],
     }
 }
@@ -175,6 +182,29 @@ fn tell(input: &[u8], out: &mut [u8], numbers: [u64; 4]) {
     for (part, number) in out[input.len()..].chunks_exact_mut(8).zip(numbers) {
         part.copy_from_slice(&number.to_le_bytes());
     }
+}
+
+/// How many records salvage has room for.
+const LOSSES: usize = 2;
+
+/// Salvage, with room for a file as long as its input, or, if that has an odd length, for one of half its length. Behind the
+/// records stands what it answers; what counts as its answer is why something was lost first and how often, so that files
+/// that are damaged in new ways are kept.
+pub fn salvage(salvage: Salvage) -> Call {
+    Box::new(move |file, lent| {
+        let (out, rest) = lent.split_at_mut(file.len());
+        let (records, told) = rest.split_at_mut(LOSS * LOSSES);
+        let room = if file.len() % 2 == 0 { file.len() } else { file.len() / 2 };
+        let answer = salvage(file, &mut out[..room], records);
+        let numbers = [answer.number.into(), answer.place, answer.losses];
+        for (part, number) in told.chunks_exact_mut(8).zip(numbers) {
+            part.copy_from_slice(&number.to_le_bytes());
+        }
+        match (answer.number, answer.losses) {
+            (0, 0) | (1.., _) => Answer { number: answer.number, place: answer.place },
+            (0, losses) => Answer { number: 100 + u32::from(records[16]), place: 4 * losses },
+        }
+    })
 }
 
 /// Disk-controller wrappers.

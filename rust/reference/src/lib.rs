@@ -10,6 +10,7 @@
 //! - [`card`]: what is shown of a canonical file, and how edits move it;
 //! - [`snapshot`], [`wrapper`], [`message`]: the three formats and their calls;
 //! - [`ready`]: what a snapshot lacks to be restored;
+//! - [`salvage`]: what can be kept of a damaged file;
 //! - [`ring`]: regions of shared memory and the rings in them;
 //! - [`sheet`]: the fields of CPU and MMU states.
 
@@ -20,6 +21,7 @@ pub mod list;
 pub mod message;
 pub mod ready;
 pub mod ring;
+pub mod salvage;
 pub mod sheet;
 pub mod snapshot;
 pub mod wrapper;
@@ -32,6 +34,7 @@ pub use ring::{
     region_check, ring_commit, ring_fill, ring_report, ring_reserve, ring_take, Cursors, Pair,
     Record,
 };
+pub use salvage::{salvage, Salvaged};
 pub use sheet::{access, cpu_field, cpu_set, mmu_field, mmu_set, Access};
 pub use snapshot::{
     add_device, add_disk, canonical, check, cpus, devices, disks, meta, mmus, open, remove_device,

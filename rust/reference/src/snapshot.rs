@@ -17,8 +17,8 @@ const MOST_DEVICES_PAYLOAD: u64 = 256 << 20;
 const MOST_LABEL: u32 = 4096;
 
 /// The file's header, and the length of a section's header.
-const HEADER: &[u8; 16] = b"AEROSNAP\x01\x00\x01\x00\x00\x00\x00\x00";
-const SECTION_HEADER: usize = 16;
+pub(crate) const HEADER: &[u8; 16] = b"AEROSNAP\x01\x00\x01\x00\x00\x00\x00\x00";
+pub(crate) const SECTION_HEADER: usize = 16;
 
 const META: u32 = 1;
 const CPU: u32 = 2;
@@ -30,7 +30,7 @@ const CPUS: u32 = 7;
 const MMUS: u32 = 8;
 
 /// A section of a file that is taken.
-struct Section<'a> {
+pub(crate) struct Section<'a> {
     id: u32,
     /// Where its header starts in the file.
     start: usize,
@@ -159,13 +159,7 @@ pub fn replace_device(
 // Reading.
 
 fn read_file(file: &[u8]) -> Taken<Vec<Section<'_>>> {
-    ask(file.len() <= MOST_FILE, SIZE, 0)?;
-    ask(file.len() >= HEADER.len(), SHORT, 0)?;
-    for (start, end, number) in
-        [(0, 8, MAGIC), (8, 10, VERSION), (10, 11, ENDIAN), (11, 12, RESERVED), (12, 16, RESERVED)]
-    {
-        ask(file[start..end] == HEADER[start..end], number, start)?;
-    }
+    read_header(file)?;
     let mut sections = Vec::new();
     let mut at = HEADER.len();
     while at < file.len() {
@@ -176,8 +170,24 @@ fn read_file(file: &[u8]) -> Taken<Vec<Section<'_>>> {
     Ok(sections)
 }
 
+/// The length of a file, and its header.
+pub(crate) fn read_header(file: &[u8]) -> Taken<()> {
+    ask(file.len() <= MOST_FILE, SIZE, 0)?;
+    ask(file.len() >= HEADER.len(), SHORT, 0)?;
+    for (start, end, number) in
+        [(0, 8, MAGIC), (8, 10, VERSION), (10, 11, ENDIAN), (11, 12, RESERVED), (12, 16, RESERVED)]
+    {
+        ask(file[start..end] == HEADER[start..end], number, start)?;
+    }
+    Ok(())
+}
+
 /// Reads the section at `start`, which comes after the sections `before`.
-fn read_section<'a>(file: &'a [u8], start: usize, before: &[Section]) -> Taken<Section<'a>> {
+pub(crate) fn read_section<'a>(
+    file: &'a [u8],
+    start: usize,
+    before: &[Section],
+) -> Taken<Section<'a>> {
     let rest = &file[start..];
     ask(rest.len() >= SECTION_HEADER, CUT, start)?;
     ask(before.len() < MOST_SECTIONS, MANY, start)?;
@@ -308,14 +318,31 @@ fn mmu_record(entry: Entry) -> [u8; RECORD] {
 // The canonical form.
 
 fn write_canonical(sections: &[Section], out: &mut [u8]) -> Taken<usize> {
-    let ordered = canonical_order(sections);
-    let needed = length_of(&ordered);
-    let mut output = Output::with_room(out, needed)?;
-    output.put(HEADER);
-    for section in ordered {
-        put_section(section, &mut output);
+    let form = Canonical::of(sections);
+    let mut output = Output::with_room(out, form.length)?;
+    put_canonical(&form, &mut output);
+    Ok(form.length)
+}
+
+/// A canonical form before it is written: its sections in order, and how long it is.
+pub(crate) struct Canonical<'s, 'a> {
+    ordered: Vec<&'s Section<'a>>,
+    pub(crate) length: usize,
+}
+
+impl<'s, 'a> Canonical<'s, 'a> {
+    pub(crate) fn of(sections: &'s [Section<'a>]) -> Self {
+        let ordered = canonical_order(sections);
+        let length = length_of(&ordered);
+        Canonical { ordered, length }
     }
-    Ok(needed)
+}
+
+pub(crate) fn put_canonical(form: &Canonical, output: &mut Output) {
+    output.put(HEADER);
+    for section in &form.ordered {
+        put_section(section, output);
+    }
 }
 
 /// Known sections in ascending id, then the others in the order found, without the lists that count as absent.

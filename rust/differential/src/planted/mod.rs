@@ -2,4 +2,5 @@
 
 pub mod cards;
 pub mod rings;
+pub mod salvage;
 pub mod sheets;

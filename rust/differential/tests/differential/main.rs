@@ -16,6 +16,7 @@ mod orders;
 mod ready;
 mod removals;
 mod rings;
+mod salvage;
 mod sheets;
 mod shifts;
 mod snapshots;
@@ -80,6 +81,17 @@ const GROUPS: &[Group] = &[
     ("ready: every room", ready::rooms),
     ("ready: damaged panels", ready::damaged),
     ("ready: any devices and disks", ready::any),
+    ("salvage: valid files", salvage::valid),
+    ("salvage: every length cut", salvage::every_cut),
+    ("salvage: every byte changed", salvage::every_byte),
+    ("salvage: every number at its extremes", salvage::every_extreme),
+    ("salvage: two faults at once", salvage::two_faults),
+    ("salvage: random damage", salvage::damaged),
+    ("salvage: sections that come again", salvage::joined),
+    ("salvage: 65 sections and more", salvage::crowded),
+    ("salvage: thousands of broken sections", salvage::thousands),
+    ("salvage: both rooms", salvage::rooms),
+    ("salvage: long files", salvage::long),
     ("bounds: counts", bounds::counts::all),
     ("bounds: texts and messages", bounds::texts::all),
     ("bounds: payloads", bounds::payloads::all),
