@@ -140,11 +140,9 @@ fn a_card_is_shown_and_moves_with_every_edit() {
     let object = r#"{"what":"card","length":71,"sections":1,"devices":2,"payloads":3}"#;
     prints(run(&at, &["card", "--json", "in"]), &format!("{object}\n"));
     prints(fed(&at, &["card", "-"], TWO_DEVICES), "71 bytes, 1 section, 2 devices with 3 bytes\n");
-    fails(
-        fed(&at, &["card", "-"], &TWO_DEVICES[..15]),
-        "refused 1 SHORT at 0: under 16 bytes\n",
-        1,
-    );
+    let told = "refused 1 SHORT at 0: under 16 bytes: it has 15 bytes\n\
+        bytes from 0: [41] 45 52 4F 53 4E 41 50 01\n";
+    fails(fed(&at, &["card", "-"], &TWO_DEVICES[..15]), told, 1);
 
     let key = ["--id", "3", "--version", "1", "--flags", "0"];
     let edits: [(&str, &[&str], &str); 5] = [
