@@ -132,6 +132,49 @@ fn adds_in_any_order_end_in_the_same_bytes() {
 }
 
 #[test]
+fn a_card_is_shown_and_moves_with_every_edit() {
+    let at = folder("card");
+    put(&at, "in", TWO_DEVICES);
+    put(&at, "payload", b"level");
+    prints(run(&at, &["card", "in"]), "71 bytes, 1 section, 2 devices with 3 bytes\n");
+    let object = r#"{"what":"card","length":71,"sections":1,"devices":2,"payloads":3}"#;
+    prints(run(&at, &["card", "--json", "in"]), &format!("{object}\n"));
+    prints(fed(&at, &["card", "-"], TWO_DEVICES), "71 bytes, 1 section, 2 devices with 3 bytes\n");
+    let told = "refused 1 SHORT at 0: under 16 bytes: it has 15 bytes\n\
+        bytes from 0: [41] 45 52 4F 53 4E 41 50 01\n";
+    fails(fed(&at, &["card", "-"], &TWO_DEVICES[..15]), told, 1);
+
+    let key = ["--id", "3", "--version", "1", "--flags", "0"];
+    let edits: [(&str, &[&str], &str); 5] = [
+        (
+            "replace-device",
+            &["--payload", "payload"],
+            "74 bytes, 1 section, 2 devices with 6 bytes",
+        ),
+        (
+            "add-disk",
+            &["--base", "", "--overlay", "a"],
+            "107 bytes, 2 sections, 2 devices with 6 bytes",
+        ),
+        ("remove-device", &[], "86 bytes, 2 sections, 1 device with 1 byte"),
+        ("add-device", &["--payload", "payload"], "107 bytes, 2 sections, 2 devices with 6 bytes"),
+        ("remove-disk", &[], "74 bytes, 1 section, 2 devices with 6 bytes"),
+    ];
+    fs::copy(at.join("in"), at.join("file")).unwrap();
+    for (command, more, card) in edits {
+        let key = if command.ends_with("disk") { &key[..2] } else { &key[..] };
+        let words = [&[command, "file", "file", "--card"], key, more].concat();
+        let output = run(&at, &words);
+        let bytes = fs::read(at.join("file")).unwrap().len();
+        prints(output, &format!("{bytes} bytes written to file\n{card}\n"));
+        prints(run(&at, &["card", "file"]), &format!("{card}\n"));
+    }
+    let words = ["remove-disk", "in", "-", "--id", "3", "--card"];
+    let told = "cim: remove-disk: --card is printed on standard output, which is OUT; see `cim remove-disk --help`\n";
+    fails(run(&at, &words), told, 2);
+}
+
+#[test]
 fn adds_are_refused_as_the_library_refuses() {
     let at = folder("adds_refused");
     put(&at, "in", TWO_DEVICES);

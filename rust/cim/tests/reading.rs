@@ -391,6 +391,7 @@ fn json_has_the_names_of_its_page() {
         &["show", "panel"],
         &["show", "states"],
         &["sheet", "states", "--cpu=0"],
+        &["card", "two"],
         &["ready", "two"],
         &["diff", "panel", "two"],
         &["canon", "two", "new"],

@@ -110,19 +110,23 @@ fn edit(name: &'static str, edit: Edit<'static>) -> Pair {
     Pair { name, ours: made(library::EDITS), theirs: made(edits::REFERENCE), lends: Lends::Needed }
 }
 
-/// Snapshot files opened, and edited beside cards of every kind, with these calls in the library's place.
+/// An edit of a file.
+type Choose = fn(&[u8]) -> Edit<'static>;
+
+/// Snapshot files opened, and edited beside cards of every kind, with these calls in the library's place. What is removed or
+/// replaced is there, if there is anything.
 pub fn cards(calls: EditCalls) -> Subject {
-    let edits: [(&str, Edit); 5] = [
-        ("add_device", Edit::AddDevice((3, 1, 0), b"new")),
-        ("add_disk", Edit::AddDisk(1, b"base", b"")),
-        ("remove_device", Edit::RemoveDevice((3, 1, 0))),
-        ("remove_disk", Edit::RemoveDisk(1)),
-        ("replace_device", Edit::ReplaceDevice((3, 1, 0), b"")),
+    let edits: [(&str, Choose); 5] = [
+        ("add_device", |_| Edit::AddDevice((3, 1, 0), b"new")),
+        ("add_disk", |_| Edit::AddDisk(1, b"base", b"")),
+        ("remove_device", |file| Edit::RemoveDevice(first_device(file))),
+        ("remove_disk", |file| Edit::RemoveDisk(first_disk(file))),
+        ("replace_device", |file| Edit::ReplaceDevice(first_device(file), b"")),
     ];
     let opened = |calls: EditCalls| -> Call {
         Box::new(move |file, out| {
             let opened = (calls.open)(file);
-            tell(file, out, numbers(opened.card));
+            tell(&mut out[file.len()..], numbers(opened.card));
             opened.answer()
         })
     };
@@ -132,10 +136,10 @@ pub fn cards(calls: EditCalls) -> Subject {
         theirs: opened(edits::REFERENCE),
         lends: Lends::Input(32),
     }];
-    pairs.extend(edits.map(|(name, edit)| Pair {
+    pairs.extend(edits.map(|(name, choose)| Pair {
         name,
-        ours: beside(calls, edit),
-        theirs: beside(edits::REFERENCE, edit),
+        ours: beside(calls, choose),
+        theirs: beside(edits::REFERENCE, choose),
         lends: Lends::Input(96),
     }));
     Subject { name: "cards", pairs }
@@ -148,38 +152,60 @@ pub fn library_cards() -> Subject {
 
 /// An edit beside a card that the file's last bytes choose, into lent memory with room for 64 bytes more than the file, or one
 /// that is too short; the card that comes back stands behind it.
-fn beside(calls: EditCalls, edit: Edit<'static>) -> Call {
+fn beside(calls: EditCalls, choose: Choose) -> Call {
     Box::new(move |file, out| {
         let room = match file.last() {
             Some(last) if last % 8 == 7 => file.len() / 2,
             _ => out.len() - 32,
         };
-        let edited = (calls.edit)(file, chosen(file), edit, &mut out[..room]);
+        let edit = choose(file);
+        let edited = (calls.edit)(file, chosen(file, edit), edit, &mut out[..room]);
         let end = out.len() - 32;
-        for (part, number) in out[end..].chunks_exact_mut(8).zip(numbers(edited.card)) {
-            part.copy_from_slice(&number.to_le_bytes());
-        }
+        tell(&mut out[end..], numbers(edited.card));
         edited.answer()
     })
 }
 
-/// The true card of a file, or one with a number near 0, a bound or 2^64, by the file's last three bytes.
-fn chosen(file: &[u8]) -> reference::Card {
+/// The key of the first device, and the id of the first disk, in the order of the tables.
+fn first_device(file: &[u8]) -> (u32, u16, u16) {
+    let [a, b, c, d, e, f, g, h] = first_of(reference::devices, file);
+    (u32::from_le_bytes([a, b, c, d]), u16::from_le_bytes([e, f]), u16::from_le_bytes([g, h]))
+}
+
+fn first_disk(file: &[u8]) -> u32 {
+    let [a, b, c, d, ..] = first_of(reference::disks, file);
+    u32::from_le_bytes([a, b, c, d])
+}
+
+/// The first bytes of a table; zeros where it has no record.
+fn first_of(call: fn(&[u8], &mut [u8]) -> Answer, file: &[u8]) -> [u8; 8] {
+    // No entry has under 12 bytes.
+    let mut table = vec![0; 3 * file.len() + 32];
+    call(file, &mut table);
+    *table.first_chunk().expect("eight bytes")
+}
+
+/// The true card of a file, or one that has a number near 0, a bound or 2^64 before the edit or behind it, by the file's last
+/// three bytes.
+fn chosen(file: &[u8], edit: Edit) -> reference::Card {
     let truth = reference::open(file).card;
     let [.., which, edge, near] = file else { return truth };
     let at = usize::from(which % 5);
     let mut changed = numbers(truth);
     if let Some(number) = changed.get_mut(at) {
+        let made = (edits::REFERENCE.edit)(file, truth, edit, &mut vec![0; file.len() + 64]);
         let (low, high) = BOUNDS[at];
+        let moved = numbers(made.card)[at].wrapping_sub(*number);
         let edge = [0, low, high, u64::MAX][usize::from(edge % 4)];
-        *number = edge.wrapping_add(u64::from(*near) / 8).wrapping_sub(16);
+        let before = if near % 2 == 0 { edge } else { edge.wrapping_sub(moved) };
+        *number = before.wrapping_add(u64::from(*near) / 16).wrapping_sub(8);
     }
     card(changed)
 }
 
-/// Four numbers behind the bytes of the input.
-fn tell(input: &[u8], out: &mut [u8], numbers: [u64; 4]) {
-    for (part, number) in out[input.len()..].chunks_exact_mut(8).zip(numbers) {
+/// Four numbers, one behind the other.
+fn tell(out: &mut [u8], numbers: [u64; 4]) {
+    for (part, number) in out.chunks_exact_mut(8).zip(numbers) {
         part.copy_from_slice(&number.to_le_bytes());
     }
 }
