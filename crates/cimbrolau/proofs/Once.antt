@@ -79,7 +79,7 @@ pub salvage-once : (file out losses : List ℕ) (r s : Salvaged) (new now recs l
 salvage-once file out losses r s new now recs lines a b = canon-once.salvage-once file out losses a b
 
 pub open-once : (file : List ℕ) (r p : Edited) → r ≡ openAnswer (openCall file) → p ≡ openAnswer (openCall file) → r ≡ p
-open-once file r p a b = a ∙ sym b
+open-once file r p a b = equal-once a b
 
 -- cimbrolau_add_device, cimbrolau_add_disk, cimbrolau_remove_device, cimbrolau_remove_disk, cimbrolau_replace_device
 pub edit-once : (card : Card) (e : Edit) (file old : List ℕ) (r p : Edited) (new now : List ℕ) → WritesBeside card (editCall (length old) card file e) old r new → WritesBeside card (editCall (length old) card file e) old p now → (r ≡ p) × (new ≡ now)

@@ -44,7 +44,7 @@ pub use Rattle.sheet.proofs.Once.{make-sse-once, xmm-of-once, cpu-once, cpu-ove
 pub use Rattle.mmu_sheet.proofs.Once.{mmu-once, mmu-over-once}
 -- payloads: index
 pub use Rattle.payloads.proofs.Once.{index-once as payloads-index-once}
--- sections: small; scan; is_list; check_and_find; count_entries
+-- sections: small; scan; is_list; check_and_find; count_entries; fits; divide
 pub use Rattle.sections.proofs.Once.{small-once, scan-once, is-list-once, check-and-find-once, count-entries-once, fits-once as sections-fits-once, divide-once}
 -- cards: move_by
 pub use Rattle.cards.proofs.Once.{move-by-once}
