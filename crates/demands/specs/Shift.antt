@@ -4,7 +4,7 @@
 -- Assumes nothing.
 use mathlib.Core.Path.{_≡_}
 use mathlib.Core.Bool.{true, cond}
-use mathlib.Core.List.{List}
+use mathlib.Core.List.{List, [], _∷_}
 use Prim.Native.Nat.{ℕ}
 use Rattle.answer.specs.Outcome.{taken, refused}
 use Rattle.wire.specs.Numbers.{Bytes}
@@ -13,8 +13,13 @@ use Rattle.aerosnap.specs.Adding.{Name}
 use Rattle.aerosnap.specs.Edits.{Edit, target}
 use Rattle.aerosnap.specs.Maps.{sameName, Map, find, NamesApart, mapAfter, heldThen, AllElse, mapEdit, mapFile}
 use Rattle.cards.specs.declared.Card.{Card}
-use Rattle.cards.specs.Shifts.{CallMade, CallsMade, mapCard, mapThen, LongEnough, AsMap}
+use Rattle.cards.specs.Shifts.{CallMade, fileThen, CallsMade, mapCard, mapThen, LongEnough, AsMap}
 use Rattle.demands.specs.Beside.{TrueCard}
+
+-- every file of a shift from s is canonical
+abbrev pub AllCanonical : List ℕ → List CallMade → Type 0
+AllCanonical s [] = Unit {0}
+AllCanonical s (q ∷ l) = IsCanonical (fileThen s q) × AllCanonical (fileThen s q) l
 
 -- The map is a map.
 pub record Dictionary : Type 0 where
@@ -38,6 +43,7 @@ pub record ShiftFrom (s : List ℕ) (k : Card) : Type 0 where
   pub card : mapCard all-else pairs ≡ k
   pub only : (u : Map) → NamesApart u → ((n : Name) → find n pairs ≡ find n u) → mapFile all-else u ≡ s
   pub answers : (l : List CallMade) → CallsMade s k l → LongEnough all-else pairs l → AsMap all-else pairs s l
+  pub canonical : (l : List CallMade) → CallsMade s k l → AllCanonical s l
 
 pub record Shifts : Type 0 where
   pub dictionary : Dictionary
