@@ -395,6 +395,7 @@ fn json_has_the_names_of_its_page() {
         &["ready", "two"],
         &["diff", "panel", "two"],
         &["canon", "two", "new"],
+        &["salvage", "bad", "saved"],
         &["wrapper", "panel", "--device=256"],
         &["message", "0014030300 0000616263"],
         &["region", region],

@@ -13,6 +13,7 @@
 use std::fs::File;
 use std::io::{BufWriter, Write};
 use std::path::Path;
+use std::sync::atomic::{AtomicBool, Ordering};
 use std::sync::{Mutex, OnceLock};
 
 use reference::{Access, Answer, Cursors, Edited, Pair, Readiness, Reading, Record, Salvaged};
@@ -108,6 +109,17 @@ struct Recorder {
 }
 
 static RECORDER: OnceLock<Mutex<Recorder>> = OnceLock::new();
+
+/// Whether calls are made that are not inputs of their own.
+static ASIDE: AtomicBool = AtomicBool::new(false);
+
+/// Calls that only look at what another one answered, and are not recorded.
+pub fn aside<T>(calls: impl FnOnce() -> T) -> T {
+    ASIDE.store(true, Ordering::Relaxed);
+    let answered = calls();
+    ASIDE.store(false, Ordering::Relaxed);
+    answered
+}
 
 /// Records from now on.
 pub fn start(path: &Path) {
@@ -242,6 +254,9 @@ impl Recorder {
         again: impl FnOnce() -> (Vec<u64>, Vec<u8>),
         lent_as: &[u8],
     ) {
+        if ASIDE.load(Ordering::Relaxed) {
+            return;
+        }
         let bytes = || {
             given.iter().filter_map(|one| match one {
                 Bytes(bytes) => Some(*bytes),

@@ -5,6 +5,7 @@ use reference::Salvaged;
 
 use crate::compare::{fingerprint, lay_pattern, pattern_stands, Comparison, MARGIN};
 use crate::library;
+use crate::record::aside;
 
 /// The call: a file, and what is lent for the file that is kept and for the records.
 pub type Salvage = fn(&[u8], &mut [u8], &mut [u8]) -> Salvaged;
@@ -34,7 +35,7 @@ impl Comparison {
         let before = fingerprint(file);
         self.salvage_somewhere(file);
         let (kept, losses) = kept_and_lost(file)?;
-        if let Err(what) = holds(file, &kept, &losses) {
+        if let Err(what) = aside(|| holds(file, &kept, &losses)) {
             self.fail("salvage", &[file], &what);
         }
         self.unchanged(before, file);
