@@ -544,13 +544,13 @@ fn edit(
     }
 
     let mut output = Output::with_room(out, needed)?;
-    let mut after_edit = card_of(&others);
+    let mut after_edit = before_edit;
     after_edit.length = needed as u64;
-    after_edit.sections += u64::from(written);
+    after_edit.sections = others.len() as u64 + u64::from(written);
     if target.id == DEVICES {
-        let kept = before.iter().chain(after).map(|entry| u64_at(entry.bytes, 8));
         after_edit.devices = count as u64;
-        after_edit.payloads = kept.sum::<u64>() + wish.length().saturating_sub(16);
+        after_edit.payloads += wish.length().saturating_sub(16);
+        after_edit.payloads -= there.map_or(0, |entry| u64_at(entry.bytes, 8));
     }
     let card = card.moved(before_edit, after_edit)?;
 
