@@ -18,6 +18,7 @@ const WRITERS: [&str; 8] = [
     "cimbrolau_remove_disk",
     "cimbrolau_replace_device",
     "cimbrolau_add_disk",
+    "cimbrolau_salvage",
     "cimbrolau_wrapper_canonical",
     "cimbrolau_message_write",
 ];
