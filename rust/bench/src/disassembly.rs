@@ -11,13 +11,14 @@ use std::process::Command;
 const ARCHIVE: &str = concat!(env!("CARGO_MANIFEST_DIR"), "/../../target/staticlib/libcimbrolau.a");
 
 /// The calls that copy bytes of any number, in parts.
-const WRITERS: [&str; 8] = [
+const WRITERS: [&str; 9] = [
     "cimbrolau_canonical",
     "cimbrolau_add_device",
     "cimbrolau_remove_device",
     "cimbrolau_remove_disk",
     "cimbrolau_replace_device",
     "cimbrolau_add_disk",
+    "cimbrolau_salvage",
     "cimbrolau_wrapper_canonical",
     "cimbrolau_message_write",
 ];

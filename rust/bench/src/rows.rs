@@ -496,8 +496,8 @@ fn ready_row(file: &[u8], input: &str, listed: u64) -> Row {
     row("ready", input, "reference", READY, &contest(&contestants, &mut ours))
 }
 
-/// The most that salvage may take beside the reference's. It walks a file twice, since both rooms are asked before the first
-/// byte is written and losses have no bound; the reference keeps what it found in memory of its own.
+/// The most that salvage may take beside the reference's. It walks a damaged file twice, since both rooms are asked before the
+/// first byte is written and losses have no bound; the reference keeps what it found in memory of its own.
 const SALVAGE: f64 = 2.0;
 
 /// Salvage of files that are accepted, of one that has lost its end and its list, and of one that is nothing but losses.
