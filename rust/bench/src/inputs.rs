@@ -136,9 +136,14 @@ fn disk(list: &mut Vec<u8>, id: u32, base: &[u8]) {
 }
 
 fn device_list(ids: &[u32], payload: usize) -> Vec<u8> {
+    devices_of(ids, |_| payload)
+}
+
+/// The same with a length for each id.
+fn devices_of(ids: &[u32], length: impl Fn(u32) -> usize) -> Vec<u8> {
     let mut list = (ids.len() as u32).to_le_bytes().to_vec();
     for id in ids {
-        framed(&mut list, *id, &vec![0x5A; payload]);
+        framed(&mut list, *id, &vec![0x5A; length(*id)]);
     }
     list
 }
@@ -146,6 +151,11 @@ fn device_list(ids: &[u32], payload: usize) -> Vec<u8> {
 /// A file with `count` devices of `payload` bytes each.
 pub fn devices(count: u32, payload: usize, order: Order) -> Vec<u8> {
     file(&[(DEVICES, device_list(&order.ids(count), payload))])
+}
+
+/// A file with `count` devices of 0 to 199 bytes each.
+pub fn mixed_devices(count: u32, order: Order) -> Vec<u8> {
+    file(&[(DEVICES, devices_of(&order.ids(count), |id| id as usize * 37 % 200))])
 }
 
 /// A file with `count` disks, each with a base image's name and no overlay.

@@ -49,6 +49,7 @@ type Group = (&'static str, fn(Tell));
 pub const GROUPS: [Group; 8] = [
     ("sizes", sizes),
     ("counts", counts),
+    ("mixed", mixed),
     ("texts", texts),
     ("messages", messages),
     ("rings", rings),
@@ -104,6 +105,19 @@ fn counts(tell: Tell) {
         let file = inputs::disks(255, order);
         let input = format!("255 disks {}", order.name());
         disk_rows(Case { file: &file, input, reading, writing: 1.2 }, tell);
+    }
+}
+
+/// The table of devices whose payloads are of many lengths, so that none stands where entries of one length would.
+fn mixed(tell: Tell) {
+    for order in Order::ALL {
+        for count in [4, 16, 64, 256, 1024, 4095] {
+            let file = inputs::mixed_devices(count, order);
+            let input = format!("{count} devices of mixed lengths {}", order.name());
+            let reading = if order == Order::Descending { 2.0 } else { 1.25 };
+            let case = Case { file: &file, input, reading, writing: 1.2 };
+            tell(reading_row("devices", &case, raw::devices, reference::devices));
+        }
     }
 }
 
