@@ -46,7 +46,7 @@ const MIB: usize = 1 << 20;
 type Group = (&'static str, fn(Tell));
 
 /// All rows.
-pub const GROUPS: [Group; 8] = [
+pub const GROUPS: [Group; 9] = [
     ("sizes", sizes),
     ("counts", counts),
     ("mixed", mixed),
