@@ -195,6 +195,13 @@ const tests = {
     await says('[...document.querySelectorAll("button")].find((button) => button.textContent === "Save what is kept").click()');
     await arrives(downloads, 'panel-damaged.salvaged.aerosnap');
     assert.equal(Buffer.compare(readFileSync(join(downloads, 'panel-damaged.salvaged.aerosnap')), kept), 0);
+    // What was saved follows the rules, and lacks the disks.
+    writeFileSync(path('panel-salvaged.aerosnap'), kept);
+    await open();
+    await choose('panel-salvaged.aerosnap');
+    assert.match(await text(), /5 sections/);
+    assert.doesNotMatch(await text(), /Refused/);
+    if (pictures) await picture(join(root, 'docs/page-salvaged.png'), 'light');
     // Of a file whose header is wrong nothing can be kept.
     await open();
     await choose('nothing.aerosnap');
