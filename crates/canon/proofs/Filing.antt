@@ -3,40 +3,51 @@
 use mathlib.Core.Path.{_≡_, refl, sym, _∙_, ap, subst}
 use mathlib.Core.Logic.{_≢_}
 use mathlib.Core.List.{List, [], _∷_, _++_, map, append-nil, append-assoc}
-use mathlib.Core.Bool.{Bool, true, false, cond, _&&_}
+use mathlib.Core.Bool.{Bool, true, false, cond}
 use Prim.Native.Nat.{ℕ, zero, suc, _+_, _-_, _≤_, _<_}
 use native.Mathlib.Omega.{arith}
-use lib.ListN.{length, take, drop, getD, length-append, length-drop, length-take, take-append-drop, drop-of-length-le}
-use lib.Seq.{take-append-seam, drop-append-seam, drop-drop, take-at, drop-at, length-take-le}
+use lib.ListN.{length, take, drop, getD, length-append, length-drop, take-append-drop, drop-of-length-le}
+use lib.Seq.{take-append-seam, drop-append-seam, drop-drop, length-take-le}
 use lib.Dec.{leb, ltb, eqb}
 use borrow.Author.Tests.{leb-true, le-leb, lt-ltb, ltb-true, ltb-false, eq-eqb, ne-eqb, eqb-true, eqb-false}
-use Rattle.answer.specs.Numbers.{CUT, MANY}
-use Rattle.answer.specs.Outcome.{Outcome, taken, refused, checked, after}
+use Rattle.answer.specs.Outcome.{Outcome, taken, after}
 use Rattle.answer.proofs.Checks.{and-true, pass-checked}
+use Rattle.answer.proofs.Outcomes.{taken-is}
 use Rattle.wire.specs.Numbers.{leAt}
 use Rattle.wire.proofs.Numbers.{leAt-append, leAt-drop, leAt-here}
-use Rattle.order.specs.Keyed.{Every, Fresh, flat, weigh}
+use Rattle.order.specs.Keyed.{Every, Fresh, flat, keep}
 use Rattle.order.specs.Entries.{join}
-use Rattle.order.proofs.Folds.{flat-append, weigh-append}
+use Rattle.order.proofs.Folds.{flat-append, every-imp}
+use Rattle.order.proofs.Keeps.{keep-append, keep-none}
 use Rattle.lists.specs.Lists.{whole}
 use Rattle.aerosnap.specs.Known.{known, slot}
-use Rattle.aerosnap.specs.Payloads.{Body, bodyOf, opaque}
-use Rattle.aerosnap.specs.File.{fileMost, sectionsMost, header, idOf, versionOf, lengthOf, flagsOf, payloadOf, slotOf, fitsIn, frameChecks, ruled, sectionOf}
+use Rattle.aerosnap.specs.Payloads.{Body}
+use Rattle.aerosnap.specs.File.{fileMost, sectionsMost, idOf, versionOf, lengthOf, flagsOf, payloadOf, slotOf, fitsIn, frameChecks, ruled, sectionOf, fileOf}
 use Rattle.aerosnap.specs.Rules.{IsSection, IsFile, isKnown}
-use Rattle.aerosnap.specs.Content.{tidied, rank, contentOf, secs, render}
+use Rattle.aerosnap.specs.Content.{tidied, isId}
 use Rattle.aerosnap.specs.Salvage.{Part, keeps, loses, bytesIn, keptBy, partLength, readPart, partBy, partOf, partsFrom, partsOf, allKept}
 use Rattle.aerosnap.proofs.Judged.{span, part-stands}
-use Rattle.aerosnap.proofs.Parts.{part-length, part-kept, section-fits, Kept, gone, took}
-use Rattle.aerosnap.proofs.Rescued.{kept-valid}
+use Rattle.aerosnap.proofs.Parts.{part-length, part-kept, section-fits, Kept, took}
+use Rattle.aerosnap.proofs.Rescued.{kept-valid, no-loss, no-loss-taken}
 use Rattle.aerosnap.proofs.Slots.{Once, rest-once, first-once, known-range}
+use Rattle.sections.specs.Walks.{sectionsIn}
 use Rattle.sections.specs.Index.{startsOf, kept}
-use Rattle.sections.specs.Directory.{directoryPlaces, Seat, seats, seatOf, othersIn, Directory}
+use Rattle.sections.specs.Directory.{directoryPlaces, Seat, seats, seatOf, othersIn}
 use Rattle.sections.proofs.Kept.{kept-all, body-other, starts-most}
 use Rattle.sections.proofs.Reading.{Held}
 use Rattle.sections.proofs.Rules.{ruled-not}
 use Rattle.canon.specs.Steps.{bytesFor, mine, ranked, WholeSection}
-use Rattle.canon.specs.Filed.{held, HoldsKept, Filed, otherBytes, othersFrom}
+use Rattle.canon.specs.Filed.{held, Filed, WholeFile, otherBytes, othersFrom}
 use Rattle.canon.proofs.Order.{mine-here, mine-not}
+
+-- ---- a file that is taken
+
+-- its sections are those that are kept
+pub whole-taken : {s index : List ℕ} → WholeFile s index → fileOf s ≡ taken (held s)
+whole-taken {s} v = let h = v .filed .passes in no-loss-taken s h (no-loss s h .1 (sectionsIn s, v .read))
+
+pub whole-held : {s index : List ℕ} → WholeFile s index → held s ≡ sectionsIn s
+whole-held v = taken-is (sym (whole-taken v) ∙ v .read)
 
 -- ---- the section of a known id
 
@@ -44,25 +55,26 @@ module _ (i : ℕ) (a : 1 ≤ i) (b : i ≤ 8) where
   i-known : known i ≡ true
   i-known = rw (le-leb 1 i a, le-leb i 8 b)
 
-  -- what is written of it, and of another
-  mine-is : (e : List ℕ) → idOf e ≡ i → mine i e ≡ bytesFor e
-  mine-is e q = mine-here i e refl refl (ap {B = ℕ} (λ (n : ℕ). cond (known n) n 9) q ∙ ap (λ (t : Bool). cond t i 9) i-known)
-
-  mine-other : (e : List ℕ) → idOf e ≢ i → mine i e ≡ []
-  mine-other e q = mine-not i e refl refl (go (known (idOf e)))
+  -- what is written of it, by the sections that have the id
+  by-id : (l : List (List ℕ)) → ranked i l ≡ flat bytesFor (keep (isId i) l)
+  by-id [] = refl
+  by-id (e ∷ l) = go (eqb (idOf e) i) refl (by-id l)
     where
-      go : (t : Bool) → cond t (idOf e) 9 ≢ i
-      go true z = q z
-      go false z = omega arith
+      other : idOf e ≢ i → (t : Bool) → cond t (idOf e) 9 ≢ i
+      other q true z = q z
+      other q false z = omega arith
 
-  fresh-none : (l : List (List ℕ)) → Fresh slotOf (slot i) l → ranked i l ≡ []
-  fresh-none [] h = refl
-  fresh-none (e ∷ l) h = rw (mine-other e (λ q. h .0 (ap slot (sym q)))) (fresh-none l (h .1))
+      go : (t : Bool) → eqb (idOf e) i ≡ t → ranked i l ≡ flat bytesFor (keep (isId i) l) → mine i e ++ ranked i l ≡ flat bytesFor (cond t (e ∷ keep (isId i) l) (keep (isId i) l))
+      go true t r = cc (mine-here i e refl refl (ap {B = ℕ} (λ (n : ℕ). cond (known n) n 9) (eqb-true (idOf e) i t) ∙ ap (λ (b : Bool). cond b i 9) i-known), r)
+      go false t r = cc (mine-not i e refl refl (other (eqb-false (idOf e) i t) (known (idOf e))), r)
+
+  fresh-none : (l : List (List ℕ)) → Fresh slotOf (slot i) l → keep (isId i) l ≡ []
+  fresh-none l h = keep-none (isId i) l (every-imp (λ y z. ne-eqb (idOf y) i (λ q. z (ap slot (sym q)))) l h)
 
   -- no part keeps a section with the id, or one does, and none before it
   pub data Seated (at n have : ℕ) (l : List Part) : Type 0 where
-    vacant : ranked i (allKept l) ≡ [] → ((f : Seat → ℕ) → seatOf f i (seats at n have l) ≡ 0) → Seated at n have l
-    sits : (done : List Part) (e : List ℕ) (more : List Part) → l ≡ done ++ (keeps e ∷ more) → idOf e ≡ i → ranked i (allKept done) ≡ []
+    vacant : keep (isId i) (allKept l) ≡ [] → ((f : Seat → ℕ) → seatOf f i (seats at n have l) ≡ 0) → Seated at n have l
+    sits : (done : List Part) (e : List ℕ) (more : List Part) → l ≡ done ++ (keeps e ∷ more) → idOf e ≡ i → keep (isId i) (allKept done) ≡ []
         → seatOf (λ x. x .place) i (seats at n have l) ≡ at + span done → seatOf (λ x. x .first) i (seats at n have l) ≡ n + length (kept have (allKept done)) → Seated at n have l
 
   pub seated : (l : List Part) (at n have : ℕ) → Seated at n have l
@@ -77,11 +89,11 @@ module _ (i : ℕ) (a : 1 ≤ i) (b : i ≤ 8) where
           let z : at ≡ at + 0 = omega arith in
           let y : n ≡ n + 0 = omega arith in
           sits [] e l refl (eqb-true (idOf e) i t) refl (rw t z) (rw t y)
-      go false t (vacant r f) = vacant (rw (mine-other e (eqb-false (idOf e) i t)) r) (λ g. rw t (f g))
+      go false t (vacant r f) = vacant (rw t r) (λ g. rw t (f g))
       go false t (sits done x more q k r p o) =
           let z = length-append e (join (map bytesIn done)) in
           let y = length-append (whole have (startsOf e)) (kept (have - w) (allKept done)) in
-          sits (keeps e ∷ done) x more (ap (λ (m : List Part). keeps e ∷ m) q) k (rw (mine-other e (eqb-false (idOf e) i t)) r) (rw t (p ∙ omega (arith, z))) (rw t (o ∙ omega (arith, y)))
+          sits (keeps e ∷ done) x more (ap (λ (m : List Part). keeps e ∷ m) q) k (rw t r) (rw t (p ∙ omega (arith, z))) (rw t (o ∙ omega (arith, y)))
   seated (loses m e ∷ l) at n have = go (seated l (at + length e) n have)
     where
       go : Seated (at + length e) n have l → Seated at n have (loses m e ∷ l)
@@ -106,6 +118,8 @@ module _ (i : ℕ) (a : 1 ≤ i) (b : i ≤ 8) where
   pub record SectionHere (s index : List ℕ) : Type 0 where
     pub sec : List ℕ
     pub whole : WholeSection sec
+    pub id : idOf sec ≡ i
+    pub alone : keep (isId i) (held s) ≡ sec ∷ []
     pub bytes-are : ranked i (held s) ≡ bytesFor sec
     pub far : 16 ≤ getD index i 0
     pub near : getD index i 0 + length sec ≤ length s
@@ -124,12 +138,15 @@ module _ (i : ℕ) (a : 1 ≤ i) (b : i ≤ 8) where
     place-is : getD index i 0 ≡ seatOf (λ x. x .place) i (seats 16 directoryPlaces have (partsOf s))
     place-is = v .directory .places i a b
 
-    pub filed-none : getD index i 0 ≡ 0 → ranked i (held s) ≡ []
-    filed-none z = go seat
+    pub filed-absent : getD index i 0 ≡ 0 → keep (isId i) (held s) ≡ []
+    filed-absent z = go seat
       where
-        go : Seated 16 directoryPlaces have (partsOf s) → ranked i (held s) ≡ []
+        go : Seated 16 directoryPlaces have (partsOf s) → keep (isId i) (held s) ≡ []
         go (vacant r f) = r
         go (sits done e more q k r p o) = absurd (omega (arith, place-is, p))
+
+    pub filed-none : getD index i 0 ≡ 0 → ranked i (held s) ≡ []
+    filed-none z = by-id (held s) ∙ ap (flat bytesFor) (filed-absent z)
 
     pub filed-some : getD index i 0 ≢ 0 → SectionHere s index
     filed-some z = go seat
@@ -148,7 +165,12 @@ module _ (i : ℕ) (a : 1 ≤ i) (b : i ≤ 8) where
             let is : IsSection e = every-here IsSection (allKept done) e (allKept more) (subst (Every IsSection) l (valid .are)) in
             let at : getD index i 0 ≡ 16 + span done = place-is ∙ p in
             let st = part-stands s (bound .1) (bound .0) done (keeps e) more q in
-            let none-behind : ranked i (allKept more) ≡ [] = fresh-none (allKept more) (subst (λ (j : ℕ). Fresh slotOf j (allKept more)) (ap slot k) (behind-once (allKept done) e (allKept more) once (ap known k ∙ i-known))) in
+            let none-behind : keep (isId i) (allKept more) ≡ [] = fresh-none (allKept more) (subst (λ (j : ℕ). Fresh slotOf j (allKept more)) (ap slot k) (behind-once (allKept done) e (allKept more) once (ap known k ∙ i-known))) in
+            let only : keep (isId i) (held s) ≡ e ∷ [] =
+            ap (keep (isId i)) l
+            ∙ keep-append (isId i) (allKept done) (e ∷ allKept more)
+            ∙ cc (r, ap (λ (t : Bool). cond t (e ∷ keep (isId i) (allKept more)) (keep (isId i) (allKept more))) (eq-eqb (idOf e) i k), none-behind)
+            in
             let all : kept have (held s) ≡ flat startsOf (held s) = kept-all have (held s) (v .room .starts) in
             let fl : flat startsOf (held s) ≡ flat startsOf (allKept done) ++ (startsOf e ++ flat startsOf (allKept more)) = ap (flat startsOf) l ∙ flat-append startsOf (allKept done) (e ∷ allKept more) in
             let n-done = length-append (flat startsOf (allKept done)) (startsOf e ++ flat startsOf (allKept more)) in
@@ -164,11 +186,9 @@ module _ (i : ℕ) (a : 1 ≤ i) (b : i ≤ 8) where
             record {
               sec = e;
               whole = record { is = is; small = omega (arith, st .1, bound .1) };
-              bytes-are =
-                  ap (ranked i) l
-                  ∙ flat-append (mine i) (allKept done) (e ∷ allKept more)
-                  ∙ cc (r, mine-is e k, none-behind)
-                  ∙ append-nil (bytesFor e);
+              id = k;
+              alone = only;
+              bytes-are = by-id (held s) ∙ ap (flat bytesFor) only ∙ append-nil (bytesFor e);
               far = omega (arith, at);
               near = omega (arith, at, st .1);
               short = bound .1;

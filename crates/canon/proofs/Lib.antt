@@ -1,4 +1,3 @@
-pub mod Walks
 pub mod Pieces
 pub mod Order
 pub mod Changed

@@ -1,15 +1,15 @@
--- One section as it is written: which are lists, and the bytes of each.
+-- One section as it is written.
 -- Assumes nothing.
 use mathlib.Core.Path.{_≡_, refl, sym, _∙_, ap}
 use mathlib.Core.List.{List, [], _++_, map, append-assoc}
-use mathlib.Core.Bool.{Bool, true, false, cond, _||_}
+use mathlib.Core.Bool.{Bool, true, false, cond}
 use mathlib.Core.Logic.{_≢_}
 use Prim.Native.Nat.{ℕ, _+_, _-_, _≤_}
 use native.Mathlib.Omega.{arith}
 use lib.ListN.{length, take, drop, length-drop, take-append-drop}
 use lib.Seq.{take-add, length-take-le, getD-drop, drop-drop}
 use lib.Dec.{eqb}
-use borrow.Author.Tests.{eq-eqb, ne-eqb, eqb-true}
+use borrow.Author.Tests.{eq-eqb, ne-eqb}
 use Rattle.answer.specs.Outcome.{taken}
 use Rattle.wire.specs.Numbers.{Bytes, leAt, bytesOf}
 use Rattle.wire.specs.Parts.{put, Wrote}
@@ -47,29 +47,6 @@ filling-next-put x rest v e = record { part = v .part ++ x; whole = v .whole ∙
 
 pub filling-put : {all old rest : List ℕ} {t : ℕ} {new last : List ℕ} → Filling all old rest t new → last ≡ put t rest new → Wrote all old last (t + length rest)
 filling-put {rest = rest} v e = rw (v .whole) (wrote-put (v .wrote) rest (omega (arith, filling-sum v, filling-long v, v .room)) e)
-
--- ---- which sections are lists
-
-empty-list : (id v : ℕ) (e : List ℕ) → isListId id ≡ true → isEmptyBy (bodyOf id v) e ≡ eqb (length e) 20
-empty-list id v e h = go (eqb id 4) refl (eqb id 5) refl (eqb id 7) refl (eqb id 8) refl h
-  where
-    is : (n : ℕ) → eqb id n ≡ true → isEmptyBy (bodyOf n v) e ≡ eqb (length e) 20 → isEmptyBy (bodyOf id v) e ≡ eqb (length e) 20
-    is n q r = ap (λ (i : ℕ). isEmptyBy (bodyOf i v) e) (eqb-true id n q) ∙ r
-
-    go : (a : Bool) → eqb id 4 ≡ a → (b : Bool) → eqb id 5 ≡ b → (c : Bool) → eqb id 7 ≡ c → (d : Bool) → eqb id 8 ≡ d → (a || b || c || d) ≡ true → isEmptyBy (bodyOf id v) e ≡ eqb (length e) 20
-    go true p b q c r d s h = is 4 p refl
-    go false p true q c r d s h = is 5 q refl
-    go false p false q true r d s h = is 7 r refl
-    go false p false q false r true s h = is 8 s refl
-    go false p false q false r false s h = let z : _≡_ {A = ℕ} 0 1 = cc in absurd (omega arith)
-
--- ---- how many bytes
-
-pub size-plain : (e : List ℕ) {id : ℕ} → id ≡ idOf e → isListId id ≡ false → length e ≡ length (bytesFor e)
-size-plain e {id} i h = sym (ap length (plain-written e (listed-id (idOf e) (versionOf e) ∙ rw i at h)))
-
-pub size-list : (e : List ℕ) → WholeSection e → {id : ℕ} → id ≡ idOf e → isListId id ≡ true → length (bytesFor e) ≡ cond (eqb (length e) 20) 0 (length e)
-size-list e w i h = tidy-size e (w .is) ∙ ap (λ (b : Bool). cond b 0 (length e)) (empty-list (idOf e) (versionOf e) e (rw i at h))
 
 -- ---- other sections
 

@@ -105,7 +105,7 @@ pub record HoldsList (i : Side) (s index : List ℕ) (w : Site) : Type 0 where
   pub begins : w .begin ≤ w .end
   pub ends : w .end ≤ length s
   pub firsts : w .first ≤ w .last
-  pub early : w .first ≤ 4864
+  pub early : w .first ≤ 4883
   pub lasts : w .last ≤ length index
   pub entries : map (entryBy (kindAt i) (siteBytes s w)) (siteStarts index w) ≡ oldEntries i s
   pub keys : map (keyAt (kindAt i) (siteBytes s w)) (siteStarts index w) ≡ map (kindAt i .key) (oldEntries i s)
@@ -123,7 +123,7 @@ pub record Fair (w : Site) (q : ℕ) : Type 0 where
   pub order : w .first ≤ w .last
   pub within : q ≤ w .last - w .first
   pub few : w .last - w .first ≤ 4096
-  pub places : w .last ≤ 8960
+  pub places : w .last ≤ 8979
   pub small : payloadLong w ≤ fileMost
 
 -- the entries from q to r go, and the list then has so many entries and its payload so many bytes

@@ -1,14 +1,18 @@
 -- The sections that are kept of a file, by the directory of an index: what writers ask, whether all of the file is taken or only a part of it is kept.
 -- Assumes nothing.
+use mathlib.Core.Path.{_≡_}
 use mathlib.Core.List.{List, [], _++_}
 use mathlib.Core.Bool.{cond}
 use Prim.Native.Nat.{ℕ, zero, suc, _+_, _-_, _≤_}
 use lib.ListN.{length, take, drop}
-use Rattle.answer.specs.Outcome.{Pass}
+use Rattle.answer.specs.Outcome.{refused, Pass}
+use Rattle.answer.specs.declared.Test.{Test}
+use Rattle.answer.specs.declared.Test.the-variants.{Fault, Fine}
 use Rattle.order.specs.Keyed.{flat}
 use Rattle.aerosnap.specs.Known.{known}
-use Rattle.aerosnap.specs.File.{headerChecks, idOf, lengthOf, fitsIn}
+use Rattle.aerosnap.specs.File.{headerChecks, idOf, lengthOf, fitsIn, fileOf}
 use Rattle.aerosnap.specs.Salvage.{partsOf, allKept}
+use Rattle.sections.specs.Walks.{Read}
 use Rattle.sections.specs.Index.{startsOf, HoldsStarts}
 use Rattle.sections.specs.Directory.{directoryPlaces, Directory}
 
@@ -32,6 +36,16 @@ pub record Filed (s index : List ℕ) : Type 0 where
   pub old : List ℕ
   pub directory : Directory (partsOf s) old index
   pub room : HoldsKept s (length old)
+
+-- all of s is taken, and the index has its directory and all starts of its lists
+pub record WholeFile (s index : List ℕ) : Type 0 where
+  pub read : Read s
+  pub filed : Filed s index
+
+-- what a file answers whose index is made
+abbrev pub Indexed : List ℕ → List ℕ → Test → Type 0
+Indexed s index (Fault n p) = fileOf s ≡ refused n p
+Indexed s index Fine = WholeFile s index
 
 -- the bytes of the first u sections of b whose ids are not known, up to one that does not fit; n sections are looked at
 unfoldable pub otherBytes : ℕ → ℕ → List ℕ → List ℕ

@@ -21,8 +21,7 @@ use Rattle.aerosnap.specs.Calls.{canonicalCall}
 use Rattle.cards.specs.declared.Card.{Card}
 use Rattle.cards.specs.declared.Edited.{Edited}
 use Rattle.cards.specs.Cards.{payloadSize, openFile, openAnswer, editCard, WritesBeside, blankCard}
-use Rattle.sections.specs.Walks.{sectionsIn, Read}
-use Rattle.sections.specs.Index.{Reading}
+use Rattle.sections.specs.Walks.{sectionsIn}
 use Rattle.canon.specs.declared.Site.{Site}
 use Rattle.canon.specs.declared.Cut.{Cut}
 use Rattle.canon.specs.declared.Change.{Change}
@@ -30,6 +29,7 @@ use Rattle.canon.specs.declared.Planned.{Planned}
 use Rattle.canon.specs.declared.Planned.the-variants.{Fault, Fits}
 use Rattle.canon.specs.declared.Work.{Work}
 use Rattle.canon.specs.declared.Work.the-variants.{Canonical, Opening, Editing}
+use Rattle.canon.specs.Filed.{WholeFile}
 use Rattle.canon.specs.Edits.{editOf, ownRows, oldEntries, oldTail, payloadLong, Lands}
 
 -- ---- the plan of an edit
@@ -43,16 +43,14 @@ pub record Measured (i : Side) (s : List ℕ) (w : Site) (c : Cut) : Type 0 wher
 pub record Planning (e : Edit) (i : Side) (s index : List ℕ) (w : Site) (c : Cut) : Type 0 where
   pub side : sideOf (target e) ≡ i
   pub own : Pass (ownRows e)
-  pub read : Read s
-  pub starts : Reading (sectionsIn s) index 0
+  pub whole : WholeFile s index
   pub lands : Lands e s index w c
 
 -- an edit that may be written, for an output of so many bytes: what it answers, where it lands, and the numbers of the file before it and after it
 pub record Ready (have : ℕ) (o : Outcome (List ℕ)) (e : Edit) (s index : List ℕ) (x : Change) : Type 0 where
   pub goes : o ≡ taken (render (apply e (contentOf (sectionsIn s))))
   pub own : Pass (ownRows e)
-  pub read : Read s
-  pub starts : Reading (sectionsIn s) index 0
+  pub whole : WholeFile s index
   pub lands : Lands e s index (x .site) (x .cut)
   pub room : length (render (apply e (contentOf (sectionsIn s)))) ≤ have
   pub most : length (render (apply e (contentOf (sectionsIn s)))) ≤ fileMost

@@ -5,7 +5,7 @@ use mathlib.Core.Bool.{cond, not, _||_}
 use mathlib.Core.List.{List, [], _∷_, _++_}
 use Prim.Native.Nat.{ℕ, zero, suc, _+_, _≤_}
 use lib.Dec.{eqb, leb}
-use lib.ListN.{length, getD}
+use lib.ListN.{length}
 use Rattle.answer.specs.Numbers.{SIZE, MANY, LIMIT}
 use Rattle.answer.specs.Outcome.{Checks, room}
 use Rattle.wire.specs.Numbers.{bytesOf}
@@ -31,11 +31,6 @@ ranked k l = flat (mine k) l
 abbrev pub ranks : List (List ℕ) → ℕ → ℕ → List ℕ
 ranks l k zero = []
 ranks l k (suc i) = ranks l k i ++ ranked (k + suc i) l
-
--- of a rank that has no mark there is no section
-pub record Marked (l : List (List ℕ)) (m : List ℕ) : Type 0 where
-  pub long : length m ≡ 10
-  pub none : (k : ℕ) → k ≤ 9 → getD m k 0 ≡ 0 → ranked k l ≡ []
 
 -- e is one section of a file
 pub record WholeSection (e : List ℕ) : Type 0 where
