@@ -1,8 +1,8 @@
 -- The records of a table: each has ROW bytes, and they follow one another.
 -- Assumes nothing.
 use mathlib.Core.Path.{_≡_, refl, sym, _∙_, ap}
-use mathlib.Core.List.{List, [], _∷_, _++_, append-nil}
-use Prim.Native.Nat.{ℕ, _+_, _-_, _*_, _/_, _≤_, _<_}
+use mathlib.Core.List.{List, [], _∷_, _++_, append-nil, append-assoc}
+use Prim.Native.Nat.{ℕ, _+_, _-_, _*_, _/_, _%_, _≤_, _<_}
 use native.Mathlib.Numerals.{add-one}
 use native.Mathlib.Omega.{arith}
 use lib.ListN.{length, take, drop, getD, length-append}
@@ -32,7 +32,46 @@ use Rattle.lists.proofs.Callers.{indexed-stop, indexed-done, list-then, index-r
 use Rattle.answer.specs.declared.Piece.the-variants.{Stop, Ends}
 use Rattle.tables.specs.declared.Table.{Table}
 use Rattle.tables.specs.declared.Table.the-variants.{Devices, Disks, Cpus, Mmus, Controllers}
-use Rattle.tables.specs.Tables.{ROW, described, positionIn, rowOf, rowsIn, rowsAt, tableOf}
+use Rattle.tables.specs.Tables.{ROW, described, positionIn, ended, framedRow, rowOf, rowsIn, rowsAt, tableOf}
+use Rattle.wire.specs.Numbers.{Bytes, leAt, bytesOf}
+use Rattle.wire.proofs.Numbers.{leAt-add, leAt-bound, bytesOf-halves}
+
+-- ---- numbers that stand side by side, as one
+
+fours : (s : List ℕ) (at : ℕ) → Bytes s → bytesOf 8 (leAt 8 s at) ≡ bytesOf 4 (leAt 4 s at) ++ bytesOf 4 (leAt 4 s (at + 4))
+fours s at b =
+    let x : ℕ = leAt 8 s at in
+    let e : x ≡ leAt 4 s at + 4294967296 * leAt 4 s (at + 4) = leAt-add 4 4 s at in
+    let h : leAt 4 s at < 4294967296 = leAt-bound 4 s at b in
+    let m : x % 4294967296 ≡ leAt 4 s at = omega arith in
+    let d : x / 4294967296 ≡ leAt 4 s (at + 4) = omega arith in
+    sym (bytesOf-halves 4 4 x) ∙ ap (λ (k : ℕ). bytesOf 4 k ++ bytesOf 4 (x / 4294967296)) m ∙ ap (λ (k : ℕ). bytesOf 4 (leAt 4 s at) ++ bytesOf 4 k) d
+
+twos : (s : List ℕ) (at : ℕ) → Bytes s → bytesOf 4 (leAt 4 s at) ≡ bytesOf 2 (leAt 2 s at) ++ bytesOf 2 (leAt 2 s (at + 2))
+twos s at b =
+    let x : ℕ = leAt 4 s at in
+    let e : x ≡ leAt 2 s at + 65536 * leAt 2 s (at + 2) = leAt-add 2 2 s at in
+    let h : leAt 2 s at < 65536 = leAt-bound 2 s at b in
+    let m : x % 65536 ≡ leAt 2 s at = omega arith in
+    let d : x / 65536 ≡ leAt 2 s (at + 2) = omega arith in
+    sym (bytesOf-halves 2 2 x) ∙ ap (λ (k : ℕ). bytesOf 2 k ++ bytesOf 2 (x / 65536)) m ∙ ap (λ (k : ℕ). bytesOf 2 (leAt 2 s at) ++ bytesOf 2 k) d
+
+-- a u32 and the 0 behind it
+widened : (q : ℕ) → q < 4294967296 → bytesOf 8 q ≡ ended q
+widened q h =
+    let m : q % 4294967296 ≡ q = omega arith in
+    let d : q / 4294967296 ≡ 0 = omega arith in
+    sym (bytesOf-halves 4 4 q) ∙ ap (λ (k : ℕ). bytesOf 4 k ++ bytesOf 4 (q / 4294967296)) m ∙ ap (λ (k : ℕ). bytesOf 4 q ++ bytesOf 4 k) d
+
+-- the record of a section or a device, as it is stored
+pub framed-words : (p q : ℕ) (e : List ℕ) → Bytes e → q < 4294967296 → bytesOf 8 (leAt 8 e 0) ++ (bytesOf 8 (p + 16) ++ (bytesOf 8 (leAt 8 e 8) ++ bytesOf 8 q)) ≡ framedRow p q e
+framed-words p q e b h =
+    let rest : List ℕ = bytesOf 8 (p + 16) ++ (bytesOf 8 (leAt 8 e 8) ++ ended q) in
+    let head : bytesOf 8 (leAt 8 e 0) ≡ bytesOf 4 (leAt 4 e 0) ++ (bytesOf 2 (leAt 2 e 4) ++ bytesOf 2 (leAt 2 e 6)) = fours e 0 b ∙ ap (λ (l : List ℕ). bytesOf 4 (leAt 4 e 0) ++ l) (twos e 4 b) in
+    ap (λ (l : List ℕ). bytesOf 8 (leAt 8 e 0) ++ (bytesOf 8 (p + 16) ++ (bytesOf 8 (leAt 8 e 8) ++ l))) (widened q h)
+    ∙ ap (λ (l : List ℕ). l ++ rest) head
+    ∙ append-assoc (bytesOf 4 (leAt 4 e 0)) (bytesOf 2 (leAt 2 e 4) ++ bytesOf 2 (leAt 2 e 6)) rest
+    ∙ ap (λ (l : List ℕ). bytesOf 4 (leAt 4 e 0) ++ l) (append-assoc (bytesOf 2 (leAt 2 e 4)) (bytesOf 2 (leAt 2 e 6)) rest)
 
 pub length-row : (t : Table) (p q : ℕ) (e : List ℕ) → length (rowOf t p q e) ≡ ROW
 length-row Devices p q e = simp (length-append, length-bytesOf)
