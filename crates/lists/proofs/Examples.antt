@@ -14,7 +14,7 @@ use Rattle.order.specs.Entries.{split}
 use Rattle.entries.specs.Kinds.{Description, devices, disks, controllers}
 use Rattle.lists.specs.declared.Found.the-variants.{There, Free}
 use Rattle.lists.specs.Lists.{keyAt, entryAt, walk, listAt, entries, listBytes, indexOf}
-use Rattle.lists.specs.Promises.{findIn}
+use Rattle.lists.specs.Promises.{findIn, halves, halvesIn}
 
 abbrev ReadsAs : Description → List ℕ → Outcome (List ℕ) → Type 0
 ReadsAs d s o = listAt d s ≡ o
@@ -77,3 +77,13 @@ pub calls : (indexOf devices 2 payload ≡ taken (21 ∷ 4 ∷ []))
     × (findIn (keyAt devices payload) 64424509440 (21 ∷ 4 ∷ []) ≡ Free 2)
 unfolding listAt walk entryAt read leAt le insert has findIn
 calls = (refl, refl, refl, refl, refl, refl)
+
+-- by halves the same; in starts out of order the lower key, which is the second, isn't found
+pub by-halves : (halvesIn (keyAt devices payload) (devices .key three) (21 ∷ 4 ∷ []) ≡ There 0)
+    × (halvesIn (keyAt devices payload) (devices .key fourteen) (21 ∷ 4 ∷ []) ≡ There 1)
+    × (halvesIn (keyAt devices payload) 4294967296 (21 ∷ 4 ∷ []) ≡ Free 0)
+    × (halvesIn (keyAt devices payload) 17179869184 (21 ∷ 4 ∷ []) ≡ Free 1)
+    × (halvesIn (keyAt devices payload) 64424509440 (21 ∷ 4 ∷ []) ≡ Free 2)
+    × (halvesIn (keyAt devices payload) (devices .key three) (4 ∷ 21 ∷ []) ≡ Free 0)
+unfolding leAt le halves
+by-halves = (refl, refl, refl, refl, refl, refl)

@@ -17,5 +17,6 @@ pub mod Gaps
 pub mod Sifting
 pub mod Callers
 pub mod InPlace
+pub mod Arranging
 pub mod Once
 pub mod Examples

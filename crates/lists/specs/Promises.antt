@@ -2,17 +2,18 @@
 -- Assumes nothing.
 use mathlib.Core.Path.{_≡_}
 use mathlib.Core.Logic.{_⊎_}
-use mathlib.Core.Bool.{Bool, true, false}
+use mathlib.Core.Bool.{Bool, true, false, cond}
 use mathlib.Core.List.{List, [], _∷_, _++_}
-use Prim.Native.Nat.{ℕ, _+_}
+use Prim.Native.Nat.{ℕ, zero, suc, _+_, _-_, _/_, _≤_, _<_}
 use lib.Dec.{leb, eqb}
-use lib.ListN.{length, drop, replicate}
+use lib.ListN.{length, take, drop, getD, replicate}
 use Rattle.answer.specs.declared.Piece.{Piece}
 use Rattle.answer.specs.Numbers.{HAVE, ABSENT}
 use Rattle.answer.specs.declared.Test.{Test}
 use Rattle.answer.specs.declared.Test.the-variants.{Fault, Fine}
 use Rattle.answer.specs.Outcome.{Outcome, taken, refused, after}
 use Rattle.answer.specs.Calls.{pieceOf}
+use Rattle.order.specs.Keyed.{has, sort, Apart}
 use Rattle.lists.specs.declared.Found.{Found}
 use Rattle.lists.specs.declared.Found.the-variants.{There, Free}
 
@@ -45,6 +46,24 @@ unfoldable pub findIn : {E : Type 0} → (E → ℕ) → ℕ → List E → Foun
 findIn key k [] = Free 0
 findIn key k (y ∷ l) = elim (eqb k (key y)) [ true ↦ There 0 | false ↦ elim (leb k (key y)) [ true ↦ Free 0 | false ↦ later 1 (findIn key k l) ] ]
 
+-- where a search by halves ends that has so many starts from lo on before it: it looks at the middle one, and goes on behind it if its key is below k, or else before it
+unfoldable pub halves : (ℕ → ℕ) → ℕ → List ℕ → ℕ → ℕ → ℕ → ℕ
+halves key k l zero lo many = lo
+halves key k l (suc turns) lo zero = lo
+halves key k l (suc turns) lo (suc n) = elim (leb k (key (getD l (lo + suc n / 2) 0))) [ true ↦ halves key k l turns lo (suc n / 2) | false ↦ halves key k l turns (suc (lo + suc n / 2)) (n - suc n / 2) ]
+
+-- it ends within as many turns as there are starts
+abbrev pub lowerIn : (ℕ → ℕ) → ℕ → List ℕ → ℕ
+lowerIn key k l = halves key k l (length l) 0 (length l)
+
+-- what there is at the place r: the key k, or room for an entry that has it
+abbrev pub foundAt : (ℕ → ℕ) → ℕ → List ℕ → ℕ → Found
+foundAt key k l r = cond (leb (length l) r) (Free r) (cond (eqb (key (getD l r 0)) k) (There r) (Free r))
+
+-- where an entry with the key k goes, by halves: in ascending keys the place that `findIn` has
+abbrev pub halvesIn : (ℕ → ℕ) → ℕ → List ℕ → Found
+halvesIn key k l = foundAt key k l (lowerIn key k l)
+
 -- the documents' number and place for each answer, by whether an entry with the key is wanted: one that is there then, or else its place, is taken; a key that is wanted and isn't there is ABSENT, one that is there unwanted HAVE
 abbrev pub foundOf : Bool → Found → Outcome ℕ
 foundOf true (There i) = taken i
@@ -55,3 +74,15 @@ foundOf false (Free i) = taken i
 -- the answer r is the place f, whichever is wanted
 abbrev pub Finds : Found → Found → Type 0
 Finds r f = (wanted : Bool) → foundOf wanted r ≡ foundOf wanted f
+
+-- so many starts are put in order at most: one more than a list may have
+abbrev pub arrangedMost : ℕ
+arrangedMost = 4097
+
+-- The first r of the starts `old` have keys of their own, and the next one, if it is looked at, has the key of one of them; the first r are then sorted, and the others stay.
+pub record Arranged (key : ℕ → ℕ) (old : List ℕ) (r : ℕ) (new : List ℕ) : Type 0 where
+  pub within : r ≤ length old
+  pub few : r ≤ arrangedMost
+  pub apart : Apart key (take r old)
+  pub again : r < length old → r < arrangedMost → has key (key (getD old r 0)) (take r old) ≡ true
+  pub leaves : new ≡ sort key (take r old) ++ drop r old
