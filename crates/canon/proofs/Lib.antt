@@ -13,3 +13,8 @@ pub mod Uniform
 pub mod Filing
 pub mod Saving
 pub mod Once
+pub mod Asking
+pub mod Turning
+pub mod Totals
+pub mod Merges
+pub mod Tabled
