@@ -9,6 +9,7 @@ use lib.ListN.{length, take, drop}
 use Rattle.answer.specs.Numbers.{SIZE, MANY, LIMIT, HAVE, ABSENT}
 use Rattle.answer.specs.Outcome.{Outcome, Checks, checked, fitting}
 use Rattle.wire.specs.Numbers.{bytesOf}
+use Rattle.order.specs.Keyed.{Asc}
 use Rattle.order.specs.Entries.{join, startsFrom}
 use Rattle.entries.specs.Kinds.{payloadMost}
 use Rattle.lists.specs.Lists.{keyAt, listBytes}
@@ -109,6 +110,7 @@ pub record HoldsList (i : Side) (s index : List ℕ) (w : Site) : Type 0 where
   pub lasts : w .last ≤ length index
   pub entries : map (entryBy (kindAt i) (siteBytes s w)) (siteStarts index w) ≡ oldEntries i s
   pub keys : map (keyAt (kindAt i) (siteBytes s w)) (siteStarts index w) ≡ map (kindAt i .key) (oldEntries i s)
+  pub asc : Asc (keyAt (kindAt i) (siteBytes s w)) 0 (siteStarts index w)
   pub long : payloadLong w ≡ length (listBytes (oldEntries i s) ++ oldTail i s)
   pub tail-in : length (oldTail i s) ≤ w .end
   pub tail : take (length (oldTail i s)) (drop (w .end - length (oldTail i s)) s) ≡ oldTail i s
