@@ -5,8 +5,8 @@ use crate::card::{edited, Card, Edited};
 use crate::cursor::{u16_at, u32_at, u64_at, Output};
 use crate::list::{device_key, Entry, Kind, List, MOST_PAYLOAD};
 use crate::snapshot::{
-    add_device, canonical, canonical_order, card_of, length_of, open, put_section, read_file,
-    write_canonical, Section, DEVICES, HEADER, MOST_DEVICES_PAYLOAD, MOST_FILE, MOST_SECTIONS,
+    add_device, canonical, canonical_order, card_of, length_of, open, put_canonical, put_section,
+    read_file, Canonical, Section, DEVICES, HEADER, MOST_DEVICES_PAYLOAD, MOST_FILE, MOST_SECTIONS,
     SECTION_HEADER,
 };
 
@@ -92,10 +92,11 @@ pub fn add_devices_in_one_pass(
     let made = read_file(file).and_then(|sections| {
         let truth = card_of(&canonical_order(&sections));
         if table.len() < RECORD {
-            let room = write_canonical(&sections, &mut []).err().map_or(0, |refusal| refusal.place);
-            ask(room <= out.len() as u64, ROOM, room as usize)?;
+            let form = Canonical::of(&sections);
+            let mut output = Output::with_room(out, form.length)?;
             let card = card.moved(truth, truth)?;
-            return Ok((write_canonical(&sections, out)?, card));
+            put_canonical(&form, &mut output);
+            return Ok((form.length, card));
         }
         let plan = Plan::of(&sections, table, store);
         let after = plan.pass(truth, out.len(), &mut index)?;
@@ -134,7 +135,7 @@ impl<'s, 'a> Plan<'s, 'a> {
         let mut sorted: Vec<(u64, u32)> = table
             .chunks_exact(RECORD)
             .take(most)
-            .map(|record| key(record))
+            .map(key)
             .map(|(id, version, flags)| device_key(id, version, flags))
             .zip(0..)
             .collect();

@@ -317,7 +317,7 @@ fn mmu_record(entry: Entry) -> [u8; RECORD] {
 
 // The canonical form.
 
-pub(crate) fn write_canonical(sections: &[Section], out: &mut [u8]) -> Taken<usize> {
+fn write_canonical(sections: &[Section], out: &mut [u8]) -> Taken<usize> {
     let form = Canonical::of(sections);
     let mut output = Output::with_room(out, form.length)?;
     put_canonical(&form, &mut output);

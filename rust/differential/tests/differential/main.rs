@@ -128,6 +128,7 @@ const GROUPS: &[Group] = &[
     ("many: every room", many::rooms),
     ("many: two faults at once", many::two_faults),
     ("many: untrue cards", many::untrue_cards),
+    ("many: hundreds of entries", many::hundreds),
     ("many: thousands of entries", many::thousands),
     ("many: the longest", many::longest),
 ];

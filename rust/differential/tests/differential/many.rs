@@ -59,7 +59,7 @@ fn few(random: &mut Random, store: usize) -> Vec<New> {
 
 /// Tables of every kind, with part records at their ends, on valid and damaged files.
 pub fn any(run: &mut Comparison) {
-    for _ in 0..60_000 {
+    for _ in 0..120_000 {
         let made = make::file(&mut run.random);
         let faults = run.random.pick(&[0, 0, 0, 0, 1, 2]);
         let file = several(&mut run.random, &made, faults);
@@ -85,8 +85,7 @@ fn made(run: &mut Comparison, file: &[u8], table: &[u8], store: &[u8]) -> Result
     }
 }
 
-/// Every order of a small table ends in the same bytes, wherever the payloads stand, or is refused; from a file that is in
-/// canonical form, and from one that is not.
+/// Every order of a small table ends in the same bytes, wherever the payloads stand, or every one is refused.
 pub fn every_order(run: &mut Comparison) {
     for _ in 0..400 {
         let file = make::file(&mut run.random).bytes;
@@ -94,15 +93,14 @@ pub fn every_order(run: &mut Comparison) {
         let store = run.random.bytes(length);
         let small = entries(&mut run.random, 5, length);
         let first = made(run, &file, &table(&small), &store).ok();
-        // The second buffer turned round, and every part with it.
-        let other: Vec<u8> = [&store[length / 2..], &store].concat();
+        // Other bytes before the second buffer, so that every part stands elsewhere.
+        let more = length / 2;
+        let other: Vec<u8> = [&store[length - more..], &store].concat();
         for order in permutations(small.len()) {
             let turned: Vec<New> = order.iter().map(|at| small[*at]).collect();
             let moved: Vec<New> = turned
                 .iter()
-                .map(|(key, place, length)| {
-                    (*key, place.wrapping_add((other.len() - store.len()) as u64), *length)
-                })
+                .map(|(key, place, length)| (*key, place.saturating_add(more as u64), *length))
                 .collect();
             for (table, store) in [(table(&turned), &store), (table(&moved), &other)] {
                 let last = made(run, &file, &table, store).ok();
@@ -375,66 +373,77 @@ fn with_devices(ids: &[u32], tail: usize) -> Vec<u8> {
     made.bytes
 }
 
-/// So many ids ascending, descending or mixed.
-fn ids(random: &mut Random, count: u32, order: usize) -> Vec<u32> {
-    let mut ids: Vec<u32> = (0..count).map(|id| 10 * id).collect();
-    match order {
-        0 => (),
-        1 => ids.reverse(),
-        _ => random.shuffle(&mut ids),
-    }
-    ids
+/// In which order the entries of a table come.
+#[derive(Clone, Copy)]
+enum Order {
+    Ascending,
+    Descending,
+    Mixed,
 }
 
-/// As many entries as a list may have and one more, in three orders, beside none and beside thousands that are there; with a key
-/// that comes again at the last of them, and with a table that is longer still.
-pub fn thousands(run: &mut Comparison) {
+const ORDERS: [Order; 3] = [Order::Ascending, Order::Descending, Order::Mixed];
+
+/// A file with `old` devices, in the order of their keys or in none, and `new` entries of other keys, before, between and behind
+/// these.
+fn meeting(random: &mut Random, new: usize, old: usize, order: Order) -> (Vec<u8>, Vec<New>) {
+    let mut ids: Vec<u32> = (0..(new + old) as u32).map(|id| 10 * id).collect();
+    random.shuffle(&mut ids);
+    let (there, come) = ids.split_at_mut(old);
+    if random.once_in(2) {
+        there.sort_unstable();
+    }
+    match order {
+        Order::Ascending => come.sort_unstable(),
+        Order::Descending => come.sort_unstable_by(|one, next| next.cmp(one)),
+        Order::Mixed => (),
+    }
+    let file = with_devices(there, random.below(2) * 9);
+    let entry = |id: &u32| ((*id, 1, 0), below(random, 290), below(random, 11));
+    (file, come.iter().map(entry).collect())
+}
+
+/// A table of so many entries beside so many devices: what is told of it, and of one in which the last entry that is looked at has
+/// the key of another.
+fn count(run: &mut Comparison, new: usize, old: usize, order: Order) {
     let store = run.random.bytes(300);
-    for order in 0..3 {
-        for (new, old) in [
-            (33, 0),
-            (257, 5),
-            (4096, 0),
-            (4097, 0),
-            (2048, 2048),
-            (2048, 2049),
-            (1, 4095),
-            (1, 4096),
-            (4100, 40),
-        ] {
-            let all = ids(&mut run.random, new + old, 2);
-            let (there, come) = all.split_at(old as usize);
-            let mut come = come.to_vec();
-            match order {
-                0 => come.sort_unstable(),
-                1 => come.sort_unstable_by(|one, next| next.cmp(one)),
-                _ => (),
-            }
-            let mut there = there.to_vec();
-            if run.random.once_in(2) {
-                there.sort_unstable();
-            }
-            let file = with_devices(&there, run.random.below(2) * 9);
-            let mut entries: Vec<New> = come
-                .iter()
-                .map(|id| ((*id, 1, 0), below(&mut run.random, 290), below(&mut run.random, 11)))
-                .collect();
-            let room = file.len() + 28 * entries.len() + 40;
-            let (edited, _) = run.add_devices_in(room, &file, &table(&entries), &store);
-            let over = new + old > 4096;
-            assert_eq!(
-                (edited.number, edited.index),
-                if over { (LIMIT, 4096 - old) } else { (0, 0) }
-            );
-            // The last that is looked at has the key of another, or its file has no room.
-            let last = (new.min(4097 - old) - 1) as usize;
-            let (_, _) = run.add_devices(&file, &table(&entries), &store);
-            if last > 0 {
-                entries[last].0 = entries[run.random.below(last)].0;
-                let (edited, _) = run.add_devices_in(room, &file, &table(&entries), &store);
-                assert_eq!((edited.number, edited.index), (HAVE, last as u32));
+    let (file, mut entries) = meeting(&mut run.random, new, old, order);
+    let room = file.len() + 28 * entries.len() + 40;
+    let (edited, _) = run.add_devices_in(room, &file, &table(&entries), &store);
+    let wanted = if new + old > 4096 { (LIMIT, 4096 - old) } else { (0, 0) };
+    assert_eq!((edited.number, edited.index as usize), wanted);
+    let last = new.min(4097 - old) - 1;
+    if last > 0 {
+        entries[last].0 = entries[run.random.below(last)].0;
+        let (edited, _) = run.add_devices_in(room, &file, &table(&entries), &store);
+        assert_eq!((edited.number, edited.index as usize), (HAVE, last));
+    }
+}
+
+/// Tables and lists from one entry to hundreds, in three orders, with any room.
+pub fn hundreds(run: &mut Comparison) {
+    for new in [1, 2, 3, 31, 32, 33, 34, 64, 255, 256, 257, 300] {
+        for old in [0, 1, 2, 31, 32, 33, 255, 256, 257] {
+            for order in ORDERS {
+                count(run, new, old, order);
+                let (file, entries) = meeting(&mut run.random, new, old, order);
+                let store = run.random.bytes(300);
+                run.add_devices(&file, &table(&entries), &store);
             }
         }
+    }
+}
+
+/// As many entries as a list may have and one more, in three orders, beside none and beside thousands that are there; and a table
+/// that is longer still.
+pub fn thousands(run: &mut Comparison) {
+    let both = [(4096, 0), (4097, 0), (2048, 2048), (2048, 2049), (1, 4095), (1, 4096), (4100, 40)];
+    for order in ORDERS {
+        for (new, old) in both {
+            count(run, new, old, order);
+        }
+        let (file, entries) = meeting(&mut run.random, 4096, 0, order);
+        let store = run.random.bytes(300);
+        run.add_devices(&file, &table(&entries), &store);
     }
 }
 
