@@ -16,7 +16,8 @@
  *
  * What a caller owes, and nothing can check:
  *   - each length is the number of bytes that the pointer before it points to; for a length of 0 any pointer will do, also a null one;
- *   - a lent buffer (`table`, `list`, `out`, `losses`) overlaps no input and no other buffer of the same call, and nothing else touches either while the call runs.
+ *   - a buffer that is lent to be written (`out`, `losses`, `list`, `table` where it is not const) overlaps no input and no other buffer of the same call, and
+ *     nothing else touches either while the call runs.
  * All else is checked by the call.
  */
 #ifndef CIMBROLAU_H

@@ -96,7 +96,7 @@ fn a_wrong_line_and_a_payload_that_is_not_there_are_told() {
     fails(add(&at, "in", "5 1 0 nowhere\n", &[]), told, 3);
     let told = format!("cim: add-devices: `--from` is missing; {see}\n");
     fails(run(&at, &["add-devices", "in", "out"]), &told, 2);
-    assert!(!at.join("out").exists());
+    assert_eq!(names(&at), ["in", "list", "none", "p 14", "p3"]);
 }
 
 #[test]

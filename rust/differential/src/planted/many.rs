@@ -5,7 +5,7 @@ use reference::{add_devices, Card, Edited};
 
 use crate::edits::{self, Edit, EditCalls};
 
-/// All of them, by name.
+/// Those in which a table alone makes the difference, by name. Three more are of broken files, long payloads and untrue cards.
 pub const ALL: &[(&str, EditCalls)] = &[
     ("an_index_from_1", AN_INDEX_FROM_1),
     ("a_refusal_without_its_index", A_REFUSAL_WITHOUT_ITS_INDEX),
@@ -18,13 +18,6 @@ pub const ALL: &[(&str, EditCalls)] = &[
     ("the_room_of_the_last_file_alone", THE_ROOM_OF_THE_LAST_FILE_ALONE),
     ("a_refused_table_that_writes", A_REFUSED_TABLE_THAT_WRITES),
     ("no_entry_and_no_canonical_form", NO_ENTRY_AND_NO_CANONICAL_FORM),
-];
-
-/// Errors that need long payloads, broken files or untrue cards, which not every search has.
-pub const SPECIAL: &[(&str, EditCalls)] = &[
-    ("a_limit_before_the_part", A_LIMIT_BEFORE_THE_PART),
-    ("a_part_before_the_file", A_PART_BEFORE_THE_FILE),
-    ("a_card_with_an_index", A_CARD_WITH_AN_INDEX),
 ];
 
 /// The reference's edits, and for a table these.
