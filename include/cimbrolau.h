@@ -16,7 +16,8 @@
  *
  * What a caller owes, and nothing can check:
  *   - each length is the number of bytes that the pointer before it points to; for a length of 0 any pointer will do, also a null one;
- *   - a lent buffer (`table`, `list`, `out`, `losses`) overlaps no input and no other buffer of the same call, and nothing else touches either while the call runs.
+ *   - a buffer that is lent to be written (`out`, `losses`, `list`, `table` where it is not const) overlaps no input and no other buffer of the same call, and
+ *     nothing else touches either while the call runs.
  * All else is checked by the call.
  */
 #ifndef CIMBROLAU_H
@@ -204,10 +205,10 @@ struct cimbrolau_card {
     uint64_t payloads; /* the bytes of the devices' payloads together, up to 256 MiB */
 };
 
-/* What opening and editing answer. The index is 0 in the calls of one entry. */
+/* What opening and editing answer. */
 struct cimbrolau_edited {
     uint32_t number;
-    uint32_t index;
+    uint32_t index; /* of many devices at once: the entry that is refused, from 0; else 0 */
     uint64_t place;
     struct cimbrolau_card card;
 };
@@ -230,6 +231,31 @@ struct cimbrolau_edited cimbrolau_open(const uint8_t *file, size_t file_length);
 struct cimbrolau_edited cimbrolau_add_device(const uint8_t *file, size_t file_length, struct cimbrolau_card card, uint32_t id, uint16_t version, uint16_t flags, const uint8_t *payload, size_t payload_length, uint8_t *out, size_t out_length);
 
 struct cimbrolau_edited cimbrolau_add_disk(const uint8_t *file, size_t file_length, struct cimbrolau_card card, uint32_t id, const uint8_t *base, size_t base_length, const uint8_t *overlay, size_t overlay_length, uint8_t *out, size_t out_length);
+
+/*
+ * The canonical form of a file's content and many devices more. The table has a record of 24 bytes for each new device, with no header; all numbers are
+ * little-endian, and a part record at the table's end is no entry:
+ *
+ *   u32 id, u16 version, u16 flags, u64 place, u64 length
+ *
+ * The payload is that part of `store`; payloads may overlap, and be empty. The struct has that layout: an array of them may be lent as the table.
+ *
+ * The answer is that of cimbrolau_add_device for one entry after the other, each into a buffer of the output's length: the same bytes, or the first refusal
+ * met, with the entry's number in `index`, from 0. Nothing is written before the last entry is taken. Before all that cimbrolau_add_device asks of an entry it
+ * is CIMBROLAU_PAYLOAD at 0 if its payload lies outside `store`; an empty one at the very end is inside. A key that comes again in the table is
+ * CIMBROLAU_HAVE at the later entry. CIMBROLAU_ROOM names the first of the files on the way for which there is no room: with so much memory the call gets
+ * beyond that entry, and may ask for more behind it. With no entry the answer is the canonical form.
+ *
+ * The card moves by what all entries change together, and is asked behind all of them. The index is 0 beside what is wrong with the file, beside
+ * CIMBROLAU_CARD, of a table with no entry, and in a call that is taken.
+ */
+struct cimbrolau_new_device {
+    uint32_t id;
+    uint16_t version, flags;
+    uint64_t place, length; /* of its payload in `store` */
+};
+
+struct cimbrolau_edited cimbrolau_add_devices(const uint8_t *file, size_t file_length, struct cimbrolau_card card, const uint8_t *table, size_t table_length, const uint8_t *store, size_t store_length, uint8_t *out, size_t out_length);
 
 /*
  * The canonical form of a file's content without one of its devices or disks; the last entry's removal removes its section. What is wrong with the
@@ -511,6 +537,8 @@ CIMBROLAU_LAYOUT_OF(48, edited, card, 16);
 
 #undef CIMBROLAU_LAYOUT
 #undef CIMBROLAU_LAYOUT_OF
+
+typedef char cimbrolau_layout_new_device[offsetof(struct cimbrolau_new_device, version) == 4 && offsetof(struct cimbrolau_new_device, flags) == 6 && offsetof(struct cimbrolau_new_device, place) == 8 && offsetof(struct cimbrolau_new_device, length) == 16 && sizeof(struct cimbrolau_new_device) == 24 ? 1 : -1];
 
 typedef char cimbrolau_layout_loss[offsetof(struct cimbrolau_loss, bytes) == 8 && offsetof(struct cimbrolau_loss, number) == 16 && sizeof(struct cimbrolau_loss) == 24 ? 1 : -1];
 

@@ -12,6 +12,8 @@ export class Refusal extends Error {
   /** The byte of the input at which it stands; of ROOM the length needed. */
   readonly place: number;
   readonly words: string;
+  /** Of many devices at once: the number of the one that is refused, from 0; 0 too beside a fault of the file. */
+  readonly index?: number;
 }
 
 /** What is lent is beyond the 32 bits of addresses, or there is no memory for it. Nothing was called. */
@@ -39,6 +41,10 @@ export interface DeviceKey {
   id: number;
   version: number;
   flags: number;
+}
+/** A device that is to be added. */
+export interface NewDevice extends DeviceKey {
+  payload: Bytes;
 }
 export interface Section extends DeviceKey {
   offset: number;
@@ -153,6 +159,7 @@ export interface Raw {
   open(file: Bytes): AnswerWithCard;
   add_device(file: Bytes, card: AnyCard, id: number, version: number, flags: number, payload: Bytes, out: Lent): AnswerWithCard;
   add_disk(file: Bytes, card: AnyCard, id: number, base: Bytes, overlay: Bytes, out: Lent): AnswerWithCard;
+  add_devices(file: Bytes, card: AnyCard, table: Bytes, store: Bytes, out: Lent): AnswerWithCard;
   remove_device(file: Bytes, card: AnyCard, id: number, version: number, flags: number, out: Lent): AnswerWithCard;
   remove_disk(file: Bytes, card: AnyCard, id: number, out: Lent): AnswerWithCard;
   replace_device(file: Bytes, card: AnyCard, id: number, version: number, flags: number, payload: Bytes, out: Lent): AnswerWithCard;
@@ -194,6 +201,8 @@ export class Cimbrolau {
   /** The card of the canonical form. */
   open(file: Bytes): Card;
   addDevice(file: Bytes, card: AnyCard, key: DeviceKey, payload: Bytes): Edited;
+  /** Many devices more, or none: the refusal of one has its number as `index`. */
+  addDevices(file: Bytes, card: AnyCard, devices: readonly NewDevice[]): Edited;
   addDisk(file: Bytes, card: AnyCard, id: number, base: Text, overlay: Text): Edited;
   removeDevice(file: Bytes, card: AnyCard, key: DeviceKey): Edited;
   removeDisk(file: Bytes, card: AnyCard, id: number): Edited;

@@ -91,6 +91,7 @@ const CALLS = `
   edited   open               file
   edited   add_device         file card:card id:u32 version:u16 flags:u16 payload >out
   edited   add_disk           file card:card id:u32 base overlay >out
+  edited   add_devices        file card:card table store >out
   edited   remove_device      file card:card id:u32 version:u16 flags:u16 >out
   edited   remove_disk        file card:card id:u32 >out
   edited   replace_device     file card:card id:u32 version:u16 flags:u16 payload >out
@@ -385,6 +386,17 @@ export class Cimbrolau {
     return this.#edit('add_device', file, card, id, version, flags, payload, atMost(file.length + 36 + payload.length));
   }
 
+  /**
+   * Many devices more, each with its key and its payload, or none of them: what is answered is what `addDevice` would for one after the other. The refusal of one of
+   * them has its number in the list as `index`, from 0, which is 0 too beside a fault of the file.
+   */
+  addDevices(file, card, devices) {
+    const { table, store } = newDevices(devices);
+    const edited = this.raw.add_devices(file, card, table, store, atMost(file.length + 20 + 16 * devices.length + store.length));
+    if (edited.number !== 0) throw Object.assign(new Refusal(edited.number, edited.place), { index: edited.index });
+    return { file: edited.written, card: cardOf(edited) };
+  }
+
   /** One disk more. Base and overlay are texts, or bytes. */
   addDisk(file, card, id, base, overlay) {
     const [one, two] = [base, overlay].map(bytesOf);
@@ -596,6 +608,25 @@ function store(bytes, now) {
 
 /** The card in an answer. That of a call which is taken is within its bounds, so that Numbers have room for it. */
 const cardOf = (edited) => Object.fromEntries(CARD.map((name) => [name, Number(edited[name])]));
+
+/** The table of new devices, 24 bytes each, and their payloads one behind the other. */
+function newDevices(devices) {
+  const table = new Uint8Array(24 * devices.length);
+  const view = new DataView(table.buffer);
+  const store = new Uint8Array(devices.reduce((bytes, { payload }) => bytes + payload.length, 0));
+  let place = 0;
+  devices.forEach(({ id, version, flags, payload }, number) => {
+    const at = 24 * number;
+    view.setUint32(at, passed({ name: 'id', kind: 'u32' }, id), true);
+    view.setUint16(at + 4, passed({ name: 'version', kind: 'u16' }, version), true);
+    view.setUint16(at + 6, passed({ name: 'flags', kind: 'u16' }, flags), true);
+    view.setBigUint64(at + 8, BigInt(place), true);
+    view.setBigUint64(at + 16, BigInt(payload.length), true);
+    store.set(payload, place);
+    place += payload.length;
+  });
+  return { table, store };
+}
 
 /** The output of a call on files is never longer than a file may be. */
 const atMost = (bytes) => Math.min(bytes, MOST_FILE);

@@ -111,6 +111,36 @@ test('a file: its tables, its form, and edits', () => {
   assert.throws(() => cimbrolau.removeDisk(panel, card, 900), refused('ABSENT', 0));
 });
 
+test('many devices at once, or none of them', () => {
+  const device = (id, ...payload) => ({ id, version: 1, flags: 0, payload: new Uint8Array(payload) });
+  const card = cimbrolau.open(panel);
+  const devices = [device(77, 1, 2, 3), device(5), device(900, 4)];
+  const all = cimbrolau.addDevices(panel, card, devices);
+  let one = { file: panel, card };
+  for (const { payload, ...key } of devices) one = cimbrolau.addDevice(one.file, one.card, key, payload);
+  assert.deepEqual(all, one);
+  assert.deepEqual(cimbrolau.addDevices(panel, card, devices.toReversed()), one);
+  assert.deepEqual(cimbrolau.addDevices(panel, card, []), { file: cimbrolau.canonical(panel), card });
+  const told = (name, index) => (error) => refused(name, 0)(error) && error.index === index;
+  assert.throws(() => cimbrolau.addDevices(panel, card, [...devices, device(5)]), told('HAVE', 3));
+  assert.throws(() => cimbrolau.addDevices(panel, card, [device(3)]), told('HAVE', 0));
+  assert.throws(() => cimbrolau.addDevices(panel.slice(0, 9), card, devices), told('SHORT', 0));
+  assert.throws(() => cimbrolau.addDevices(panel, { ...card, devices: 4094 }, devices), told('CARD', 0));
+  assert.throws(() => cimbrolau.addDevices(panel, card, [{ ...device(3), version: 65536 }]), TypeError);
+  // As C has it: an entry whose payload lies outside, and the room of each file on the way. A part record is no entry.
+  const table = new Uint8Array([77, 0, 0, 0, 1, 0, 0, 0, 0, 0, 0, 0, 0, 0, 0, 0, 2, 0, 0, 0, 0, 0, 0, 0, 78, 0, 0, 0, 1, 0, 0, 0, 2, 0, 0, 0, 0, 0, 0, 0, 1, 0, 0, 0, 0, 0, 0, 0, 79, 0]);
+  const asked = (store, out) => {
+    const { number, index, place } = cimbrolau.raw.add_devices(panel, card, table, new Uint8Array(store), out);
+    return [number, index, place];
+  };
+  assert.deepEqual(asked(3, 459), [0, 0, 459]);
+  assert.deepEqual(asked(2, 459), [26, 1, 0]);
+  assert.deepEqual(asked(3, 458), [16, 1, 459]);
+  const out = new Uint8Array(441).fill(7);
+  assert.deepEqual(asked(3, out), [16, 0, 442]);
+  assert.ok(out.every((byte) => byte === 7));
+});
+
 test('an untrue card moves as well, up to its bounds, and a refusal hands it back', () => {
   const key = { id: 77, version: 1, flags: 0 };
   const card = cimbrolau.open(panel);

@@ -11,9 +11,10 @@ use std::process::Command;
 const ARCHIVE: &str = concat!(env!("CARGO_MANIFEST_DIR"), "/../../target/staticlib/libcimbrolau.a");
 
 /// The calls that copy bytes of any number, in parts.
-const WRITERS: [&str; 9] = [
+const WRITERS: [&str; 10] = [
     "cimbrolau_canonical",
     "cimbrolau_add_device",
+    "cimbrolau_add_devices",
     "cimbrolau_remove_device",
     "cimbrolau_remove_disk",
     "cimbrolau_replace_device",

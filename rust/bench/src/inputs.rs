@@ -153,6 +153,18 @@ pub fn devices(count: u32, payload: usize, order: Order) -> Vec<u8> {
     file(&[(DEVICES, device_list(&order.ids(count), payload))])
 }
 
+/// A table of `count` new devices, of ids that no file here has, and their payloads of so many bytes one behind the other.
+pub fn table(count: u32, payload: usize, order: Order) -> (Vec<u8>, Vec<u8>) {
+    let mut table = Vec::new();
+    for (id, place) in order.ids(count).into_iter().zip((0..).step_by(payload)) {
+        table.extend((1000 + id).to_le_bytes());
+        table.extend([1, 0, 0, 0]);
+        table.extend((place as u64).to_le_bytes());
+        table.extend((payload as u64).to_le_bytes());
+    }
+    (table, vec![0x6B; payload * count as usize])
+}
+
 /// A file with `count` devices of 0 to 199 bytes each.
 pub fn mixed_devices(count: u32, order: Order) -> Vec<u8> {
     file(&[(DEVICES, devices_of(&order.ids(count), |id| id as usize * 37 % 200))])

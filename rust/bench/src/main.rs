@@ -2,7 +2,7 @@
 //!
 //! It fails if the library's copy is no longer a `memmove`, or if the library and the reference answer differently.
 //! A ratio over its target is told, and is no failure: times depend on the machine. A word as argument measures only the
-//! rows of that name: `sizes`, `counts`, `mixed`, `texts`, `messages`, `rings`, `ready`, `states` or `salvage`. The word `wasm` measures the library in WebAssembly
+//! rows of that name: `sizes`, `counts`, `mixed`, `texts`, `messages`, `rings`, `ready`, `states`, `salvage` or `many`. The word `wasm` measures the library in WebAssembly
 //! beside the native one, which nothing else does.
 
 mod contest;

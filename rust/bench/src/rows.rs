@@ -46,7 +46,7 @@ const MIB: usize = 1 << 20;
 type Group = (&'static str, fn(Tell));
 
 /// All rows.
-pub const GROUPS: [Group; 9] = [
+pub const GROUPS: [Group; 10] = [
     ("sizes", sizes),
     ("counts", counts),
     ("mixed", mixed),
@@ -56,6 +56,7 @@ pub const GROUPS: [Group; 9] = [
     ("ready", ready),
     ("states", states),
     ("salvage", salvage),
+    ("many", many),
 ];
 
 /// The reference beside itself, on a short call and on a long one: how far a ratio can be trusted in this run.
@@ -553,6 +554,84 @@ fn salvage_row(file: &[u8], input: &str, losses: usize) -> Row {
         contestant(|lent| lent[..file.len()].copy_from_slice(black_box(file))),
     ];
     row("salvage", input, "reference", SALVAGE, &contest(&contestants, &mut ours))
+}
+
+/// The most that thousands of devices at once may take beside a plain implementation that sorts and writes once, that fewer of them
+/// may, as adds do, and that twenty of them in a file of 1 MiB may take beside one add.
+const THOUSANDS: f64 = 1.0;
+const FEWER: f64 = 1.2;
+const TWENTY: f64 = 1.1;
+
+/// Twenty devices into a file of 1 MiB, beside one of them and beside the plain implementation; and tables of one, hundreds and
+/// thousands of devices into an empty file, in ascending and in random order.
+fn many(tell: Tell) {
+    let file = inputs::ram(MIB);
+    let (table, store) = inputs::table(20, 64, Order::Random);
+    tell(twenty_row(&file, &table, &store));
+    let case = |file, input: &str, writing| Case {
+        file,
+        input: input.to_string(),
+        reading: 1.25,
+        writing,
+    };
+    tell(many_row(case(&file, TWENTY_DEVICES, FEWER), &table, &store));
+    let empty = inputs::ram(16);
+    let (table, store) = inputs::table(1, 64, Order::Ascending);
+    tell(many_row(case(&empty, "16 B, no section, and 1 device", FEWER), &table, &store));
+    for (count, target) in [(256, FEWER), (4000, THOUSANDS)] {
+        for order in [Order::Ascending, Order::Random] {
+            let (table, store) = inputs::table(count, 64, order);
+            let input = format!("16 B, no section, and {count} devices {}", order.name());
+            tell(many_row(case(&empty, &input, target), &table, &store));
+        }
+    }
+}
+
+const TWENTY_DEVICES: &str = "1 MiB, RAM, and 20 devices random";
+
+/// All devices of a table, beside the first of them.
+fn twenty_row(file: &[u8], table: &[u8], store: &[u8]) -> Row {
+    let (card, _) = cards(file);
+    let mut out = vec![0xEE; file.len() + table.len() + store.len() + 20];
+    let id = u32::from_le_bytes([table[0], table[1], table[2], table[3]]);
+    let all = |out: &mut [u8]| raw::add_devices(black_box(file), card, table, store, out);
+    let one = |out: &mut [u8]| raw::add_device(black_box(file), card, id, 1, 0, &store[..64], out);
+    assert_eq!((all(&mut out).number, one(&mut out).number), (0, 0), "twenty devices: refused");
+    let contestants = [
+        contestant(all),
+        contestant(one),
+        contestant(|out| out[..file.len()].copy_from_slice(black_box(file))),
+    ];
+    row("add_devices", TWENTY_DEVICES, "one add", TWENTY, &contest(&contestants, &mut out))
+}
+
+/// All devices of a table, beside the reference's pass with one sort and one writing.
+fn many_row(case: Case, table: &[u8], store: &[u8]) -> Row {
+    let file = case.file;
+    let (card, other) = cards(file);
+    let library = |file: &[u8], out: &mut [u8]| {
+        told(raw::add_devices(file, card, black_box(table), store, out))
+    };
+    let peer = |file: &[u8], out: &mut [u8]| {
+        reference::add_devices_in_one_pass(file, other, black_box(table), store, out).answer()
+    };
+    let mut out = vec![0xEE; file.len() + table.len() + store.len() + 20];
+    agree("add_devices", &case, &mut out, library, peer);
+    let contestants = [
+        contestant(|out| library(black_box(file), out)),
+        contestant(|out| peer(black_box(file), out)),
+        contestant(|out| {
+            out[..file.len()].copy_from_slice(black_box(file));
+            out[file.len()..][..store.len()].copy_from_slice(black_box(store));
+        }),
+    ];
+    row(
+        "add_devices",
+        &case.input,
+        "sort and write",
+        case.writing,
+        &contest(&contestants, &mut out),
+    )
 }
 
 fn row(call: &'static str, input: &str, peer: &'static str, target: f64, outcome: &Outcome) -> Row {

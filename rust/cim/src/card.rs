@@ -55,15 +55,16 @@ pub fn claim<'a>(words: &'a Words, out: &'a OsStr) -> Result<Target<'a>, Failure
     files::claim(words, out)
 }
 
-/// Opens a snapshot, edits it and writes it; with `--card` its card is printed behind that.
-pub fn edit(
+/// Opens a snapshot, edits it and writes it; with `--card` its card is printed behind that. What the edit refuses is no fault of
+/// the snapshot, which is taken by then.
+pub fn edit<E: Into<Failure>>(
     words: &Words,
     file: &[u8],
     target: Target,
-    edit: impl FnOnce(&mut Snapshot) -> cimbrolau::Result<()>,
+    edit: impl FnOnce(&mut Snapshot) -> Result<(), E>,
 ) -> Result<(), Failure> {
     let mut snapshot = Snapshot::open(file).map_err(of_snapshot(file))?;
-    edit(&mut snapshot).map_err(of_snapshot(file))?;
+    edit(&mut snapshot).map_err(Into::into)?;
     target.put(snapshot.bytes())?;
     match words.has(&CARD) {
         true => tell(words, snapshot.card()),

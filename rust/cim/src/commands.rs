@@ -2,10 +2,10 @@
 //! follow.
 
 use crate::command::Command;
-use crate::{add_device, add_disk, canon, card, check, completions, diff, explain, extract, list};
+use crate::{add_device, add_devices, add_disk, canon, card, check, completions, diff, explain};
 use crate::{
-    manual, message, ready, region, remove_device, remove_disk, replace_device, salvage, set,
-    sheet, show, wrapper,
+    extract, list, manual, message, ready, region, remove_device, remove_disk, replace_device,
+    salvage, set, sheet, show, wrapper,
 };
 
 pub const ALL: &[Command] = &[
@@ -21,6 +21,7 @@ pub const ALL: &[Command] = &[
     canon::COMMAND,
     salvage::COMMAND,
     add_device::COMMAND,
+    add_devices::COMMAND,
     add_disk::COMMAND,
     remove_device::COMMAND,
     remove_disk::COMMAND,

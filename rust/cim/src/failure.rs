@@ -29,6 +29,8 @@ pub enum Failure {
 pub struct Told {
     /// What is refused, where a command has more than one input.
     pub of: Option<String>,
+    /// Which line of it, where it is a list.
+    pub line: Option<usize>,
     pub refusal: Refusal,
     /// Where its place lies, in words.
     pub lies: Option<String>,
@@ -40,7 +42,8 @@ impl Told {
     /// The refusal on a line, and the bytes on a second one.
     pub fn words(&self) -> String {
         let Refusal { kind, place } = self.refusal;
-        let of = self.of.as_ref().map_or_else(String::new, |of| format!("{of}: "));
+        let line = self.line.map_or_else(String::new, |line| format!(", line {line}"));
+        let of = self.of.as_ref().map_or_else(String::new, |of| format!("{of}{line}: "));
         let mut words = format!("{of}refused {} {} at {place}", kind.number(), kind.name());
         if place > 9 {
             words += &format!(" (0x{place:X})");
@@ -58,8 +61,12 @@ impl Told {
     /// The refusal as members of an object.
     pub fn members(&self, object: Object) -> Object {
         let Refusal { kind, place } = self.refusal;
+        let object = object.perhaps("file", self.of.as_deref());
+        let object = match self.line {
+            Some(line) => object.number("line", line as u64),
+            None => object,
+        };
         let object = object
-            .perhaps("file", self.of.as_deref())
             .number("number", kind.number())
             .text("name", kind.name())
             .number("place", place)
@@ -85,6 +92,14 @@ impl Failure {
     pub fn named(mut self, of: &str) -> Failure {
         if let Failure::Refused(told) = &mut self {
             told.of = Some(of.to_string());
+        }
+        self
+    }
+
+    /// A refusal of what stands on a line, told with its number.
+    pub fn on_line(mut self, number: usize) -> Failure {
+        if let Failure::Refused(told) = &mut self {
+            told.line = Some(number);
         }
         self
     }
@@ -145,7 +160,13 @@ impl From<Refusal> for Failure {
             Refusal { kind: Kind::Room, place } => {
                 Failure::Io(format!("out of memory: the output takes {place} bytes"))
             }
-            _ => Failure::Refused(Box::new(Told { of: None, refusal, lies: None, bytes: None })),
+            _ => Failure::Refused(Box::new(Told {
+                of: None,
+                line: None,
+                refusal,
+                lies: None,
+                bytes: None,
+            })),
         }
     }
 }

@@ -29,6 +29,7 @@ mod words;
 
 // The commands, and their table.
 mod add_device;
+mod add_devices;
 mod add_disk;
 mod canon;
 mod card;

@@ -105,5 +105,6 @@ fn records(region: &mut Region, queue: u32, lines: &mut Lines) -> Result<(), Fai
 
 /// A refusal as an object.
 fn refused(refusal: Refusal) -> Object {
-    Refused { of: None, refusal, lies: None, bytes: None }.members(Object::new("refused"))
+    Refused { of: None, line: None, refusal, lies: None, bytes: None }
+        .members(Object::new("refused"))
 }

@@ -380,6 +380,7 @@ fn json_has_the_names_of_its_page() {
     put(&at, "panel", &panel::panel());
     put(&at, "two", TWO_DEVICES);
     put(&at, "bad", &key_again());
+    put(&at, "list", b"3 1 0 two\n");
     put(&at, "states", STATES);
     let region = concat!(env!("CARGO_MANIFEST_DIR"), "/../../samples/panel.region");
     let mut seen = Vec::new();
@@ -396,6 +397,7 @@ fn json_has_the_names_of_its_page() {
         &["diff", "panel", "two"],
         &["canon", "two", "new"],
         &["salvage", "bad", "saved"],
+        &["add-devices", "two", "never", "--from", "list"],
         &["wrapper", "panel", "--device=256"],
         &["message", "0014030300 0000616263"],
         &["region", region],

@@ -51,4 +51,4 @@ pub mod wrapper;
 pub use message::{Level, Message};
 pub use opened::Snapshot;
 pub use raw::Card;
-pub use refusal::{Kind, Refusal, Result};
+pub use refusal::{Kind, Refusal, RefusedEntry, Result};

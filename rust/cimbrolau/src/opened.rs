@@ -3,8 +3,8 @@
 use std::borrow::Cow;
 
 use crate::raw::Card;
-use crate::refusal::Result;
-use crate::snapshot::{self, DeviceKey};
+use crate::refusal::{RefusedEntry, Result};
+use crate::snapshot::{self, DeviceKey, NewDevice};
 
 /// A snapshot file and the card of its canonical form. There is no way to have one without the other: opening a file makes the
 /// card, every edit that is taken exchanges both, and a refused one leaves both as they were. So no edit of it is ever CARD.
@@ -106,6 +106,24 @@ impl<'a> Snapshot<'a> {
         self.hold(snapshot::add_device(&self.bytes, self.card, key, payload)?)
     }
 
+    /// Adds many devices, or none of them: the first that is refused is named by its index. Their payloads are parts of `store`.
+    ///
+    /// ```
+    /// use cimbrolau::snapshot::NewDevice;
+    /// let mut panel = cimbrolau::Snapshot::empty();
+    /// let new = |id, place, length| NewDevice { id, version: 1, flags: 0, place, length };
+    /// panel.add_devices(&[new(14, 2, 1), new(3, 0, 2)], &[0xAB, 0xCD, 0x11])?;
+    /// assert_eq!((panel.card().devices, panel.card().payloads), (2, 3));
+    /// # Ok::<(), cimbrolau::RefusedEntry>(())
+    /// ```
+    pub fn add_devices(
+        &mut self,
+        devices: &[NewDevice],
+        store: &[u8],
+    ) -> std::result::Result<(), RefusedEntry> {
+        self.hold(snapshot::add_devices(&self.bytes, self.card, devices, store)?)
+    }
+
     /// Adds a disk. A disk that is there already is HAVE.
     ///
     /// ```
@@ -157,7 +175,7 @@ impl<'a> Snapshot<'a> {
     }
 
     /// What an edit gave takes the place of both.
-    fn hold(&mut self, (bytes, card): (Vec<u8>, Card)) -> Result<()> {
+    fn hold<E>(&mut self, (bytes, card): (Vec<u8>, Card)) -> std::result::Result<(), E> {
         *self = Snapshot { bytes: Cow::Owned(bytes), card };
         Ok(())
     }

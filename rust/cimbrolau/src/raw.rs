@@ -6,7 +6,8 @@
 //! Use it where a buffer is at hand and nothing should be allocated; [`crate::snapshot`], [`crate::wrapper`],
 //! [`crate::Message`] and [`crate::region`] stand on it and are easier to use.
 
-use std::mem::size_of;
+use std::borrow::Cow;
+use std::mem::{offset_of, size_of, size_of_val};
 
 /// What a call answers: number 0 and the bytes written, or the number of a refusal and its place.
 #[repr(C)]
@@ -50,12 +51,29 @@ impl Card {
 pub struct Edited {
     /// 0 where the file is taken and edited, else the number of the refusal.
     pub number: u32,
-    /// Which of many entries is refused; 0 in the calls of one entry.
+    /// Which of many entries is refused, from 0; 0 in the calls of one entry, and where no entry is to blame.
     pub index: u32,
     /// The bytes written, or the refusal's place.
     pub place: u64,
     /// The card of the result. Beside a refusal it is the card that went in; where none went in, its numbers are 0.
     pub card: Card,
+}
+
+/// A device that is to be added among many: its key, and where its payload stands in the bytes that hold them. These are the
+/// 24 bytes of a record of the table of [`add_devices`].
+#[repr(C)]
+#[derive(Clone, Copy, Debug, PartialEq, Eq, Hash)]
+pub struct NewDevice {
+    /// The device's id.
+    pub id: u32,
+    /// The version of its payload.
+    pub version: u16,
+    /// The device's flags.
+    pub flags: u16,
+    /// Where its payload starts in the store.
+    pub place: u64,
+    /// How many bytes its payload has.
+    pub length: u64,
 }
 
 /// What reading a message answers: its kind by its tag, its numbers in the order of its fields, and where its data stands.
@@ -212,6 +230,11 @@ const _: () = assert!(size_of::<Record>() == 32 && size_of::<Readiness>() == 16)
 const _: () = assert!(size_of::<Salvaged>() == 24);
 const _: () = assert!(size_of::<Card>() == 32 && size_of::<Edited>() == 48);
 
+// The fields of a new device fill its 24 bytes: 4, 2, 2, 8 and 8, each where the record has it, and none between them.
+const _: () = assert!(size_of::<NewDevice>() == 4 + 2 + 2 + 8 + 8);
+const _: () = assert!(offset_of!(NewDevice, version) == 4 && offset_of!(NewDevice, flags) == 6);
+const _: () = assert!(offset_of!(NewDevice, place) == 8 && offset_of!(NewDevice, length) == 16);
+
 /// The library's own functions. A slice is lent as a pointer and a length, for the time of the call.
 mod c {
     use super::{
@@ -312,6 +335,17 @@ mod c {
             base_length: usize,
             overlay: *const u8,
             overlay_length: usize,
+            out: *mut u8,
+            out_length: usize,
+        ) -> Edited;
+        pub fn cimbrolau_add_devices(
+            file: *const u8,
+            file_length: usize,
+            card: Card,
+            table: *const u8,
+            table_length: usize,
+            store: *const u8,
+            store_length: usize,
             out: *mut u8,
             out_length: usize,
         ) -> Edited;
@@ -600,6 +634,101 @@ pub fn add_disk(
             out.as_mut_ptr(),
             out.len(),
         )
+    }
+}
+
+/// Writes the canonical form of a snapshot file with many devices more: as [`add_device`] for one entry of the table after the
+/// other would, each into a buffer of the output's length. The first entry that is refused is named by its index.
+///
+/// The table has 24 bytes for each entry: u32 id, u16 version, u16 flags, u64 place, u64 length, low bytes first; the payload is
+/// that part of `store`. A part record at the end is no entry. [`add_devices_of`] takes the same as a slice of [`NewDevice`].
+///
+/// ```
+/// use cimbrolau::{raw, snapshot::EMPTY, Card};
+/// let mut table = [0; 48];
+/// table[..8].copy_from_slice(&[14, 0, 0, 0, 1, 0, 0, 0]);
+/// (table[8], table[16]) = (2, 1); // one byte at 2
+/// table[24..32].copy_from_slice(&[3, 0, 0, 0, 1, 0, 0, 0]);
+/// (table[32], table[40]) = (0, 2); // two bytes at 0
+/// let mut out = [0; 71];
+/// let answer = raw::add_devices(&EMPTY, Card::EMPTY, &table, &[0xAB, 0xCD, 0x11], &mut out);
+/// assert_eq!((answer.number, answer.index, answer.place), (0, 0, 71));
+/// assert_eq!((&out[52..54], out[70]), (&[0xAB, 0xCD][..], 0x11)); // in the order of their keys
+///
+/// let answer = raw::add_devices(&EMPTY, Card::EMPTY, &table, &[0x11], &mut out);
+/// assert_eq!((answer.number, answer.index), (26, 0)); // PAYLOAD: the first entry's is not there
+/// ```
+pub fn add_devices(file: &[u8], card: Card, table: &[u8], store: &[u8], out: &mut [u8]) -> Edited {
+    // SAFETY: each pointer and length are of one live slice; the library reads `file`, `table` and `store` and writes within
+    // `out`, which no other reference names, during the call alone.
+    unsafe {
+        c::cimbrolau_add_devices(
+            file.as_ptr(),
+            file.len(),
+            card,
+            table.as_ptr(),
+            table.len(),
+            store.as_ptr(),
+            store.len(),
+            out.as_mut_ptr(),
+            out.len(),
+        )
+    }
+}
+
+/// [`add_devices`] over a slice of new devices instead of a table's bytes.
+///
+/// ```
+/// use cimbrolau::{raw, snapshot::EMPTY, Card};
+/// let new = |id, place, length| raw::NewDevice { id, version: 1, flags: 0, place, length };
+/// let devices = [new(14, 2, 1), new(3, 0, 2), new(14, 0, 0)];
+/// let store = [0xAB, 0xCD, 0x11];
+/// let mut out = [0; 71];
+/// let answer = raw::add_devices_of(&EMPTY, Card::EMPTY, &devices[..2], &store, &mut out);
+/// assert_eq!((answer.number, answer.place), (0, 71));
+///
+/// let answer = raw::add_devices_of(&EMPTY, Card::EMPTY, &devices, &store, &mut out);
+/// assert_eq!((answer.number, answer.index), (17, 2)); // HAVE
+/// ```
+pub fn add_devices_of(
+    file: &[u8],
+    card: Card,
+    devices: &[NewDevice],
+    store: &[u8],
+    out: &mut [u8],
+) -> Edited {
+    add_devices(file, card, &table_of(devices), store, out)
+}
+
+/// The table's bytes of these devices: their own, where the machine has the low byte first as the records have.
+fn table_of(devices: &[NewDevice]) -> Cow<'_, [u8]> {
+    if cfg!(target_endian = "big") {
+        return Cow::Owned(devices.iter().flat_map(|device| device.record()).collect());
+    }
+    // SAFETY: the bytes are those of one live slice, which is borrowed for as long as they are. All of them are initialised:
+    // the fields of a `NewDevice` are plain numbers that fill its 24 bytes (asserted above), so that there is no padding in
+    // one, nor between two. Any address suits a `u8`.
+    Cow::Borrowed(unsafe {
+        std::slice::from_raw_parts(devices.as_ptr().cast(), size_of_val(devices))
+    })
+}
+
+impl NewDevice {
+    /// The record of a table: the numbers in their order, low bytes first.
+    ///
+    /// ```
+    /// let device = cimbrolau::raw::NewDevice { id: 3, version: 1, flags: 0, place: 256, length: 2 };
+    /// let record = [3, 0, 0, 0, 1, 0, 0, 0, 0, 1, 0, 0, 0, 0, 0, 0, 2, 0, 0, 0, 0, 0, 0, 0];
+    /// assert_eq!(device.record(), record);
+    /// ```
+    pub fn record(&self) -> [u8; 24] {
+        let mut record = [0; 24];
+        record[..4].copy_from_slice(&self.id.to_le_bytes());
+        record[4..6].copy_from_slice(&self.version.to_le_bytes());
+        record[6..8].copy_from_slice(&self.flags.to_le_bytes());
+        record[8..16].copy_from_slice(&self.place.to_le_bytes());
+        record[16..].copy_from_slice(&self.length.to_le_bytes());
+        record
     }
 }
 
@@ -1023,4 +1152,26 @@ pub fn mmu_set(state: &mut [u8], field: u32, index: u32, value: &[u8]) -> Answer
 pub fn access(word: u32) -> Access {
     // SAFETY: a number goes in and numbers come out.
     unsafe { c::cimbrolau_access(word) }
+}
+
+#[cfg(test)]
+mod tests {
+    use super::*;
+
+    #[test]
+    fn a_slice_of_new_devices_is_its_table() {
+        let devices: Vec<NewDevice> = (0..5u32)
+            .map(|at| NewDevice {
+                id: 0x0403_0201 + at,
+                version: 0x0605,
+                flags: 0x0807,
+                place: 0x100F_0E0D_0C0B_0A09,
+                length: u64::MAX - u64::from(at),
+            })
+            .collect();
+        let records: Vec<u8> = devices.iter().flat_map(NewDevice::record).collect();
+        for count in 0..=devices.len() {
+            assert_eq!(table_of(&devices[..count]), &records[..24 * count]);
+        }
+    }
 }

@@ -178,6 +178,37 @@ impl fmt::Display for Refusal {
 
 impl std::error::Error for Refusal {}
 
+/// A refusal of one of many entries, and which it is.
+///
+/// ```
+/// use cimbrolau::{snapshot::NewDevice, Kind, Snapshot};
+/// let new = |id| NewDevice { id, version: 1, flags: 0, place: 0, length: 0 };
+/// let refused = Snapshot::empty().add_devices(&[new(3), new(14), new(3)], &[]).unwrap_err();
+/// assert_eq!((refused.index, refused.refusal.kind), (2, Kind::Have));
+/// assert_eq!(refused.to_string(), "entry 2: 17 HAVE at 0: added key is there");
+/// ```
+#[derive(Clone, Copy, Debug, PartialEq, Eq, Hash)]
+pub struct RefusedEntry {
+    /// The entry's number, from 0; 0 too where no entry is to blame: for a fault of the file, for CARD, and where there is none.
+    pub index: u32,
+    /// Why.
+    pub refusal: Refusal,
+}
+
+impl fmt::Display for RefusedEntry {
+    fn fmt(&self, f: &mut fmt::Formatter<'_>) -> fmt::Result {
+        write!(f, "entry {}: {}", self.index, self.refusal)
+    }
+}
+
+impl std::error::Error for RefusedEntry {}
+
+impl From<RefusedEntry> for Refusal {
+    fn from(refused: RefusedEntry) -> Refusal {
+        refused.refusal
+    }
+}
+
 /// What a call gives, or why it refused.
 pub type Result<T> = std::result::Result<T, Refusal>;
 

@@ -2,9 +2,10 @@
 //!
 //! An edit takes the card of its file and gives the card of its result; [`Snapshot`](crate::Snapshot) keeps the two together.
 
+pub use crate::raw::NewDevice;
 use crate::raw::{self, Card};
 use crate::records::{self, position, table_most, u16_at, u32_at, u64_at, RECORD};
-use crate::refusal::{edited, filled, outcome, Result};
+use crate::refusal::{edited, filled, outcome, RefusedEntry, Result};
 pub use crate::salvage::{salvage, Loss, Rescued};
 
 /// The shortest snapshot: the header, and no section.
@@ -21,6 +22,9 @@ pub const MOST_BYTES: u64 = 1024 << 20;
 
 /// The most bytes a device's payload has, 64 MiB; a longer one is LIMIT.
 pub const MOST_PAYLOAD_BYTES: u64 = 64 << 20;
+
+/// The most bytes a section of devices has, 256 MiB; with more of them it is LIMIT.
+pub const MOST_DEVICES_BYTES: u64 = 256 << 20;
 
 /// A section of a snapshot.
 #[derive(Clone, Copy, Debug, PartialEq, Eq, Hash)]
@@ -515,6 +519,43 @@ pub fn add_disk(
 ) -> Result<(Vec<u8>, Card)> {
     let most = file_most(file.len() + 20 + 12 + base.len() + overlay.len());
     edited(most, |out| raw::add_disk(file, card, id, base, overlay, out))
+}
+
+/// The canonical form of the file with many devices more, and its card: what [`add_device`] gives for one after the other, with
+/// one copy of the file. The payload of each is a part of `store`; one that lies outside of it is PAYLOAD, and a key that comes
+/// again among them is HAVE. The first that is refused is named by its index, and none of them is added then.
+///
+/// ```
+/// use cimbrolau::snapshot::{self, NewDevice};
+/// use cimbrolau::{Card, Kind};
+/// let new = |id, place, length| NewDevice { id, version: 1, flags: 0, place, length };
+/// let store = [0xAB, 0xCD, 0x11];
+/// let (file, card) =
+///     snapshot::add_devices(&snapshot::EMPTY, Card::EMPTY, &[new(14, 2, 1), new(3, 0, 2)], &store)?;
+/// assert_eq!(card, Card { length: 71, sections: 1, devices: 2, payloads: 3 });
+/// assert_eq!(snapshot::devices(&file)?[0].payload(&file), Some(&[0xAB, 0xCD][..]));
+///
+/// let refused = snapshot::add_devices(&file, card, &[new(5, 3, 0), new(6, 3, 1)], &store).unwrap_err();
+/// assert_eq!((refused.index, refused.refusal.kind), (1, Kind::Payload));
+/// # Ok::<(), cimbrolau::Refusal>(())
+/// ```
+pub fn add_devices(
+    file: &[u8],
+    card: Card,
+    devices: &[NewDevice],
+    store: &[u8],
+) -> std::result::Result<(Vec<u8>, Card), RefusedEntry> {
+    // At most a section's header and count, and a section's worth of entries, are added: more is LIMIT before it is ROOM.
+    let entries = devices.iter().map(|device| device.length.saturating_add(16));
+    let bytes = entries.fold(0, u64::saturating_add).min(MOST_DEVICES_BYTES);
+    let most = file_most(file.len() + 20 + bytes as usize);
+    let mut index = 0;
+    let made = edited(most, |out| {
+        let given = raw::add_devices_of(file, card, devices, store, out);
+        index = given.index;
+        given
+    });
+    made.map_err(|refusal| RefusedEntry { index, refusal })
 }
 
 /// The canonical form of the file without one of its devices. A key that is not there is ABSENT; with its last device a

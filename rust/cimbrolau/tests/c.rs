@@ -90,7 +90,7 @@ fn the_example_lists_the_sample_and_names_a_refusal() {
 const CARDS: &str = r#"
 #include <cimbrolau.h>
 #include <stdio.h>
-static uint8_t file[64], out[64];
+static uint8_t file[64], out[64], many[71];
 static void show(const char *what, struct cimbrolau_edited e) {
     printf("%s: %u %u %u, %llu %llu %llu %llu\n", what, e.number, e.index, (unsigned)e.place, (unsigned long long)e.card.length,
            (unsigned long long)e.card.sections, (unsigned long long)e.card.devices, (unsigned long long)e.card.payloads);
@@ -108,6 +108,15 @@ int main(void) {
     show("absent", cimbrolau_remove_disk(file, 54, far, 9, out, 64));
     show("untrue", cimbrolau_remove_device(file, 54, far, 3, 1, 0, out, 64));
     show("remove", cimbrolau_remove_device(file, 54, e.card, 3, 1, 0, out, 64));
+    struct cimbrolau_new_device table[3] = {{14, 1, 0, 2, 1}, {3, 1, 0, 0, 2}, {14, 1, 0, 0, 0}};
+    const uint8_t *bytes = (const uint8_t *)table, *store = (const uint8_t *)"abc";
+    e = cimbrolau_open(empty, 16);
+    show("many", cimbrolau_add_devices(empty, 16, e.card, bytes, 48, store, 3, many, 71));
+    printf("%c%c%c\n", many[52], many[53], many[70]);
+    show("again", cimbrolau_add_devices(empty, 16, e.card, bytes, 72, store, 3, many, 71));
+    show("outside", cimbrolau_add_devices(empty, 16, far, bytes, 72, store, 1, many, 71));
+    show("room", cimbrolau_add_devices(empty, 16, far, bytes, 48, store, 3, many, 70));
+    show("none", cimbrolau_add_devices(empty, 16, e.card, bytes, 23, store, 3, many, 71));
     printf("%llu %llu\n", (unsigned long long)far.length, (unsigned long long)far.payloads);
     return 0;
 }
@@ -122,6 +131,12 @@ disk: 16 0 86, 54 1 1 2
 absent: 25 0 0, 18446744073709551615 2 3 4
 untrue: 28 0 0, 18446744073709551615 2 3 4
 remove: 0 0 16, 16 0 0 0
+many: 0 0 71, 71 1 2 3
+abc
+again: 17 2 0, 16 0 0 0
+outside: 26 0 0, 18446744073709551615 2 3 4
+room: 16 1 71, 18446744073709551615 2 3 4
+none: 0 0 16, 16 0 0 0
 18446744073709551615 4
 ";
 

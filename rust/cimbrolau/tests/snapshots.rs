@@ -1,7 +1,7 @@
 //! The examples of document 01 on snapshots and wrappers, through the wrapper's types.
 
-use cimbrolau::snapshot::{self, Device, Disk, Section};
-use cimbrolau::{wrapper, Card, Kind, Refusal, Snapshot};
+use cimbrolau::snapshot::{self, Device, Disk, NewDevice, Section};
+use cimbrolau::{wrapper, Card, Kind, Refusal, RefusedEntry, Snapshot};
 
 /// P4: two devices, saved in descending order of their keys.
 const TWO_DEVICES: &[u8] = b"AEROSNAP\x01\0\x01\0\0\0\0\0\
@@ -128,6 +128,61 @@ fn beside_an_untrue_card_the_bytes_are_the_same_or_the_edit_is_card() {
     assert_eq!(removed, refused(Kind::Card, 0));
     let removed = snapshot::remove_device(TWO_DEVICES, Card { length: 33, ..card }, (3, 1, 0));
     assert_eq!(removed, refused(Kind::Card, 0));
+}
+
+fn new(id: u32, place: u64, length: u64) -> NewDevice {
+    NewDevice { id, version: 1, flags: 0, place, length }
+}
+
+#[test]
+fn many_devices_at_once_are_as_one_by_one() {
+    let store: Vec<u8> = (0..100).collect();
+    let devices: Vec<NewDevice> =
+        (0..20).map(|id| new(20 + 7 * id % 20, u64::from(id), u64::from(id % 9))).collect();
+    let mut at_once = Snapshot::open(TWO_DEVICES).unwrap();
+    at_once.add_devices(&devices, &store).unwrap();
+    let mut one_by_one = Snapshot::open(TWO_DEVICES).unwrap();
+    for device in devices.iter().rev() {
+        let part = &store[device.place as usize..][..device.length as usize];
+        one_by_one.add_device((device.id, device.version, device.flags), part).unwrap();
+    }
+    assert_eq!(at_once, one_by_one);
+    assert_eq!(snapshot::open(at_once.bytes()), Ok(at_once.card()));
+    at_once.add_devices(&[], &[]).unwrap();
+    assert_eq!(at_once, one_by_one);
+}
+
+#[test]
+fn a_refused_entry_is_named_and_none_is_added() {
+    let mut panel = Snapshot::open(TWO_DEVICES).unwrap();
+    let told = |index, kind| Err(RefusedEntry { index, refusal: Refusal { kind, place: 0 } });
+    let store = [7; 10];
+    assert_eq!(panel.add_devices(&[new(4, 0, 10), new(3, 0, 1)], &store), told(1, Kind::Have));
+    assert_eq!(panel.add_devices(&[new(4, 0, 10), new(5, 10, 1)], &store), told(1, Kind::Payload));
+    let far = new(5, u64::MAX, u64::MAX);
+    assert_eq!(panel.add_devices(&[new(4, 0, 10), far], &store), told(1, Kind::Payload));
+    let many: Vec<NewDevice> = (0..4097).map(|id| new(100 + id, 10, 0)).collect();
+    assert_eq!(panel.add_devices(&many, &store), told(4094, Kind::Limit));
+    assert_eq!(panel, Snapshot::open(TWO_DEVICES).unwrap());
+    let card = Card { devices: 4095, ..panel.card() };
+    let edited = snapshot::add_devices(TWO_DEVICES, card, &many[..2], &store);
+    assert_eq!(edited.map(|_| ()), told(0, Kind::Card));
+    let edited = snapshot::add_devices(&TWO_DEVICES[..15], card, &many, &store);
+    assert_eq!(edited.map(|_| ()), told(0, Kind::Short));
+}
+
+/// One part of the store many times over: the output is longer than all that goes in.
+#[test]
+fn payloads_may_overlap() {
+    let store = vec![0x5A; 100_000];
+    let devices: Vec<NewDevice> = (0..200).map(|id| new(100 + id, 0, 100_000)).collect();
+    let mut panel = Snapshot::empty();
+    panel.add_devices(&devices, &store).unwrap();
+    assert_eq!((panel.card().devices, panel.card().payloads), (200, 20_000_000));
+    let devices: Vec<NewDevice> = (0..4096).map(|id| new(100 + id, 0, 100_000)).collect();
+    let limit = (256 << 20) / 100_016;
+    let refused = Snapshot::empty().add_devices(&devices, &store).unwrap_err();
+    assert_eq!((refused.index, refused.refusal.kind), (limit, Kind::Limit));
 }
 
 #[test]

@@ -259,6 +259,18 @@ impl Comparison {
     ) -> T {
         let input = inputs.iter().map(|input| input.len()).sum();
         let length = self.lent_length(reference(&mut []).answer(), input);
+        self.output_in(length, call, inputs, library, reference)
+    }
+
+    /// A call with lent memory of so many bytes.
+    pub(crate) fn output_in<T: Answered>(
+        &mut self,
+        length: usize,
+        call: &str,
+        inputs: &[&[u8]],
+        library: impl Fn(&mut [u8]) -> T,
+        reference: impl Fn(&mut [u8]) -> T,
+    ) -> T {
         let salt = self.random.u8();
         lay_pattern(&mut self.ours, length, salt);
         lay_pattern(&mut self.theirs, length, salt);
@@ -312,7 +324,7 @@ impl Comparison {
 
     /// None, one too few, exactly enough, more, or anything, when `probe` was answered to none. Where the
     /// input itself is refused there is mostly room for a copy of it, so that a hasty writer shows.
-    fn lent_length(&mut self, probe: Answer, input: usize) -> usize {
+    pub(crate) fn lent_length(&mut self, probe: Answer, input: usize) -> usize {
         let more = 1 + self.random.below(40);
         let needed = probe.place as usize;
         match (probe.number, self.exact) {

@@ -5,7 +5,7 @@
 
 use std::fmt;
 
-use reference::answer::CARD;
+use reference::answer::{CARD, ROOM};
 use reference::{Answer, Card, Edited};
 
 use crate::compare::{fingerprint, lay_pattern, Answered, Comparison, MARGIN};
@@ -20,6 +20,8 @@ pub enum Edit<'a> {
     RemoveDevice(DeviceKey),
     RemoveDisk(u32),
     ReplaceDevice(DeviceKey, &'a [u8]),
+    /// A table of new devices, and the bytes that hold their payloads.
+    AddDevices(&'a [u8], &'a [u8]),
 }
 
 impl<'a> Edit<'a> {
@@ -28,6 +30,7 @@ impl<'a> Edit<'a> {
         match self {
             Edit::AddDevice(_, payload) | Edit::ReplaceDevice(_, payload) => vec![payload],
             Edit::AddDisk(_, base, overlay) => vec![base, overlay],
+            Edit::AddDevices(table, store) => vec![table, store],
             Edit::RemoveDevice(_) | Edit::RemoveDisk(_) => vec![],
         }
     }
@@ -41,6 +44,7 @@ impl fmt::Display for Edit<'_> {
             Edit::RemoveDevice(key) => write!(f, "remove_device of {key:?}"),
             Edit::RemoveDisk(id) => write!(f, "remove_disk of {id}"),
             Edit::ReplaceDevice(key, _) => write!(f, "replace_device of {key:?}"),
+            Edit::AddDevices(table, _) => write!(f, "add_devices of {} bytes", table.len()),
         }
     }
 }
@@ -68,13 +72,33 @@ fn reference_edit(file: &[u8], card: Card, edit: Edit, out: &mut [u8]) -> Edited
         Edit::ReplaceDevice((id, version, flags), payload) => {
             reference::replace_device(file, card, id, version, flags, payload, out)
         }
+        // The files on the way take as much memory as the output. Where that is long, the pass without them is asked, which the
+        // reference's own tests hold to the one with them.
+        Edit::AddDevices(table, store) if out.len() > LONG => {
+            reference::add_devices_in_one_pass(file, card, table, store, out)
+        }
+        Edit::AddDevices(table, store) => reference::add_devices(file, card, table, store, out),
     }
 }
+
+const LONG: usize = 16 << 20;
 
 impl Answered for Edited {
     fn answer(&self) -> Answer {
         Edited::answer(*self)
     }
+}
+
+/// The lengths of the files on the way, of which the first has `first` bytes: one for each entry of a table. What follows an
+/// entry whose payload is longer than any is never written.
+pub fn lengths_on_the_way(first: u64, table: &[u8]) -> Vec<u64> {
+    let records = table.chunks_exact(24).skip(1);
+    let payloads = records.map(|r| u64::from_le_bytes(r[16..24].try_into().expect("eight bytes")));
+    let mut lengths = vec![first];
+    for payload in payloads.take_while(|payload| *payload <= 64 << 20) {
+        lengths.push(lengths[lengths.len() - 1] + 16 + payload);
+    }
+    lengths
 }
 
 /// A card as its four numbers, and back.
@@ -124,6 +148,12 @@ impl Comparison {
 
     /// An edit of a file; the answer, and what the output then holds.
     pub fn edit(&mut self, file: &[u8], edit: Edit) -> (Answer, &[u8]) {
+        let edited = self.edited(file, edit);
+        (edited.answer(), self.lent())
+    }
+
+    /// The same, with the index and the card.
+    fn edited(&mut self, file: &[u8], edit: Edit) -> Edited {
         self.inputs += 1;
         let mut inputs = vec![file];
         inputs.extend(edit.brought());
@@ -133,7 +163,7 @@ impl Comparison {
         for (before, input) in before.into_iter().zip(inputs) {
             self.unchanged(before, input);
         }
-        (edited.answer(), self.lent())
+        edited
     }
 
     /// An edit beside the true card of a file, and now and then beside an untrue one.
@@ -142,7 +172,13 @@ impl Comparison {
         inputs.extend(edit.brought());
         let call = edit.to_string();
         let ours = self.edits.edit;
-        let edited = self.output(
+        let probe = (REFERENCE.edit)(file, card, edit, &mut []).answer();
+        let length = match edit {
+            Edit::AddDevices(table, _) => self.lent_on_the_way(probe, table, file.len()),
+            _ => self.lent_length(probe, inputs.iter().map(|input| input.len()).sum()),
+        };
+        let edited = self.output_in(
+            length,
             &call,
             &inputs,
             |out| ours(file, card, edit, out),
@@ -195,13 +231,64 @@ impl Comparison {
                 made.answer() == edited.answer()
                     && ours[MARGIN..written] == self.ours[MARGIN..written]
             }
-            _ => made.answer() == edited.answer() && edited.card == card,
+            _ => Edited { card, ..made } == edited,
         };
-        if !as_before || edited.index != 0 {
+        let many = matches!(edit, Edit::AddDevices(..));
+        let of_entry = many && ![0, CARD].contains(&edited.number);
+        if !as_before || edited.index != 0 && !of_entry {
             let what = format!("beside the true card {made:?}, beside this {edited:?}");
             self.fail(&call, &inputs, &what);
         }
         edited
+    }
+
+    /// How much is lent to an add of many devices, of which `probe` was answered to none: mostly about what one of the files on
+    /// the way takes, and most often the last of them.
+    fn lent_on_the_way(&mut self, probe: Answer, table: &[u8], input: usize) -> usize {
+        if probe.number != ROOM {
+            return self.lent_length(probe, input);
+        }
+        let lengths = lengths_on_the_way(probe.place, table);
+        let last = *lengths.last().expect("the first file on the way");
+        let needed =
+            if self.exact || self.random.once_in(2) { last } else { self.random.pick(&lengths) };
+        self.lent_length(Answer { place: needed, ..probe }, input)
+    }
+
+    /// Adds the devices of a table to a file; the answer, and what the output then holds.
+    pub fn add_devices(&mut self, file: &[u8], table: &[u8], store: &[u8]) -> (Edited, &[u8]) {
+        let edited = self.edited(file, Edit::AddDevices(table, store));
+        (edited, self.lent())
+    }
+
+    /// The same beside the true card, in memory of so many bytes.
+    pub fn add_devices_in(
+        &mut self,
+        room: usize,
+        file: &[u8],
+        table: &[u8],
+        store: &[u8],
+    ) -> (Edited, &[u8]) {
+        self.inputs += 1;
+        let inputs = [file, table, store];
+        let short = inputs.iter().all(|input| input.len() <= SHORT);
+        let before = inputs.map(|input| if short { fingerprint(input) } else { 0 });
+        let card = reference::open(file).card;
+        let (ours, edit) = (self.edits.edit, Edit::AddDevices(table, store));
+        let edited = self.output_in(
+            room,
+            &edit.to_string(),
+            &inputs,
+            |out| ours(file, card, edit, out),
+            |out| (REFERENCE.edit)(file, card, edit, out),
+        );
+        if short {
+            before
+                .into_iter()
+                .zip(inputs)
+                .for_each(|(before, input)| self.unchanged(before, input));
+        }
+        (edited, self.lent())
     }
 
     /// Adds a device to a file; the answer, and what the output then holds.

@@ -121,6 +121,12 @@ pub fn edit(file: &[u8], card: Card, edit: Edit, out: &mut [u8]) -> Edited {
                 edited(raw::replace_device(file, card, id, version, flags, payload, out))
             })
         }
+        Edit::AddDevices(table, store) => {
+            given.extend([Bytes(table), Bytes(store)]);
+            writes("add_devices", &given, out, |out| {
+                edited(raw::add_devices(file, card, table, store, out))
+            })
+        }
     }
 }
 

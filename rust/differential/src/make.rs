@@ -130,6 +130,19 @@ pub fn device_key(random: &mut Random) -> DeviceKey {
     (random.pick(&IDS), small_id(random), small_id(random))
 }
 
+/// A new device of a table: its key, and the place and the length of its payload in the second buffer.
+pub type New = (DeviceKey, u64, u64);
+
+/// The table of new devices, 24 bytes each.
+pub fn table(entries: &[New]) -> Vec<u8> {
+    let mut made = Made::default();
+    for ((id, version, flags), place, length) in entries {
+        made.number(4, u64::from(*id)).number(2, u64::from(*version)).number(2, u64::from(*flags));
+        made.number(8, *place).number(8, *length);
+    }
+    made.bytes
+}
+
 /// Up to `most` distinct keys in random order.
 pub fn distinct<K: Ord>(
     random: &mut Random,

@@ -266,7 +266,7 @@ impl Recorder {
         let first = bytes().next().unwrap_or(&[]);
         let longest = bytes().map(<[u8]>::len).fold(lent, usize::max);
         // Files and wrappers have many calls each; of all else each call is an input of its own.
-        let edits = name.ends_with("_device") || name.ends_with("_disk");
+        let edits = name.ends_with("_device") || name.ends_with("_disk") || name == "add_devices";
         let many = edits || matches!(given, [Bytes(_)]);
         let new = !many || first != self.last.as_slice();
         if new {

@@ -5,6 +5,9 @@
 #[path = "differential/cards.rs"]
 mod cards;
 #[allow(dead_code)]
+#[path = "differential/many.rs"]
+mod many;
+#[allow(dead_code)]
 #[path = "differential/removals.rs"]
 mod removals;
 #[allow(dead_code)]
@@ -18,7 +21,9 @@ use std::panic::{catch_unwind, AssertUnwindSafe};
 
 use differential::compare::Comparison;
 use differential::edits::EditCalls;
-use differential::planted::{cards as in_cards, rings as in_rings, sheets as in_sheets};
+use differential::planted::{
+    cards as in_cards, many as in_tables, rings as in_rings, sheets as in_sheets,
+};
 use differential::rings::RingCalls;
 use differential::sheets::SheetCalls;
 use differential::{edits as on_files, rings as on_rings, sheets as on_states};
@@ -74,7 +79,8 @@ fn nothing_is_found_in_the_reference_itself() {
         run.sheets = on_states::REFERENCE;
         group(&mut run);
     }
-    let groups: [Group; 2] = [cards::one_number, cards::any];
+    let groups: [Group; 5] =
+        [cards::one_number, cards::any, many::any, many::two_faults, many::untrue_cards];
     for group in groups {
         let mut run = Comparison::new("itself", 7);
         run.edits = on_files::REFERENCE;
@@ -298,4 +304,80 @@ fn an_edit_that_writes_before_its_card() {
         &[cards::one_number, cards::any, removals::on_any_file],
         in_cards::AN_EDIT_THAT_WRITES_BEFORE_ITS_CARD,
     );
+}
+
+#[test]
+fn an_index_from_1() {
+    found_by(&[many::any, many::parts], in_tables::AN_INDEX_FROM_1);
+}
+
+#[test]
+fn a_refusal_without_its_index() {
+    found_by(&[many::any, many::parts, many::again], in_tables::A_REFUSAL_WITHOUT_ITS_INDEX);
+}
+
+#[test]
+fn an_index_beside_a_taken_table() {
+    found_by(
+        &[many::any, many::every_order, many::rooms],
+        in_tables::AN_INDEX_BESIDE_A_TAKEN_TABLE,
+    );
+}
+
+#[test]
+fn an_empty_part_at_the_end_that_is_outside() {
+    found_by(&[many::any, many::parts], in_tables::AN_EMPTY_PART_AT_THE_END_THAT_IS_OUTSIDE);
+}
+
+#[test]
+fn an_empty_part_beyond_the_end_that_is_inside() {
+    found_by(&[many::any, many::parts], in_tables::AN_EMPTY_PART_BEYOND_THE_END_THAT_IS_INSIDE);
+}
+
+#[test]
+fn an_end_that_wraps() {
+    found_by(&[many::parts, many::two_faults], in_tables::AN_END_THAT_WRAPS);
+}
+
+#[test]
+fn a_part_record_that_is_an_entry() {
+    found_by(&[many::any, many::part_records], in_tables::A_PART_RECORD_THAT_IS_AN_ENTRY);
+}
+
+#[test]
+fn a_key_again_in_the_table_that_is_dropped() {
+    found_by(
+        &[many::any, many::again, many::thousands],
+        in_tables::A_KEY_AGAIN_IN_THE_TABLE_THAT_IS_DROPPED,
+    );
+}
+
+#[test]
+fn the_room_of_the_last_file_alone() {
+    found_by(&[many::any, many::rooms], in_tables::THE_ROOM_OF_THE_LAST_FILE_ALONE);
+}
+
+#[test]
+fn a_refused_table_that_writes() {
+    found_by(&[many::any, many::again, many::rooms], in_tables::A_REFUSED_TABLE_THAT_WRITES);
+}
+
+#[test]
+fn no_entry_and_no_canonical_form() {
+    found_by(&[many::any, many::part_records], in_tables::NO_ENTRY_AND_NO_CANONICAL_FORM);
+}
+
+#[test]
+fn a_limit_before_the_part() {
+    found_by(&[many::any, many::parts], in_tables::A_LIMIT_BEFORE_THE_PART);
+}
+
+#[test]
+fn a_part_before_the_file() {
+    found_by(&[many::any, many::two_faults], in_tables::A_PART_BEFORE_THE_FILE);
+}
+
+#[test]
+fn a_card_with_an_index() {
+    found_by(&[many::any, many::untrue_cards], in_tables::A_CARD_WITH_AN_INDEX);
 }

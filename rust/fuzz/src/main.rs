@@ -11,7 +11,9 @@ use std::process::ExitCode;
 use std::time::{Duration, Instant};
 
 use fuzz::hunt::{hunt, seeds, Hunt, Until};
-use fuzz::subject::{files, library_cards, library_regions, library_states, messages, wrappers};
+use fuzz::subject::{
+    files, library_cards, library_regions, library_states, library_tables, messages, wrappers,
+};
 
 fn main() -> ExitCode {
     let words: Vec<String> = std::env::args().skip(1).collect();
@@ -23,8 +25,15 @@ fn main() -> ExitCode {
         words.get(at).map_or(other, |word| word.parse().expect("SECONDS and NUMBER are numbers"))
     };
     let (seconds, seed) = (number(0, 60), number(1, 1));
-    let subjects =
-        [files(), library_cards(), wrappers(), messages(), library_regions(), library_states()];
+    let subjects = [
+        files(),
+        library_cards(),
+        library_tables(),
+        wrappers(),
+        messages(),
+        library_regions(),
+        library_states(),
+    ];
     let share = Duration::from_secs(seconds) / subjects.len() as u32;
     for subject in &subjects {
         let until = Until::Time(Instant::now() + share);

@@ -5,7 +5,7 @@ use reference::answer::{CUT, KEY, MANY, SECVER, TEXT, VALUE};
 use reference::{Answer, Meta};
 
 use crate::subject::{
-    cards, files, messages, meta, regions, salvage, states, wrappers, Call, Subject,
+    cards, files, messages, meta, regions, salvage, states, tables, wrappers, Call, Subject,
 };
 
 const TAKEN: Answer = Answer { number: 0, place: 0 };
@@ -25,6 +25,7 @@ pub fn all() -> Vec<(&'static str, Subject)> {
     let sheets = planted::sheets::ALL.iter().chain(planted::sheets::WORDS);
     all.extend(sheets.map(|(name, calls)| (*name, states(*calls))));
     all.extend(planted::cards::ALL.iter().map(|(name, calls)| (*name, cards(*calls))));
+    all.extend(planted::many::ALL.iter().map(|(name, calls)| (*name, tables(*calls))));
     let in_salvage = planted::salvage::ALL.iter();
     all.extend(in_salvage.map(|(name, call)| (*name, with(files(), "salvage", salvage(*call)))));
     let check = |error: fn(&[u8], Answer) -> Answer| -> Subject {

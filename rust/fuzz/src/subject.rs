@@ -210,6 +210,60 @@ fn tell(out: &mut [u8], numbers: [u64; 4]) {
     }
 }
 
+/// The file that tables of new devices are added to: devices 14 and 3 in descending order with two bytes behind them, and RAM.
+const TWO_DEVICES: &[u8] = b"AEROSNAP\x01\0\x01\0\0\0\0\0\
+    \x06\0\0\0\x01\0\0\0\x03\0\0\0\0\0\0\0RAM\
+    \x04\0\0\0\x01\0\0\0\x29\0\0\0\0\0\0\0\
+    \x02\0\0\0\
+    \x0E\0\0\0\x01\0\0\0\x01\0\0\0\0\0\0\0\x11\
+    \x03\0\0\0\x01\0\0\0\x02\0\0\0\0\0\0\0\xAB\xCDto";
+
+/// The bytes that hold the payloads of new devices.
+const STORE: &[u8] = b"the payloads of new devices, one behind the other or over each other";
+
+/// The bytes behind the output of a table: the index, and the card.
+const TOLD: usize = 40;
+
+/// Tables of new devices, with these calls in the library's place: into memory with room for about three of them, or for less.
+pub fn tables(calls: EditCalls) -> Subject {
+    let many = |calls: EditCalls| -> Call {
+        Box::new(move |table, out| {
+            let end = out.len() - TOLD;
+            let room = match table.first() {
+                Some(first) if first % 4 == 3 => end.min(96 + usize::from(*first)),
+                _ => end,
+            };
+            let card = reference::open(TWO_DEVICES).card;
+            let edit = Edit::AddDevices(table, STORE);
+            let edited = (calls.edit)(TWO_DEVICES, card, edit, &mut out[..room]);
+            let (index, told) = out[end..].split_at_mut(8);
+            index.copy_from_slice(&u64::from(edited.index).to_le_bytes());
+            tell(told, numbers(edited.card));
+            // What is refused at another entry is answered in another way.
+            match edited.number {
+                0 => edited.answer(),
+                number => {
+                    Answer { number, place: edited.place.min(400) + 4 * u64::from(edited.index) }
+                }
+            }
+        })
+    };
+    Subject {
+        name: "tables",
+        pairs: vec![Pair {
+            name: "add_devices",
+            ours: many(calls),
+            theirs: many(edits::REFERENCE),
+            lends: Lends::Input(TOLD + 240),
+        }],
+    }
+}
+
+/// The library's calls on tables.
+pub fn library_tables() -> Subject {
+    tables(library::EDITS)
+}
+
 /// How many records salvage has room for.
 const LOSSES: usize = 2;
 

@@ -3,7 +3,9 @@
 
 use fuzz::hunt::{hunt, seeds, Until};
 use fuzz::planted;
-use fuzz::subject::{files, library_cards, library_regions, library_states, messages, wrappers};
+use fuzz::subject::{
+    files, library_cards, library_regions, library_states, library_tables, messages, wrappers,
+};
 
 const NUMBER: u64 = 28;
 
@@ -12,8 +14,15 @@ const INPUTS: u64 = 200_000;
 
 #[test]
 fn the_library_and_the_reference_agree() {
-    let subjects =
-        [files(), library_cards(), wrappers(), messages(), library_regions(), library_states()];
+    let subjects = [
+        files(),
+        library_cards(),
+        library_tables(),
+        wrappers(),
+        messages(),
+        library_regions(),
+        library_states(),
+    ];
     for subject in subjects {
         let found = hunt(&subject, &seeds(subject.name), NUMBER, Until::Inputs(INPUTS));
         let told = found.difference.map(|(input, how)| format!("{how}: {input:02X?}"));

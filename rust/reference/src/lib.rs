@@ -9,6 +9,7 @@
 //! - [`list`]: the lists of devices, disks, CPUs, MMUs and controllers;
 //! - [`card`]: what is shown of a canonical file, and how edits move it;
 //! - [`snapshot`], [`wrapper`], [`message`]: the three formats and their calls;
+//! - [`many`]: many devices at once;
 //! - [`ready`]: what a snapshot lacks to be restored;
 //! - [`salvage`]: what can be kept of a damaged file;
 //! - [`ring`]: regions of shared memory and the rings in them;
@@ -18,6 +19,7 @@ pub mod answer;
 pub mod card;
 pub mod cursor;
 pub mod list;
+pub mod many;
 pub mod message;
 pub mod ready;
 pub mod ring;
@@ -28,6 +30,7 @@ pub mod wrapper;
 
 pub use answer::Answer;
 pub use card::{Card, Edited};
+pub use many::{add_devices, add_devices_in_one_pass};
 pub use message::{message_read, message_write, Reading};
 pub use ready::{ready, Readiness};
 pub use ring::{

@@ -11,9 +11,9 @@ use crate::list::{
     Kind, List, MOST_IMAGE, MOST_PAYLOAD, RECORD,
 };
 
-const MOST_FILE: usize = 1024 << 20;
-const MOST_SECTIONS: usize = 64;
-const MOST_DEVICES_PAYLOAD: u64 = 256 << 20;
+pub(crate) const MOST_FILE: usize = 1024 << 20;
+pub(crate) const MOST_SECTIONS: usize = 64;
+pub(crate) const MOST_DEVICES_PAYLOAD: u64 = 256 << 20;
 const MOST_LABEL: u32 = 4096;
 
 /// The file's header, and the length of a section's header.
@@ -23,7 +23,7 @@ pub(crate) const SECTION_HEADER: usize = 16;
 const META: u32 = 1;
 const CPU: u32 = 2;
 const MMU: u32 = 3;
-const DEVICES: u32 = 4;
+pub(crate) const DEVICES: u32 = 4;
 const DISKS: u32 = 5;
 const RAM: u32 = 6;
 const CPUS: u32 = 7;
@@ -31,13 +31,13 @@ const MMUS: u32 = 8;
 
 /// A section of a file that is taken.
 pub(crate) struct Section<'a> {
-    id: u32,
+    pub(crate) id: u32,
     /// Where its header starts in the file.
     start: usize,
     /// Its header and its payload.
-    bytes: &'a [u8],
+    pub(crate) bytes: &'a [u8],
     /// The entries of DEVICES, DISKS, CPUS and MMUS.
-    list: Option<List<'a>>,
+    pub(crate) list: Option<List<'a>>,
 }
 
 /// Checks a file.
@@ -158,7 +158,7 @@ pub fn replace_device(
 
 // Reading.
 
-fn read_file(file: &[u8]) -> Taken<Vec<Section<'_>>> {
+pub(crate) fn read_file(file: &[u8]) -> Taken<Vec<Section<'_>>> {
     read_header(file)?;
     let mut sections = Vec::new();
     let mut at = HEADER.len();
@@ -346,19 +346,19 @@ pub(crate) fn put_canonical(form: &Canonical, output: &mut Output) {
 }
 
 /// Known sections in ascending id, then the others in the order found, without the lists that count as absent.
-fn canonical_order<'s, 'a>(sections: &'s [Section<'a>]) -> Vec<&'s Section<'a>> {
+pub(crate) fn canonical_order<'s, 'a>(sections: &'s [Section<'a>]) -> Vec<&'s Section<'a>> {
     let mut ordered: Vec<_> = sections.iter().filter(|section| !section.is_absent()).collect();
     ordered.sort_by_key(|section| section.rank());
     ordered
 }
 
 /// The length of a file of these sections.
-fn length_of(sections: &[&Section]) -> usize {
+pub(crate) fn length_of(sections: &[&Section]) -> usize {
     HEADER.len() + sections.iter().map(|section| section.bytes.len()).sum::<usize>()
 }
 
 /// The card of a canonical file of these sections.
-fn card_of(sections: &[&Section]) -> Card {
+pub(crate) fn card_of(sections: &[&Section]) -> Card {
     let devices = sections.iter().find(|section| section.id == DEVICES);
     let devices = devices.and_then(|section| section.list.as_deref()).unwrap_or_default();
     Card {
@@ -376,12 +376,12 @@ impl Section<'_> {
     }
 
     /// What follows the entries of a list.
-    fn tail(&self, list: &List) -> &[u8] {
+    pub(crate) fn tail(&self, list: &List) -> &[u8] {
         let entries: usize = list.iter().map(|entry| entry.bytes.len()).sum();
         &self.bytes[SECTION_HEADER + 4 + entries..]
     }
 
-    fn rank(&self) -> u32 {
+    pub(crate) fn rank(&self) -> u32 {
         if is_known(self.id) {
             self.id
         } else {
@@ -391,7 +391,7 @@ impl Section<'_> {
 }
 
 /// Writes a section: a list with its header and its count as they are, its entries in key order, and its tail.
-fn put_section(section: &Section, output: &mut Output) {
+pub(crate) fn put_section(section: &Section, output: &mut Output) {
     match &section.list {
         None => output.put(section.bytes),
         Some(list) => {

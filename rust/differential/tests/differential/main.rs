@@ -11,6 +11,7 @@ mod adds;
 mod bounds;
 mod breaks;
 mod cards;
+mod many;
 mod messages;
 mod orders;
 mod ready;
@@ -28,13 +29,9 @@ use std::time::Instant;
 use differential::compare::Comparison;
 use differential::counts::Counts;
 use differential::record;
-use reference::answer::PAYLOAD;
 
 const SEED: u64 = 0x4149_5043_4145_524F;
 const AT_LEAST: u64 = 1_000_000;
-
-/// The numbers that no call of the library answers: PAYLOAD is of many devices at once.
-const NOT_ASKED: [u32; 1] = [PAYLOAD];
 
 type Group = (&'static str, fn(&mut Comparison));
 
@@ -123,6 +120,17 @@ const GROUPS: &[Group] = &[
     ("shifts: beside a plain map", shifts::beside_a_map),
     ("shifts: at the counts", shifts::at_the_counts),
     ("shifts: at the lengths", shifts::at_the_lengths),
+    ("many: any tables and files", many::any),
+    ("many: every order of a few", many::every_order),
+    ("many: places and lengths at their edges", many::parts),
+    ("many: keys that come again", many::again),
+    ("many: part records", many::part_records),
+    ("many: every room", many::rooms),
+    ("many: two faults at once", many::two_faults),
+    ("many: untrue cards", many::untrue_cards),
+    ("many: hundreds of entries", many::hundreds),
+    ("many: thousands of entries", many::thousands),
+    ("many: the longest", many::longest),
 ];
 
 fn main() {
@@ -182,6 +190,6 @@ impl Total {
 
     fn suffices(&self) {
         assert!(self.inputs >= AT_LEAST, "fewer than {AT_LEAST} inputs");
-        assert_eq!(self.answers.missing(), NOT_ASKED, "the refusals that never came");
+        assert_eq!(self.answers.missing(), [], "the refusals that never came");
     }
 }
