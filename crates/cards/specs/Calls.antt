@@ -7,6 +7,7 @@ use Rattle.aerosnap.specs.Adding.{device, disk, deviceNamed, diskNamed}
 use Rattle.aerosnap.specs.Edits.{Edit, add, remove, replace}
 use Rattle.cards.specs.declared.Card.{Card}
 use Rattle.cards.specs.Cards.{openFile, editCard}
+use Rattle.cards.specs.Whole.{manyCard}
 
 abbrev pub openCall : List ℕ → Outcome Card
 openCall file = openFile file
@@ -29,3 +30,7 @@ removeDiskCall have card file id = editCall have card file (remove (diskNamed id
 
 abbrev pub replaceDeviceCall : ℕ → Card → List ℕ → ℕ → ℕ → ℕ → List ℕ → ℕ × Outcome (List ℕ × Card)
 replaceDeviceCall have card file id version flags payload = editCall have card file (replace id version flags payload)
+
+-- the call with a table of new devices, whose payloads lie in the second buffer
+abbrev pub addDevicesCall : ℕ → Card → List ℕ → List ℕ → List ℕ → ℕ × Outcome (List ℕ × Card)
+addDevicesCall have card file table store = manyCard have card file table store

@@ -17,7 +17,7 @@ use Rattle.canon.proofs.Once as canon-once
 use Rattle.cards.specs.declared.Card.{Card}
 use Rattle.cards.specs.declared.Edited.{Edited}
 use Rattle.cards.specs.Cards.{openAnswer, WritesBeside}
-use Rattle.cards.specs.Calls.{openCall, editCall}
+use Rattle.cards.specs.Calls.{openCall, editCall, addDevicesCall}
 use Rattle.cards.proofs.Once.{beside-once}
 use Rattle.aerosnap.specs.Edits.{Edit}
 use Rattle.snapshot.specs.declared.MetaFields.{MetaFields}
@@ -84,6 +84,9 @@ open-once file r p a b = equal-once a b
 -- cimbrolau_add_device, cimbrolau_add_disk, cimbrolau_remove_device, cimbrolau_remove_disk, cimbrolau_replace_device
 pub edit-once : (card : Card) (e : Edit) (file old : List ℕ) (r p : Edited) (new now : List ℕ) → WritesBeside card (editCall (length old) card file e) old r new → WritesBeside card (editCall (length old) card file e) old p now → (r ≡ p) × (new ≡ now)
 edit-once card e file old r p new now a b = beside-once a b
+
+pub add-devices-once : (card : Card) (table store file old : List ℕ) (r p : Edited) (new now : List ℕ) → WritesBeside card (addDevicesCall (length old) card file table store) old r new → WritesBeside card (addDevicesCall (length old) card file table store) old p now → (r ≡ p) × (new ≡ now)
+add-devices-once card table store file old r p new now a b = beside-once a b
 
 pub wrapper-check-once : Judges wrapped.wrapperOf
 wrapper-check-once wrapper r s e f = equal-once e f

@@ -19,7 +19,7 @@ ghost use Rattle.aerosnap.specs.Calls.{checkCall, sectionsCall, devicesCall, di
 ghost use Rattle.aerosnap.specs.Salvage.{salvage};
 ghost use Rattle.canon.specs.Salvaging.{Salvages};
 ghost use Rattle.cards.specs.Cards.{openAnswer, WritesBeside};
-ghost use Rattle.cards.specs.Calls.{openCall, addDeviceCall, addDiskCall, removeDeviceCall, removeDiskCall, replaceDeviceCall};
+ghost use Rattle.cards.specs.Calls.{openCall, addDeviceCall, addDevicesCall, addDiskCall, removeDeviceCall, removeDiskCall, replaceDeviceCall};
 ghost use Rattle.snapshot.specs.MetaSection.{metaCall, asMeta};
 ghost use Rattle.dskc.specs.Wrapper as wrapped;
 ghost use Rattle.messages.specs.Reading.{readMessage, reading};
@@ -117,6 +117,19 @@ pub extern "C" fn cimbrolau_add_device(
     ensures { λ r. ⌜ WritesBeside card (addDeviceCall (length (now (out .entry))) card (now (file .entry)) id version flags (now (payload .entry))) (now (out .entry)) r (now (out .exit)) ⌝ }
 {
     snapshot::add_device(file, card, id, version, flags, payload, out)
+}
+
+#[no_mangle]
+pub extern "C" fn cimbrolau_add_devices(
+    file: &[u8],
+    card: Card,
+    table: &[u8],
+    store: &[u8],
+    out: &mut [u8],
+) -> Edited
+    ensures { λ r. ⌜ WritesBeside card (addDevicesCall (length (now (out .entry))) card (now (file .entry)) (now (table .entry)) (now (store .entry))) (now (out .entry)) r (now (out .exit)) ⌝ }
+{
+    snapshot::add_devices(file, card, table, store, out)
 }
 
 #[no_mangle]

@@ -48,11 +48,11 @@ pub use Rattle.payloads.proofs.Once.{index-once as payloads-index-once}
 pub use Rattle.sections.proofs.Once.{small-once, scan-once, is-list-once, check-and-find-once, count-entries-once, fits-once as sections-fits-once, divide-once}
 -- cards: move_by
 pub use Rattle.cards.proofs.Once.{move-by-once}
--- canon and snapshot: canonical; salvage; open; edited, and add_device, add_disk, remove_device, remove_disk, replace_device, which are that of one edit each
-pub use Rattle.canon.proofs.Once.{canonical-once, salvage-once, open-once, edited-once}
+-- canon and snapshot: canonical; salvage; open; edited, and add_device, add_disk, remove_device, remove_disk, replace_device, which are that of one edit each; added, and add_devices, which is that
+pub use Rattle.canon.proofs.Once.{canonical-once, salvage-once, open-once, edited-once, added-once}
 -- snapshot: check; sections; devices; disks; cpus; mmus; meta
 pub use Rattle.snapshot.proofs.Once.{check-once, sections-once, devices-once, disks-once, cpus-once, mmus-once, meta-once}
 -- ready: ready
 pub use Rattle.ready.proofs.Once.{ready-once}
 -- cimbrolau: the same calls for C, each law named after its function
-pub use Rattle.cimbrolau.proofs.Once.{check-once as cimbrolau-check-once, sections-once as cimbrolau-sections-once, devices-once as cimbrolau-devices-once, disks-once as cimbrolau-disks-once, cpus-once as cimbrolau-cpus-once, mmus-once as cimbrolau-mmus-once, meta-once as cimbrolau-meta-once, canonical-once as cimbrolau-canonical-once, salvage-once as cimbrolau-salvage-once, open-once as cimbrolau-open-once, edit-once as cimbrolau-edit-once, wrapper-check-once as cimbrolau-wrapper-check-once, controllers-once as cimbrolau-controllers-once, wrapper-canonical-once as cimbrolau-wrapper-canonical-once, message-read-once as cimbrolau-message-read-once, message-write-once as cimbrolau-message-write-once, region-check-once, ring-report-once, ring-reserve-once, ring-fill-once, ring-commit-once, ring-take-once, cpu-field-once as cimbrolau-cpu-field-once, mmu-field-once as cimbrolau-mmu-field-once, cpu-set-once as cimbrolau-cpu-set-once, mmu-set-once as cimbrolau-mmu-set-once, access-once as cimbrolau-access-once, ready-once as cimbrolau-ready-once}
+pub use Rattle.cimbrolau.proofs.Once.{check-once as cimbrolau-check-once, sections-once as cimbrolau-sections-once, devices-once as cimbrolau-devices-once, disks-once as cimbrolau-disks-once, cpus-once as cimbrolau-cpus-once, mmus-once as cimbrolau-mmus-once, meta-once as cimbrolau-meta-once, canonical-once as cimbrolau-canonical-once, salvage-once as cimbrolau-salvage-once, open-once as cimbrolau-open-once, edit-once as cimbrolau-edit-once, add-devices-once as cimbrolau-add-devices-once, wrapper-check-once as cimbrolau-wrapper-check-once, controllers-once as cimbrolau-controllers-once, wrapper-canonical-once as cimbrolau-wrapper-canonical-once, message-read-once as cimbrolau-message-read-once, message-write-once as cimbrolau-message-write-once, region-check-once, ring-report-once, ring-reserve-once, ring-fill-once, ring-commit-once, ring-take-once, cpu-field-once as cimbrolau-cpu-field-once, mmu-field-once as cimbrolau-mmu-field-once, cpu-set-once as cimbrolau-cpu-set-once, mmu-set-once as cimbrolau-mmu-set-once, access-once as cimbrolau-access-once, ready-once as cimbrolau-ready-once}

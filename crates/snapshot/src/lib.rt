@@ -31,7 +31,7 @@ ghost use Rattle.aerosnap.specs.Calls.{checkCall, sectionsCall, devicesCall, di
 ghost use Rattle.aerosnap.specs.Salvage.{salvage};
 ghost use Rattle.canon.specs.Salvaging.{Salvages};
 ghost use Rattle.cards.specs.Cards.{openAnswer, WritesBeside};
-ghost use Rattle.cards.specs.Calls.{openCall, addDeviceCall, addDiskCall, removeDeviceCall, removeDiskCall, replaceDeviceCall};
+ghost use Rattle.cards.specs.Calls.{openCall, addDeviceCall, addDevicesCall, addDiskCall, removeDeviceCall, removeDiskCall, replaceDeviceCall};
 ghost use Rattle.sections.specs.Index.{HoldsStarts};
 ghost use Rattle.snapshot.specs.Walks.{Lists};
 ghost use Rattle.snapshot.specs.MetaSection.{silent, metaAt, metaCall, asMeta};
@@ -403,6 +403,13 @@ pub fn add_device(
         file,
         out,
     )
+}
+
+// The canonical form of a file's content and the devices of a table more: a record of 24 bytes for each, whose payload lies in the second buffer.
+pub fn add_devices(file: &[u8], card: Card, table: &[u8], store: &[u8], out: &mut [u8]) -> Edited
+    ensures { λ r. ⌜ WritesBeside card (addDevicesCall (length (now (out .entry))) card (now (file .entry)) (now (table .entry)) (now (store .entry))) (now (out .entry)) r (now (out .exit)) ⌝ }
+{
+    canon::added(card, table, store, file, out)
 }
 
 // The canonical form of a file's content and one disk more.
