@@ -30,7 +30,7 @@ const FILL: &str = "cimbrolau_ring_fill";
 /// The bytes in a part, and the array's size.
 const PART: u64 = 0x10000;
 
-/// An instruction that sets how many bytes a `memmove` moves stands at most this many before its call.
+/// An instruction that sets how many bytes a `memmove` moves or a `memset` clears stands at most this many before its call.
 const NEAR: usize = 8;
 
 /// The bytes of a page, of which a large frame takes one after the other.
@@ -39,15 +39,14 @@ const PAGE: u64 = 0x1000;
 /// The bytes of an address to return to, and of a register that is pushed. On Arm the caller's address is counted twice.
 const RETURN: u64 = 8;
 
-/// The instructions that say how many bytes are moved: those of a part.
-const PART_MOVED: [&str; 2] = ["$0x10000,%edx", "w2, #0x10000"];
-
 /// What is of interest in a function.
 #[derive(Default)]
 struct Function {
     calls: Vec<String>,
     moves_parts: bool,
     stack: u64,
+    /// How many bytes it clears in arrays that are shorter than a part: others than the copy's, which is never cleared where it is seen through.
+    cleared: u64,
 }
 
 impl Function {
@@ -77,11 +76,11 @@ pub fn look() -> Result<Found, String> {
     judged(&String::from_utf8_lossy(&output.stdout))
 }
 
-/// Each writer reaches a function that moves parts, and none of those has an array of that size on its stack.
+/// Each writer reaches a function that moves parts, and none of those has an array of that size on its stack, beside what it clears.
 fn judged(listing: &str) -> Result<Found, String> {
     let functions = functions(listing);
     for (name, function) in &functions {
-        if function.moves_parts && function.stack >= PART {
+        if function.moves_parts && function.stack >= PART + function.cleared {
             return Err(format!(
                 "{name} has {} bytes on its stack: its copy is not seen through",
                 function.stack
@@ -138,22 +137,25 @@ fn reached<'a>(
 fn functions(listing: &str) -> BTreeMap<String, Function> {
     let mut functions = BTreeMap::new();
     let mut current = String::new();
-    let mut since_part = NEAR;
+    let mut length = Length::default();
     let mut far = false;
     for line in listing.lines() {
         if let Some(name) = heading(line) {
             current = name.to_string();
-            since_part = NEAR;
+            length = Length::default();
             continue;
         }
         let function: &mut Function = functions.entry(current.clone()).or_default();
         if let Some(target) = relocation(line) {
-            function.moves_parts |= target == "memmove" && since_part < NEAR;
+            match (target, length.near()) {
+                ("memmove", Some(PART)) => function.moves_parts = true,
+                ("memset", Some(bytes)) if bytes < PART => function.cleared += bytes,
+                _ => {}
+            }
             function.calls.push(target.to_string());
             continue;
         }
-        since_part =
-            if PART_MOVED.iter().any(|part| line.contains(part)) { 0 } else { since_part + 1 };
+        length.pass(line);
         let taken = stack(line);
         // A page of a loop that takes pages up to an address below: the whole is counted where the address is made.
         let page = far && taken == PAGE;
@@ -161,6 +163,36 @@ fn functions(listing: &str) -> BTreeMap<String, Function> {
         far = (far || is_far(line)) && !page;
     }
     functions
+}
+
+/// The number that was last put where `memmove` and `memset` look for how many bytes they take, and how many instructions ago.
+#[derive(Default)]
+struct Length {
+    bytes: Option<u64>,
+    since: usize,
+}
+
+impl Length {
+    fn pass(&mut self, line: &str) {
+        match bytes_asked(line) {
+            Some(bytes) => *self = Self { bytes: Some(bytes), since: 0 },
+            None => self.since += 1,
+        }
+    }
+
+    fn near(&self) -> Option<u64> {
+        self.bytes.filter(|_| self.since < NEAR)
+    }
+}
+
+/// The number in `mov $0x10000,%edx`, or in `mov w2, #0x10000`.
+fn bytes_asked(line: &str) -> Option<u64> {
+    let digits = match words(line)[..] {
+        ["mov", operands] => operands.strip_prefix("$0x")?.strip_suffix(",%edx")?,
+        ["mov", "w2,", bytes, ..] => bytes.strip_prefix("#0x")?,
+        _ => return None,
+    };
+    u64::from_str_radix(digits, 16).ok()
 }
 
 /// The name in `0000000000000000 <writer::write>:`.
@@ -299,6 +331,21 @@ mod tests {
         assert!(judged(&listing(&MOVES.replace("0x10000", "0x100"))).is_err());
         assert!(judged(&listing(&MOVES.replace("R_X86", "no"))).is_err());
         assert!(judged("").is_err());
+    }
+
+    #[test]
+    fn other_arrays_that_are_cleared_are_not_the_copys() {
+        let large = MOVES.replace("$0x20,%rsp", "$0x10020,%rsp");
+        let clears = |bytes: &str| {
+            let call = "  20:\tcall   25 <memset>\n\t\t\t21: R_X86_64_PLT32\tmemset-0x4\n 1ae:";
+            large.replace(" 1ae:", &format!("  1b:\tmov    ${bytes},%edx\n{call}"))
+        };
+        assert!(judged(&listing(&clears("0x8000"))).is_ok());
+        assert!(judged(&listing(&clears("0x10"))).is_err());
+        assert!(judged(&listing(&clears("0x10000"))).is_err());
+        let arm = MOVES_ARM.replace("#0x20", "#0x10, lsl #12");
+        let cleared = "  20:\tmov\tw2, #0x4000\n  24:\tbl\t0 <memset>\n\t\t\t24: R_AARCH64_CALL26\tmemset\n 1b0:";
+        assert!(judged(&listing(&arm.replace(" 1b0:", cleared))).is_ok());
     }
 
     #[test]
