@@ -11,5 +11,6 @@ pub mod Carding
 pub mod Writing
 pub mod Uniform
 pub mod Filing
+pub mod Counting
 pub mod Saving
 pub mod Once
