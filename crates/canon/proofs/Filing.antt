@@ -36,7 +36,7 @@ use Rattle.sections.specs.Directory.{directoryPlaces, Seat, seats, seatOf, othe
 use Rattle.sections.proofs.Kept.{kept-all, body-other, starts-most}
 use Rattle.sections.proofs.Reading.{Held}
 use Rattle.sections.proofs.Rules.{ruled-not}
-use Rattle.canon.specs.Steps.{bytesFor, mine, ranked, WholeSection}
+use Rattle.canon.specs.Steps.{bytesFor, mine, ranked, ranks, WholeSection}
 use Rattle.canon.specs.Filed.{held, Filed, WholeFile, otherBytes, othersFrom}
 use Rattle.canon.proofs.Order.{mine-here, mine-not}
 
@@ -284,7 +284,7 @@ others-end : (n : ℕ) (s : List ℕ) {K : List (List ℕ)} → K ≡ [] → oth
 unfolding otherBytes
 others-end n s q = rw q refl
 
-parts-nil : (n : ℕ) (before : List (List ℕ)) (at : ℕ) → partsFrom n before at [] ≡ []
+pub parts-nil : (n : ℕ) (before : List (List ℕ)) (at : ℕ) → partsFrom n before at [] ≡ []
 unfolding partsFrom
 parts-nil zero before at = refl
 parts-nil (suc n) before at = refl
@@ -433,3 +433,15 @@ module _ (s : List ℕ) (at u : ℕ) where
             let z : eqb (length here) 0 ≡ false = ne-eqb (length here) 0 (λ y. omega arith) in
             let y : suc u - 1 ≡ u = omega arith in
             rw (f, id-is ∙ h, z, y) (ap (λ (b : List ℕ). b ++ otherBytes n u (drop (16 + lengthOf (drop at s)) (drop at s))) (sym here-is) ∙ ap (λ (b : List ℕ). here ++ b) (again u n e))
+
+-- ---- a file that has no section
+
+no-ranks : (k n : ℕ) → ranks [] k n ≡ []
+no-ranks k zero = refl
+no-ranks k (suc n) = append-nil (ranks [] k n) ∙ no-ranks k n
+
+-- of it nothing is written but its header
+pub bare-ranks : (s : List ℕ) → length s ≤ 16 → (k n : ℕ) → ranks (held s) k n ≡ []
+bare-ranks s h k n =
+    let e : held s ≡ [] = ap (λ (b : List ℕ). allKept (partsFrom (length s) [] 16 b)) (drop-of-length-le s h) ∙ ap allKept (parts-nil (length s) [] 16) in
+    ap (λ (l : List (List ℕ)). ranks l k n) e ∙ no-ranks k n

@@ -11,6 +11,7 @@ pub mod Carding
 pub mod Writing
 pub mod Uniform
 pub mod Filing
+pub mod Counting
 pub mod Saving
 pub mod Once
 pub mod Asking

@@ -13,7 +13,7 @@ use Rattle.aerosnap.specs.Known.{known}
 use Rattle.aerosnap.specs.File.{headerChecks, idOf, lengthOf, fitsIn, fileOf}
 use Rattle.aerosnap.specs.Salvage.{partsOf, allKept}
 use Rattle.sections.specs.Walks.{Read}
-use Rattle.sections.specs.Index.{startsOf, HoldsStarts}
+use Rattle.sections.specs.Index.{startsOf}
 use Rattle.sections.specs.Directory.{directoryPlaces, Directory}
 
 -- the sections that are kept of a file
@@ -25,10 +25,10 @@ pub record HoldsKept (s : List ℕ) (n : ℕ) : Type 0 where
   pub directory : directoryPlaces ≤ n
   pub starts : length (flat startsOf (held s)) ≤ n - directoryPlaces
 
--- the same of a file that is taken
-pub record HoldsIndex (s : List ℕ) (n : ℕ) : Type 0 where
+-- the same of a file whose header may have a fault
+pub record HoldsParts (s : List ℕ) (n : ℕ) : Type 0 where
   pub directory : directoryPlaces ≤ n
-  pub starts : HoldsStarts s (n - directoryPlaces)
+  pub starts : Pass (headerChecks s) → length (flat startsOf (held s)) ≤ n - directoryPlaces
 
 -- the index has the directory of what is kept of s, and all starts of its lists
 pub record Filed (s index : List ℕ) : Type 0 where
