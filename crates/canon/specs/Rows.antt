@@ -11,6 +11,7 @@ use lib.ListN.{length, take, drop, getD}
 use Rattle.answer.specs.Outcome.{Outcome, taken, refused, after}
 use Rattle.answer.specs.declared.Piece.{Piece}
 use Rattle.answer.specs.Calls.{asked, pieceOf}
+use Rattle.wire.specs.Numbers.{bytesOf}
 use Rattle.wire.specs.Parts.{Wrote}
 use Rattle.order.specs.Entries.{join}
 use Rattle.order.specs.Keyed.{Every}
@@ -99,6 +100,10 @@ CountedBy o t r w x (Refused n i p) = (o ≡ (i, refused n p)) × (i ≤ 4096)
 CountedBy o t r w x (Passed g) = PassedBy o t r w x g
 
 -- ---- the bytes
+
+-- a device's entry whose first eight bytes are one number
+abbrev pub keyedEntry : ℕ → List ℕ → List ℕ
+keyedEntry key p = bytesOf 8 key ++ (bytesOf 8 (length p) ++ p)
 
 -- the entry of the row that starts at a place
 abbrev pub rowEntry : List ℕ → List ℕ → ℕ → List ℕ

@@ -56,6 +56,10 @@ twos s at b =
     let d : x / 65536 ≡ leAt 2 s (at + 2) = omega arith in
     sym (bytesOf-halves 2 2 x) ∙ ap (λ (k : ℕ). bytesOf 2 k ++ bytesOf 2 (x / 65536)) m ∙ ap (λ (k : ℕ). bytesOf 2 (leAt 2 s at) ++ bytesOf 2 k) d
 
+-- eight bytes as one number are a u32 and two u16
+pub head-words : (s : List ℕ) (at : ℕ) → Bytes s → bytesOf 8 (leAt 8 s at) ≡ bytesOf 4 (leAt 4 s at) ++ (bytesOf 2 (leAt 2 s (at + 4)) ++ bytesOf 2 (leAt 2 s (at + 6)))
+head-words s at b = let z : at + 4 + 2 ≡ at + 6 = omega arith in fours s at b ∙ ap (λ (l : List ℕ). bytesOf 4 (leAt 4 s at) ++ l) (twos s (at + 4) b ∙ ap (λ (k : ℕ). bytesOf 2 (leAt 2 s (at + 4)) ++ bytesOf 2 (leAt 2 s k)) z)
+
 -- a u32 and the 0 behind it
 widened : (q : ℕ) → q < 4294967296 → bytesOf 8 q ≡ ended q
 widened q h =
@@ -67,7 +71,7 @@ widened q h =
 pub framed-words : (p q : ℕ) (e : List ℕ) → Bytes e → q < 4294967296 → bytesOf 8 (leAt 8 e 0) ++ (bytesOf 8 (p + 16) ++ (bytesOf 8 (leAt 8 e 8) ++ bytesOf 8 q)) ≡ framedRow p q e
 framed-words p q e b h =
     let rest : List ℕ = bytesOf 8 (p + 16) ++ (bytesOf 8 (leAt 8 e 8) ++ ended q) in
-    let head : bytesOf 8 (leAt 8 e 0) ≡ bytesOf 4 (leAt 4 e 0) ++ (bytesOf 2 (leAt 2 e 4) ++ bytesOf 2 (leAt 2 e 6)) = fours e 0 b ∙ ap (λ (l : List ℕ). bytesOf 4 (leAt 4 e 0) ++ l) (twos e 4 b) in
+    let head : bytesOf 8 (leAt 8 e 0) ≡ bytesOf 4 (leAt 4 e 0) ++ (bytesOf 2 (leAt 2 e 4) ++ bytesOf 2 (leAt 2 e 6)) = head-words e 0 b in
     ap (λ (l : List ℕ). bytesOf 8 (leAt 8 e 0) ++ (bytesOf 8 (p + 16) ++ (bytesOf 8 (leAt 8 e 8) ++ l))) (widened q h)
     ∙ ap (λ (l : List ℕ). l ++ rest) head
     ∙ append-assoc (bytesOf 4 (leAt 4 e 0)) (bytesOf 2 (leAt 2 e 4) ++ bytesOf 2 (leAt 2 e 6)) rest
