@@ -14,9 +14,11 @@ use Rattle.aerosnap.specs.Salvage.{salvage}
 use Rattle.canon.specs.declared.Salvaged.{Salvaged}
 use Rattle.canon.specs.Salvaging.{Salvages}
 use Rattle.canon.proofs.Once as canon-once
+use Rattle.aerosnap.specs.declared.NewDevice.{NewDevice}
 use Rattle.cards.specs.declared.Card.{Card}
 use Rattle.cards.specs.declared.Edited.{Edited}
 use Rattle.cards.specs.Cards.{openAnswer, WritesBeside}
+use Rattle.cards.specs.Whole.{addAllCard}
 use Rattle.cards.specs.Calls.{openCall, editCall, addDevicesCall}
 use Rattle.cards.proofs.Once.{beside-once}
 use Rattle.aerosnap.specs.Edits.{Edit}
@@ -87,6 +89,9 @@ edit-once card e file old r p new now a b = beside-once a b
 
 pub add-devices-once : (card : Card) (table store file old : List ℕ) (r p : Edited) (new now : List ℕ) → WritesBeside card (addDevicesCall (length old) card file table store) old r new → WritesBeside card (addDevicesCall (length old) card file table store) old p now → (r ≡ p) × (new ≡ now)
 add-devices-once card table store file old r p new now a b = beside-once a b
+
+pub add-devices-of-once : (card : Card) (table : List NewDevice) (store file old : List ℕ) (r p : Edited) (new now : List ℕ) → WritesBeside card (addAllCard (length old) card file table store) old r new → WritesBeside card (addAllCard (length old) card file table store) old p now → (r ≡ p) × (new ≡ now)
+add-devices-of-once card table store file old r p new now a b = beside-once a b
 
 pub wrapper-check-once : Judges wrapped.wrapperOf
 wrapper-check-once wrapper r s e f = equal-once e f

@@ -1,6 +1,7 @@
 // The front door: each call of the library for callers in C and in languages that call C. include/cimbrolau.h is its declaration.
 // Each function hands its parameters to the call of the same meaning and returns what that answers; a slice comes as a pointer and a length.
 use access::Access;
+use aerosnap::NewDevice;
 use answer::Answer;
 use canon::Salvaged;
 use cards::Card;
@@ -20,6 +21,7 @@ ghost use Rattle.aerosnap.specs.Salvage.{salvage};
 ghost use Rattle.canon.specs.Salvaging.{Salvages};
 ghost use Rattle.cards.specs.Cards.{openAnswer, WritesBeside};
 ghost use Rattle.cards.specs.Calls.{openCall, addDeviceCall, addDevicesCall, addDiskCall, removeDeviceCall, removeDiskCall, replaceDeviceCall};
+ghost use Rattle.cards.specs.Whole.{addAllCard};
 ghost use Rattle.snapshot.specs.MetaSection.{metaCall, asMeta};
 ghost use Rattle.dskc.specs.Wrapper as wrapped;
 ghost use Rattle.messages.specs.Reading.{readMessage, reading};
@@ -130,6 +132,26 @@ pub extern "C" fn cimbrolau_add_devices(
     ensures { λ r. ⌜ WritesBeside card (addDevicesCall (length (now (out .entry))) card (now (file .entry)) (now (table .entry)) (now (store .entry))) (now (out .entry)) r (now (out .exit)) ⌝ }
 {
     snapshot::add_devices(file, card, table, store, out)
+}
+
+// The call over structs. Its records stand in an array of its own: no more than 4,097 entries are looked at.
+#[no_mangle]
+pub extern "C" fn cimbrolau_add_devices_of(
+    file: &[u8],
+    card: Card,
+    table: &[NewDevice],
+    store: &[u8],
+    out: &mut [u8],
+) -> Edited
+    ensures { λ r. ⌜ WritesBeside card (addAllCard (length (now (out .entry))) card (now (file .entry)) (now (table .entry)) (now (store .entry))) (now (out .entry)) r (now (out .exit)) ⌝ }
+{
+    let mut records = [0u8; 98328];
+    let n = newcomers::looked_at(table.len());
+    let mut i = 0;
+    while i < n {
+        i = newcomers::put(&mut records, i, table[i]);
+    }
+    newcomers::add_records(file, card, &records, n, store, out)
 }
 
 #[no_mangle]

@@ -6,7 +6,7 @@ use mathlib.Core.List.{List, [], _∷_, _++_, append-assoc, append-nil}
 use Prim.Native.Nat.{ℕ, zero, suc, _+_, _*_, _≤_, _<_}
 use native.Mathlib.Numerals.{unary-clauses}
 use native.Mathlib.Omega.{arith}
-use borrow.Author.Tests.{leb-true, leb-false}
+use borrow.Author.Tests.{leb-true, leb-false, le-leb, lt-ltb}
 use lib.Dec.{leb}
 use lib.ListN.{length, take, drop, getD, length-append}
 use lib.Seq.{length-take-le, take-append-seam}
@@ -21,7 +21,7 @@ use Rattle.cards.specs.declared.Edited.{Edited}
 use Rattle.cards.specs.Cards.{WritesBeside}
 use Rattle.cards.specs.Calls.{addDevicesCall}
 use Rattle.cards.specs.Whole.{addAllCard}
-use Rattle.newcomers.specs.Records.{lookedAt, recordOf, stored, recordsOf, WideEntry}
+use Rattle.newcomers.specs.Records.{lookedAt, recordOf, stored, storedIn, recordsOf, WideEntry}
 use Rattle.newcomers.proofs.Laws.{length-record}
 use Rattle.newcomers.proofs.First.{entries-back, first-entries}
 
@@ -49,6 +49,9 @@ looked-most n = go (leb n 4097) refl
     go : (t : Bool) → leb n 4097 ≡ t → cond t n 4097 ≤ 4097
     go true e = leb-true n 4097 e
     go false e = omega arith
+
+pub looked-next : (i n : ℕ) → i < lookedAt n → lookedAt (i + 1) ≡ i + 1
+looked-next i n h = ap (λ (t : Bool). cond t (i + 1) 4097) (le-leb (i + 1) 4097 (omega (arith, looked-most n)))
 
 -- ---- one entry more
 
@@ -81,15 +84,16 @@ pub part-none : (ds : List NewDevice) (zs : List ℕ) → length zs ≡ 98328 �
 unfolding recordsOf
 part-none ds zs l = record { within = omega arith; long = l; start = refl; wide = tt }
 
-pub part-next : {ds : List NewDevice} {zs new : List ℕ} {i r : ℕ} → Part ds i zs → i < lookedAt (length ds) → WideEntry (getD ds i none) → r ≡ i + 1 → new ≡ stored i (getD ds i none) zs → length new ≡ length zs → Part ds r new
+pub part-next : {ds : List NewDevice} {zs new : List ℕ} {i r : ℕ} → Part ds i zs → i < lookedAt (length ds) → WideEntry (getD ds i none) → r ≡ lookedAt (i + 1) → new ≡ storedIn i (getD ds i none) zs → length new ≡ length zs → Part ds r new
 part-next {ds} {zs} {new} {i} {r} p h w e f l =
     let d = getD ds i none in
     let t : take (i + 1) ds ≡ take i ds ++ (d ∷ []) = take-next ds i (omega (arith, looked-within (length ds))) in
     let fits : i * 24 + 24 ≤ length zs = omega (arith, looked-most (length ds), p .long) in
-    subst (λ (j : ℕ). Part ds j new) (sym e) (record {
+    let into : storedIn i d zs ≡ stored i d zs = ap (λ (t : Bool). cond t (stored i d zs) zs) (lt-ltb i 4097 (omega (arith, looked-most (length ds)))) in
+    subst (λ (j : ℕ). Part ds j new) (sym (e ∙ looked-next i (length ds) h)) (record {
       within = omega arith;
       long = l ∙ p .long;
-      start = ap (take ((i + 1) * 24)) f ∙ stored-start i d zs fits ∙ ap (λ (s : List ℕ). s ++ recordOf d) (p .start) ∙ sym (records-last (take i ds) d) ∙ ap recordsOf (sym t);
+      start = ap (take ((i + 1) * 24)) (f ∙ into) ∙ stored-start i d zs fits ∙ ap (λ (s : List ℕ). s ++ recordOf d) (p .start) ∙ sym (records-last (take i ds) d) ∙ ap recordsOf (sym t);
       wide = subst (Every WideEntry) (sym t) (every-last (take i ds) d (p .wide) w);
     })
 

@@ -3,7 +3,7 @@
 use mathlib.Core.Bool.{cond}
 use mathlib.Core.List.{List, [], _∷_, _++_}
 use Prim.Native.Nat.{ℕ, _*_, _<_}
-use lib.Dec.{leb}
+use lib.Dec.{leb, ltb}
 use Rattle.wire.specs.Numbers.{bytesOf}
 use Rattle.wire.specs.Parts.{put}
 use Rattle.aerosnap.specs.declared.NewDevice.{NewDevice}
@@ -19,6 +19,10 @@ recordOf d = bytesOf 4 (d .id) ++ (bytesOf 2 (d .version) ++ (bytesOf 2 (d .flag
 -- old with record i written where it fits
 unfoldable pub stored : ℕ → NewDevice → List ℕ → List ℕ
 stored i d old = put (i * 24) (recordOf d) old
+
+-- the same for an entry that is looked at; no other is stored
+abbrev pub storedIn : ℕ → NewDevice → List ℕ → List ℕ
+storedIn i d old = cond (ltb i 4097) (stored i d old) old
 
 -- the records of a table, one after another
 unfoldable pub recordsOf : List NewDevice → List ℕ

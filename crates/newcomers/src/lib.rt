@@ -1,5 +1,5 @@
-// Many devices at once, from a slice of small structs: the records of the table stand in an array of the call's own, and the call over bytes answers.
-// The call over structs is the one function of the library whose proof is a walk by hand: the borrow checker does not cover a slice of structs.
+// Many devices at once, from entries by value: each is stored as a record among bytes, and the call over bytes answers for the records.
+// The call over a slice of structs, in `cimbrolau`, is made of these: the borrow checker covers no function that takes such a slice, so all that it calls takes an entry by value.
 use aerosnap::NewDevice;
 use cards::Card;
 use cards::Edited;
@@ -9,11 +9,10 @@ ghost use lib.ListN.{length, take};
 ghost use Rattle.wire.specs.Parts.{Wrote};
 ghost use Rattle.cards.specs.Cards.{WritesBeside};
 ghost use Rattle.cards.specs.Calls.{addDevicesCall};
-ghost use Rattle.cards.specs.Whole.{addAllCard};
-ghost use Rattle.newcomers.specs.Records.{lookedAt, recordOf, stored};
+ghost use Rattle.newcomers.specs.Records.{lookedAt, recordOf, stored, storedIn};
 
 // How many entries of a table are looked at: a list holds 4,096 devices, so the next one is refused, and no entry behind it is met.
-fn looked_at(count: usize) -> usize
+pub fn looked_at(count: usize) -> usize
     ensures { λ r. ⌜ r ≡ lookedAt count ⌝ }
 {
     if count <= 4097 {
@@ -35,7 +34,7 @@ fn put_record(out: &mut [u8], d: NewDevice)
 }
 
 // Record i of a table in bytes, and the next number; what does not fit is not written.
-fn put(records: &mut [u8], i: usize, d: NewDevice) -> usize
+fn put_at(records: &mut [u8], i: usize, d: NewDevice) -> usize
     requires { ⌜ i * 24 + 24 < 2 ^ 64 ⌝ }
     ensures { λ r. ⌜ (r ≡ i + 1) × (now (records .exit) ≡ stored i d (now (records .entry))) ⌝ }
 {
@@ -47,8 +46,18 @@ fn put(records: &mut [u8], i: usize, d: NewDevice) -> usize
     i + 1
 }
 
+// Record i of a table in bytes, if i is among the entries that are looked at, and the next number, which never passes theirs.
+pub fn put(records: &mut [u8], i: usize, d: NewDevice) -> usize
+    ensures { λ r. ⌜ (r ≡ lookedAt (i + 1)) × (now (records .exit) ≡ storedIn i d (now (records .entry))) ⌝ }
+{
+    if i < 4097 {
+        return put_at(records, i, d);
+    }
+    4097
+}
+
 // The call over bytes, for the first n records.
-fn add_records(
+pub fn add_records(
     file: &[u8],
     card: Card,
     records: &[u8],
@@ -56,28 +65,10 @@ fn add_records(
     store: &[u8],
     out: &mut [u8],
 ) -> Edited
-    requires { ⌜ n * 24 ≤ length (now records) ⌝ }
     ensures { λ r. ⌜ WritesBeside card (addDevicesCall (length (now (out .entry))) card (now (file .entry)) (take (n * 24) (now (records .entry))) (now (store .entry))) (now (out .entry)) r (now (out .exit)) ⌝ }
 {
-    snapshot::add_devices(file, card, &records[..n * 24], store, out)
-}
-
-// The canonical form of a file's content and the devices of a table more, each of whose payloads lies in the second buffer.
-#[no_mangle]
-pub extern "C" fn cimbrolau_add_devices_of(
-    file: &[u8],
-    card: Card,
-    table: &[NewDevice],
-    store: &[u8],
-    out: &mut [u8],
-) -> Edited
-    ensures { λ r. ⌜ WritesBeside card (addAllCard (length (now (out .entry))) card (now (file .entry)) (now (table .entry)) (now (store .entry))) (now (out .entry)) r (now (out .exit)) ⌝ }
-{
-    let mut records = [0u8; 98328];
-    let n = looked_at(table.len());
-    let mut i = 0;
-    while i < n {
-        i = put(&mut records, i, table[i]);
+    if n <= records.len() / 24 {
+        return snapshot::add_devices(file, card, &records[..n * 24], store, out);
     }
-    add_records(file, card, &records, n, store, out)
+    snapshot::add_devices(file, card, records, store, out)
 }

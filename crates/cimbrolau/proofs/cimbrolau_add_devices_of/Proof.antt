@@ -1,8 +1,8 @@
--- `newcomers::cimbrolau_add_devices_of` meets its contract: a walk of its MIR, by hand, for the borrow checker covers no slice of structs.
+-- `cimbrolau_add_devices_of` meets its contract: a walk of its MIR, by hand, for the borrow checker covers no slice of structs.
 -- The array of records stands in a slot of the call's own. In each turn the table is looked into and entry i is copied, and the array is lent to `put` for a lifetime of that call; behind the loop it is lent to `add_records`, and then freed.
--- All that the walk knows of the functions it calls is their contracts; what the loop does to lists is `Loop.antt`'s `Part`, and what an array in a slot is `Own.antt`'s.
+-- All that the walk knows of the functions it calls is their contracts; what the loop does to lists is `newcomers`' `Part`, and what an array in a slot is its `Own`.
 -- Assumes nothing.
-use mathlib.Core.Path.{_≡_, refl, sym, ap}
+use mathlib.Core.Path.{_≡_, refl, sym, ap, _∙_}
 use mathlib.Core.Bool.{Bool, true, false}
 use Prim.Native.Nat.{ℕ, _+_, _-_, _*_, _≤_, _<_, _^_}
 use native.Mathlib.Omega.{arith}
@@ -64,26 +64,26 @@ use Rattle.cards.proofs.Card as C
 use Rattle.cards.proofs.Card.Laws as C′
 use Rattle.cards.proofs.Edited as S
 use Rattle.cards.proofs.Edited.Laws as S′
-use Rattle.newcomers.specs.Records.{lookedAt, stored, WideEntry}
-use Rattle.newcomers.proofs.Own.{zeros-typed, big-lit, array-made, array-ended, with-fact}
-use Rattle.newcomers.proofs.Loop.{none, Part, looked-within, looked-most, part-none, part-next, part-end}
+use Rattle.newcomers.specs.Records.{lookedAt, storedIn, WideEntry}
+use Rattle.newcomers.proofs.Own.{zeros-typed, big-lit, array-made, array-ended}
+use Rattle.newcomers.proofs.Loop.{none, Part, looked-within, looked-most, looked-next, part-none, part-next, part-end}
 use Rattle.newcomers.proofs.looked_at as looked
 use Rattle.newcomers.proofs.looked_at.Symbol as looked-def
 use Rattle.newcomers.proofs.looked_at.Symbol.{name as #looked}
 use Rattle.newcomers.proofs.looked_at.Met as looked-thm
 use Rattle.newcomers.proofs.put as put
 use Rattle.newcomers.proofs.put.Symbol as put-def
 use Rattle.newcomers.proofs.put.Symbol.{name as #put}
 use Rattle.newcomers.proofs.put.Met as put-thm
 use Rattle.newcomers.proofs.add_records as add
 use Rattle.newcomers.proofs.add_records.Symbol as add-def
 use Rattle.newcomers.proofs.add_records.Symbol.{name as #add}
 use Rattle.newcomers.proofs.add_records.Met as add-thm
-use Rattle.newcomers.proofs.cimbrolau_add_devices_of.Key.{name as #this}
-use Rattle.newcomers.proofs.cimbrolau_add_devices_of as this
-use Rattle.newcomers.proofs.cimbrolau_add_devices_of.Statement as stated
-use Rattle.newcomers.proofs.cimbrolau_add_devices_of.Code as code
-use Rattle.newcomers.proofs.cimbrolau_add_devices_of.Code.Mir as body
+use Rattle.cimbrolau.proofs.cimbrolau_add_devices_of.Key.{name as #this}
+use Rattle.cimbrolau.proofs.cimbrolau_add_devices_of as this
+use Rattle.cimbrolau.proofs.cimbrolau_add_devices_of.Statement as stated
+use Rattle.cimbrolau.proofs.cimbrolau_add_devices_of.Code as code
+use Rattle.cimbrolau.proofs.cimbrolau_add_devices_of.Code.Mir as body
 
 -- one entry's type
 abbrev R : RattleType
@@ -262,9 +262,9 @@ module _ {M : Type 1} (𝓤 : URA M) (H : Heap 𝓤) (A : Atoms 𝓤) (W : Given
         abbrev to-add : ℕ → GName → Add 𝓤 H A mm run .Ghost
         to-add ν δ = (((κ₀, (ν ∷ [], (κ₂, (κ₃, tt)))), (q₀, (fullShare, (q₂, (q₃, tt)))), tt, (x₀, (k, (y δ zs, (m, (x₂, (x₃, tt)))))), (sliceVal (b₀, o₀) (length fs) ∷ [], (cardVal k ∷ [], (s (length zs) ∷ [], (vint w64 m ∷ [], (sliceVal (b₂, o₂) (length ps) ∷ [], (sliceVal (b₃, o₃) (length os) ∷ [], tt))))))), tt)
 
-        goes : (ν : ℕ) (δ : GName) → i * 24 + 24 < 2 ^ 64 → ent 𝓤 (sep 𝓤 (A .lft (ν ∷ []) fullShare) (sep 𝓤 (sem 𝓤 H A (MutSlice (named 0) (ν ∷ []) u8 .own (y δ zs) (s (length zs) ∷ []))) (sem 𝓤 H A (R .own d (T′.lowered d ∷ []))))) (Put 𝓤 H A mm run .pre (to-put ν δ))
-        goes ν δ g =
-            qed W (‵ (flft (ν ∷ []) fullShare) ∷ ‵ (MutSlice (named 0) (ν ∷ []) u8 .own (y δ zs) (s (length zs) ∷ [])) ∷ ‵ (R .own d (T′.lowered d ∷ [])) ∷ []) ∵ says ! g $ nothing ! $ move ! (1 ∷ 0 ∷ []) $ join ! $ frame ! $
+        goes : (ν : ℕ) (δ : GName) → ent 𝓤 (sep 𝓤 (A .lft (ν ∷ []) fullShare) (sep 𝓤 (sem 𝓤 H A (MutSlice (named 0) (ν ∷ []) u8 .own (y δ zs) (s (length zs) ∷ []))) (sem 𝓤 H A (R .own d (T′.lowered d ∷ []))))) (Put 𝓤 H A mm run .pre (to-put ν δ))
+        goes ν δ =
+            qed W (‵ (flft (ν ∷ []) fullShare) ∷ ‵ (MutSlice (named 0) (ν ∷ []) u8 .own (y δ zs) (s (length zs) ∷ [])) ∷ ‵ (R .own d (T′.lowered d ∷ [])) ∷ []) ∵ suffices ! _ (∗emp 𝓤 _) $ nothing ! $ move ! (1 ∷ 0 ∷ []) $ join ! $ frame ! $
             nothing ! $ move ! (2 ∷ 0 ∷ []) $ fjoin ! $ owned ! usize (Is usize) (uint-makes 𝓤 H A W w64) i _ (refl, i-fits) $ fjoin ! $ move ! (1 ∷ 0 ∷ []) $ fjoin ! $ done !
 
         more : ltb i m ≡ true → Sq W (At (i, (zs, p))) (runs (𝓣 .C) (𝓣 .Λ) En body.turn-1 (anyQ (Turned (i, (zs, p)))))
@@ -291,12 +291,12 @@ module _ {M : Type 1} (𝓤 : URA M) (H : Heap 𝓤) (A : Atoms 𝓤) (W : Given
             -- the array is lent for a lifetime ν of the call
             lft-new ! tt (λ ν. move ! (37 ∷ []) $
             use1 W (later (some (λ (δ : GName). ‵ (MutSlice (named 0) (ν ∷ []) u8 .own (y δ zs) (s (length zs) ∷ [])) ⊛ ‵ (flent (ν ∷ []) (Held u8 (length zs) l₆ 0 δ))))) (lends-slice 𝓤 H A W u8 (named 0) (ν ∷ []) zs l₆ 0 zs-room) $ await ! tt $ pick ! (λ δ. split ! $
-            move ! (2 ∷ 0 ∷ 4 ∷ []) $ use3 W (raw (Put 𝓤 H A mm run .pre (to-put ν δ))) (goes ν δ next-fits) $
+            move ! (2 ∷ 0 ∷ 4 ∷ []) $ use3 W (raw (Put 𝓤 H A mm run .pre (to-put ν δ))) (goes ν δ) $
             -- [what `put` asks; what is lent; the table's token; the fractured borrow; the file; …]
             calls-at-last ! fm (Put 𝓤 H A mm run) puts (to-put ν δ) (and-then ! (load ! (from ! (stop !)) (look ! 25 refl)) (and-then ! (load ! (from ! (stop !)) (look ! 33 refl)) (and-then ! (load ! (from ! (stop !)) (look ! 19 refl)) (no-more !)))) (λ w.
             use1 W (later (some (λ (r : ℕ). ((‵ (flft (ν ∷ []) fullShare) ⊛ ‵ ftrue) ⊛ ‵ (usize .own r (w ∷ []))) ⊛ raw (ensured 𝓤 H A put.ended (put.clauses 𝓤 H A mm run) (ν ∷ [], tt) (y δ zs, (i, (d, tt))) tt r)))) (id⊢ 𝓤 _) $ await ! tt $ pick ! (λ r.
-            split ! $ move ! (1 ∷ []) $ use1 W (some (λ (ws : List ℕ × (Unit {0} × (Unit {0} × Unit {0}))). ‵ (lasts put.ended (ν ∷ [], tt) (y δ zs, (i, (d, tt))) ws) ⊛ raw (fact 𝓤 ((r ≡ i + 1) × (ws .0 ≡ stored i d zs))))) (id⊢ 𝓤 _) $ pick ! (λ ws.
-            split ! $ move ! (1 ∷ []) $ heard ! ((r ≡ i + 1) × (ws .0 ≡ stored i d zs)) (λ e. fsplit ! $ fsplit ! $ move ! (1 ∷ []) $ feqL ! (λ l.
+            split ! $ move ! (1 ∷ []) $ use1 W (some (λ (ws : List ℕ × (Unit {0} × (Unit {0} × Unit {0}))). ‵ (lasts put.ended (ν ∷ [], tt) (y δ zs, (i, (d, tt))) ws) ⊛ raw (fact 𝓤 ((r ≡ lookedAt (i + 1)) × (ws .0 ≡ storedIn i d zs))))) (id⊢ 𝓤 _) $ pick ! (λ ws.
+            split ! $ move ! (1 ∷ []) $ heard ! ((r ≡ lookedAt (i + 1)) × (ws .0 ≡ storedIn i d zs)) (λ e. fsplit ! $ fsplit ! $ move ! (1 ∷ []) $ feqL ! (λ l.
             move ! (2 ∷ []) $ split ! $ move ! (1 ∷ []) $ peeks ! usize (Is usize) (shows 𝓤 H A usize) r (w ∷ []) (λ is.
             -- the lifetime is ended, the array comes back at its last list, and the number is stored
             move ! (1 ∷ []) $ split ! $ lft-end ! tt $ move ! (0 ∷ 5 ∷ 3 ∷ []) $
@@ -305,7 +305,7 @@ module _ {M : Type 1} (𝓤 : URA M) (H : Heap 𝓤) (A : Atoms 𝓤) (W : Given
             rewrite ! 35 (λ (v : Val). ‵ (fat fullShare word l₈ 0 v)) (ap only (is .0)) refl $
             forget ! 21 refl $ forget ! 23 refl $ forget ! 25 refl $ forget ! 27 refl $ forget ! 29 refl $ forget ! 31 refl $
             keep ! (5 ∷ 4 ∷ 6 ∷ 7 ∷ 8 ∷ 9 ∷ 10 ∷ 11 ∷ 12 ∷ 13 ∷ 14 ∷ 15 ∷ 16 ∷ 17 ∷ 18 ∷ 19 ∷ 20 ∷ 21 ∷ 22 ∷ 23 ∷ 24 ∷ 25 ∷ 26 ∷ 27 ∷ 28 ∷ 29 ∷ 30 ∷ 31 ∷ 32 ∷ 33 ∷ 34 ∷ 35 ∷ 36 ∷ 37 ∷ 38 ∷ 0 ∷ 39 ∷ 40 ∷ 41 ∷ 42 ∷ 43 ∷ 44 ∷ 45 ∷ 46 ∷ 47 ∷ 48 ∷ 49 ∷ 50 ∷ 51 ∷ []) $
-            again ! Nearer At (i, (zs, p)) (r, (ws .0, part-next p within (wide g) (e .0) (e .1) l)) (omega (arith, e .0, within))))))))))))
+            again ! Nearer At (i, (zs, p)) (r, (ws .0, part-next p within (wide g) (e .0) (e .1) l)) (omega (arith, e .0 ∙ looked-next i n within, within))))))))))))
           where
             within : i < m
             within = ltb-true i m less
@@ -313,11 +313,8 @@ module _ {M : Type 1} (𝓤 : URA M) (H : Heap 𝓤) (A : Atoms 𝓤) (W : Given
             in-table : i < length ds
             in-table = omega (arith, within, looked-within n)
 
-            next-fits : i * 24 + 24 < 2 ^ 64
-            next-fits = omega (arith, within, looked-most n)
-
             at-fits : i * 24 < 2 ^ 64
-            at-fits = omega (arith, next-fits)
+            at-fits = omega (arith, within, looked-most n)
 
             wide : Is R d (T′.lowered d ∷ []) → WideEntry d
             wide g = let f = LL.owed T.the-type T′.the-laws d _ g in (f .0 .1, f .1 .0 .1, f .1 .1 .0 .1, f .1 .1 .1 .0 .1, f .1 .1 .1 .1 .0 .1)
@@ -341,7 +338,7 @@ module _ {M : Type 1} (𝓤 : URA M) (H : Heap 𝓤) (A : Atoms 𝓤) (W : Given
             -- what `add_records` asks: four tokens, and what the six parameters own
             move ! (6 ∷ 2 ∷ 8 ∷ 10 ∷ 5 ∷ 11 ∷ 0 ∷ 7 ∷ 9 ∷ []) $ nothing ! $ move ! (4 ∷ 0 ∷ []) $ join ! $ move ! (3 ∷ 0 ∷ []) $ join ! $ move ! (2 ∷ 0 ∷ []) $ join ! $ move ! (1 ∷ 0 ∷ []) $ join ! $
             nothing ! $ move ! (6 ∷ 0 ∷ []) $ fjoin ! $ move ! (5 ∷ 0 ∷ []) $ fjoin ! $ owned ! usize (Is usize) (uint-makes 𝓤 H A W w64) m (vint w64 m ∷ []) (refl, m-fits) $ fjoin ! $ move ! (4 ∷ 0 ∷ []) $ fjoin ! $ move ! (3 ∷ 0 ∷ []) $ fjoin ! $ move ! (2 ∷ 0 ∷ []) $ fjoin ! $ move ! (1 ∷ 0 ∷ []) $ join ! $
-            use1 W (raw (Add 𝓤 H A mm run .pre (to-add ν δ))) (with-fact 𝓤 _ _ records-there) $
+            use1 W (raw (Add 𝓤 H A mm run .pre (to-add ν δ))) (∗emp 𝓤 _) $
             -- [what `add_records` asks; what is lent; the fractured borrow; the table's token; _19; …]
             calls-at ! fm (Add 𝓤 H A mm run) adds (to-add ν δ) (and-then ! (load ! (from ! (stop !)) (look ! 39 refl)) (and-then ! (load ! (from ! (stop !)) (look ! 37 refl)) (and-then ! (load ! (from ! (stop !)) (look ! 8 refl)) (and-then ! (load ! (from ! (stop !)) (look ! 28 refl)) (and-then ! (load ! (from ! (stop !)) (look ! 33 refl)) (and-then ! (load ! (from ! (stop !)) (look ! 4 refl)) (no-more !))))))) (λ w.
             use1 W (later (some (λ (r : Edited). ((‵ (flft κ₀ q₀) ⊛ ‵ (flft (ν ∷ []) fullShare) ⊛ ‵ (flft κ₂ q₂) ⊛ ‵ (flft κ₃ q₃) ⊛ ‵ ftrue) ⊛ ‵ (S.the-row .own r (w ∷ []))) ⊛ raw (ensured 𝓤 H A add.ended (add.clauses 𝓤 H A mm run) (κ₀, (ν ∷ [], (κ₂, (κ₃, tt)))) (x₀, (k, (y δ zs, (m, (x₂, (x₃, tt)))))) tt r)))) (id⊢ 𝓤 _) $ await ! tt $ pick ! (λ r.
@@ -359,9 +356,6 @@ module _ {M : Type 1} (𝓤 : URA M) (H : Heap 𝓤) (A : Atoms 𝓤) (W : Given
             move ! (43 ∷ 44 ∷ []) $ free1 ! $ move ! (41 ∷ 42 ∷ []) $ free1 ! $ move ! (39 ∷ 40 ∷ []) $ free1 ! $ move ! (37 ∷ 38 ∷ []) $ free1 ! $ move ! (35 ∷ 36 ∷ []) $ free1 ! $ move ! (33 ∷ 34 ∷ []) $ free1 ! $ move ! (31 ∷ 32 ∷ []) $ free1 ! $ move ! (29 ∷ 30 ∷ []) $ free1 ! $ move ! (27 ∷ 28 ∷ []) $ free1 ! $ move ! (25 ∷ 26 ∷ []) $ free1 ! $ move ! (23 ∷ 24 ∷ []) $ free1 ! $ move ! (21 ∷ 22 ∷ []) $ free1 ! $ move ! (19 ∷ 20 ∷ []) $ free1 ! $ move ! (17 ∷ 18 ∷ []) $ free1 ! $ move ! (15 ∷ 16 ∷ []) $ free1 ! $ move ! (13 ∷ 14 ∷ []) $ free1 ! $ move ! (11 ∷ 12 ∷ []) $ free1 ! $ move ! (9 ∷ 10 ∷ []) $ free1 ! $ move ! (7 ∷ 8 ∷ []) $ free1 ! $ move ! (5 ∷ 6 ∷ []) $ free1 ! $ free0 ! $
             by ! (exits r w (ws .1 .1 .1 .1 .1 .0) l (part-end (length os) fs ps p (ltb-false i m over) e))))))))))
           where
-            records-there : m * 24 ≤ length zs
-            records-there = omega (arith, p .long, looked-most n)
-
             Answers : Edited → List ℕ → Type 0
             Answers r l = WritesBeside k (addDevicesCall (length os) k fs (take (m * 24) zs) ps) os r l
 
