@@ -6,7 +6,6 @@
 //! Use it where a buffer is at hand and nothing should be allocated; [`crate::snapshot`], [`crate::wrapper`],
 //! [`crate::Message`] and [`crate::region`] stand on it and are easier to use.
 
-use std::borrow::Cow;
 use std::mem::{offset_of, size_of, size_of_val};
 
 /// What a call answers: number 0 and the bytes written, or the number of a refusal and its place.
@@ -344,6 +343,17 @@ mod c {
             card: Card,
             table: *const u8,
             table_length: usize,
+            store: *const u8,
+            store_length: usize,
+            out: *mut u8,
+            out_length: usize,
+        ) -> Edited;
+        pub fn cimbrolau_add_devices_of(
+            file: *const u8,
+            file_length: usize,
+            card: Card,
+            table: *const NewDevice,
+            table_count: usize,
             store: *const u8,
             store_length: usize,
             out: *mut u8,
@@ -697,20 +707,22 @@ pub fn add_devices_of(
     store: &[u8],
     out: &mut [u8],
 ) -> Edited {
-    add_devices(file, card, &table_of(devices), store, out)
-}
-
-/// The table's bytes of these devices: their own, where the machine has the low byte first as the records have.
-fn table_of(devices: &[NewDevice]) -> Cow<'_, [u8]> {
-    if cfg!(target_endian = "big") {
-        return Cow::Owned(devices.iter().flat_map(|device| device.record()).collect());
+    // SAFETY: each pointer and length are of one live slice, the devices' of so many structs that C lays out as this crate
+    // does; the library reads `file`, `devices` and `store` and writes within `out`, which no other reference names, during
+    // the call alone.
+    unsafe {
+        c::cimbrolau_add_devices_of(
+            file.as_ptr(),
+            file.len(),
+            card,
+            devices.as_ptr(),
+            devices.len(),
+            store.as_ptr(),
+            store.len(),
+            out.as_mut_ptr(),
+            out.len(),
+        )
     }
-    // SAFETY: the bytes are those of one live slice, which is borrowed for as long as they are. All of them are initialised:
-    // the fields of a `NewDevice` are plain numbers that fill its 24 bytes (asserted above), so that there is no padding in
-    // one, nor between two. Any address suits a `u8`.
-    Cow::Borrowed(unsafe {
-        std::slice::from_raw_parts(devices.as_ptr().cast(), size_of_val(devices))
-    })
 }
 
 impl NewDevice {
