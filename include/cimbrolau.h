@@ -248,6 +248,9 @@ struct cimbrolau_edited cimbrolau_add_disk(const uint8_t *file, size_t file_leng
  *
  * The card moves by what all entries change together, and is asked behind all of them. The index is 0 beside what is wrong with the file, beside
  * CIMBROLAU_CARD, of a table with no entry, and in a call that is taken.
+ *
+ * cimbrolau_add_devices_of takes the entries as structs, by their count, and answers as cimbrolau_add_devices does for their records. It keeps the records on
+ * its stack, 98,328 bytes, and looks at no more than 4,097 entries, since a file holds 4,096 devices.
  */
 struct cimbrolau_new_device {
     uint32_t id;
@@ -256,6 +259,8 @@ struct cimbrolau_new_device {
 };
 
 struct cimbrolau_edited cimbrolau_add_devices(const uint8_t *file, size_t file_length, struct cimbrolau_card card, const uint8_t *table, size_t table_length, const uint8_t *store, size_t store_length, uint8_t *out, size_t out_length);
+
+struct cimbrolau_edited cimbrolau_add_devices_of(const uint8_t *file, size_t file_length, struct cimbrolau_card card, const struct cimbrolau_new_device *table, size_t table_count, const uint8_t *store, size_t store_length, uint8_t *out, size_t out_length);
 
 /*
  * The canonical form of a file's content without one of its devices or disks; the last entry's removal removes its section. What is wrong with the

@@ -19,10 +19,13 @@ const EMPTY = new Uint8Array([...ascii('AEROSNAP'), 1, 0, 1, 0, 0, 0, 0, 0]);
 
 const refused = (name, place) => (error) => error instanceof Refusal && error.name === name && error.place === place;
 
+// Calls over an array of structs. JavaScript has none, and makes each call over the bytes of their records, which answers the same.
+const OF_STRUCTS = ['add_devices_of'];
+
 test('the module imports nothing and exports its memory and every call', () => {
   assert.deepEqual(WebAssembly.Module.imports(module), []);
   const names = WebAssembly.Module.exports(module).map(({ name }) => name);
-  const wanted = ['memory', '__heap_base', ...calls.map(({ name }) => `cimbrolau_${name}`)];
+  const wanted = ['memory', '__heap_base', ...calls.map(({ name }) => `cimbrolau_${name}`), ...OF_STRUCTS.map((name) => `cimbrolau_${name}`)];
   assert.deepEqual(names.sort(), wanted.sort());
 });
 
@@ -31,9 +34,11 @@ test('the table of calls is the header', () => {
     const words = list.split(', ').map((word) => word.match(/^(.*?)(\w+)$/).slice(1).map((part) => part.trim()));
     const parameters = words.flatMap(([type, plain], at) => {
       if (type === 'size_t') {
-        assert.equal(plain, `${words[at - 1][1]}_length`);
+        const [before, table] = words[at - 1];
+        assert.equal(plain, `${table}_${before.startsWith('const struct') ? 'count' : 'length'}`);
         return [];
       }
+      if (/^const struct \w+ \*$/.test(type)) return [{ name: plain, kind: 'structs' }];
       if (type === 'const uint8_t *') return [{ name: plain, kind: 'in' }];
       if (type === 'uint8_t *') return [{ name: plain, kind: at === 0 ? 'both' : 'out' }];
       if (type === 'struct cimbrolau_card') return [{ name: plain, kind: 'card' }];
@@ -41,12 +46,19 @@ test('the table of calls is the header', () => {
     });
     return { answer, name, parameters };
   });
+  const ofStructs = ({ parameters }) => parameters.some(({ kind }) => kind === 'structs');
+  assert.deepEqual(declared.filter(ofStructs).map(({ name }) => name), OF_STRUCTS);
+  for (const { name, answer, parameters } of declared.filter(ofStructs)) {
+    const same = parameters.map((parameter) => (parameter.kind === 'structs' ? { ...parameter, kind: 'in' } : parameter));
+    assert.deepEqual(declared.find((call) => `${call.name}_of` === name), { answer, name: name.slice(0, -3), parameters: same });
+  }
+  const overBytes = declared.filter((call) => !ofStructs(call));
   assert.deepEqual(
     calls.map(({ name, parameters }) => ({ name, parameters })).sort((one, next) => (one.name < next.name ? -1 : 1)),
-    declared.map(({ name, parameters }) => ({ name, parameters })).sort((one, next) => (one.name < next.name ? -1 : 1)),
+    overBytes.map(({ name, parameters }) => ({ name, parameters })).sort((one, next) => (one.name < next.name ? -1 : 1)),
   );
   const bodyOf = (struct) => header.match(new RegExp(`^struct cimbrolau_${struct} \\{\\n([^}]*)\\}`, 'm'))[1];
-  for (const { answer, name } of declared) {
+  for (const { answer, name } of overBytes) {
     const body = bodyOf(answer).replace(/^ +struct cimbrolau_card card;\n/m, bodyOf('card'));
     const fields = [...body.matchAll(/^ +(u?int\d+)_t ([\w, ]+);/gm)].flatMap(([, type, list]) => list.split(', ').map((field) => `${field} ${type}`));
     const types = { u32: 'uint32', i32: 'int32', u64: 'uint64', size: 'uint64' };

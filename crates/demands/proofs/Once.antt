@@ -52,7 +52,9 @@ pub use Rattle.cards.proofs.Once.{move-by-once}
 pub use Rattle.canon.proofs.Once.{canonical-once, salvage-once, open-once, edited-once, added-once}
 -- snapshot: check; sections; devices; disks; cpus; mmus; meta
 pub use Rattle.snapshot.proofs.Once.{check-once, sections-once, devices-once, disks-once, cpus-once, mmus-once, meta-once}
+-- newcomers: looked_at; put; add_records
+pub use Rattle.newcomers.proofs.Once.{looked-at-once, put-once, add-records-once}
 -- ready: ready
 pub use Rattle.ready.proofs.Once.{ready-once}
 -- cimbrolau: the same calls for C, each law named after its function
-pub use Rattle.cimbrolau.proofs.Once.{check-once as cimbrolau-check-once, sections-once as cimbrolau-sections-once, devices-once as cimbrolau-devices-once, disks-once as cimbrolau-disks-once, cpus-once as cimbrolau-cpus-once, mmus-once as cimbrolau-mmus-once, meta-once as cimbrolau-meta-once, canonical-once as cimbrolau-canonical-once, salvage-once as cimbrolau-salvage-once, open-once as cimbrolau-open-once, edit-once as cimbrolau-edit-once, add-devices-once as cimbrolau-add-devices-once, wrapper-check-once as cimbrolau-wrapper-check-once, controllers-once as cimbrolau-controllers-once, wrapper-canonical-once as cimbrolau-wrapper-canonical-once, message-read-once as cimbrolau-message-read-once, message-write-once as cimbrolau-message-write-once, region-check-once, ring-report-once, ring-reserve-once, ring-fill-once, ring-commit-once, ring-take-once, cpu-field-once as cimbrolau-cpu-field-once, mmu-field-once as cimbrolau-mmu-field-once, cpu-set-once as cimbrolau-cpu-set-once, mmu-set-once as cimbrolau-mmu-set-once, access-once as cimbrolau-access-once, ready-once as cimbrolau-ready-once}
+pub use Rattle.cimbrolau.proofs.Once.{check-once as cimbrolau-check-once, sections-once as cimbrolau-sections-once, devices-once as cimbrolau-devices-once, disks-once as cimbrolau-disks-once, cpus-once as cimbrolau-cpus-once, mmus-once as cimbrolau-mmus-once, meta-once as cimbrolau-meta-once, canonical-once as cimbrolau-canonical-once, salvage-once as cimbrolau-salvage-once, open-once as cimbrolau-open-once, edit-once as cimbrolau-edit-once, add-devices-once as cimbrolau-add-devices-once, add-devices-of-once as cimbrolau-add-devices-of-once, wrapper-check-once as cimbrolau-wrapper-check-once, controllers-once as cimbrolau-controllers-once, wrapper-canonical-once as cimbrolau-wrapper-canonical-once, message-read-once as cimbrolau-message-read-once, message-write-once as cimbrolau-message-write-once, region-check-once, ring-report-once, ring-reserve-once, ring-fill-once, ring-commit-once, ring-take-once, cpu-field-once as cimbrolau-cpu-field-once, mmu-field-once as cimbrolau-mmu-field-once, cpu-set-once as cimbrolau-cpu-set-once, mmu-set-once as cimbrolau-mmu-set-once, access-once as cimbrolau-access-once, ready-once as cimbrolau-ready-once}

@@ -14,6 +14,7 @@ use Rattle.answer.proofs.Checks.{checked-append}
 use Rattle.answer.proofs.Outcomes.{taken-is}
 use Rattle.answer.proofs.Firsts.{checked-first, after-refused}
 use Rattle.wire.specs.Numbers.{Bytes}
+use Rattle.order.specs.Keyed.{Every}
 use Rattle.order.specs.Adding.{Chain}
 use Rattle.aerosnap.specs.declared.NewDevice.{NewDevice}
 use Rattle.aerosnap.specs.Content.{Content, contentAt, render, canonical, IsCanonical}
@@ -28,9 +29,11 @@ use Rattle.aerosnap.proofs.Rooms.{many-room}
 use Rattle.cards.specs.declared.Card.{Card}
 use Rattle.cards.specs.declared.Edited.{Edited}
 use Rattle.cards.specs.Cards.{cardOf, bytesBeside, answerBeside, WritesBeside}
-use Rattle.cards.specs.Whole.{manyCard}
+use Rattle.cards.specs.Whole.{addAllCard, manyCard}
 use Rattle.cards.proofs.Carded.{card-open}
 use Rattle.cards.proofs.Whole.{all-true, all-again, all-bytes}
+use Rattle.newcomers.specs.Records.{recordsOf, WideEntry}
+use Rattle.newcomers.proofs.First.{entries-back, first-entries}
 use Rattle.demands.specs.Beside.{TrueCard}
 use Rattle.demands.specs.Together.{Together}
 use Rattle.demands.proofs.Beside.{demand1-beside}
@@ -145,6 +148,9 @@ makes s t store k old new r i b j h x =
     let p : r .place ≡ length b = ap (λ (y : Edited). y .place) e in
     (ap (λ (y : Edited). y .number) e, ap (λ (y : Edited). y .index) e ∙ z, ap (λ (n : ℕ). take n new) p ∙ ap (take (length b)) m ∙ take-append-seam b (drop (length b) old), ap (λ (y : Edited). y .card) e)
 
+structs : (have : ℕ) (k : Card) (s : List ℕ) (l : List NewDevice) (store : List ℕ) → Every WideEntry l → (newDevices (recordsOf l) ≡ l) × (addAllCard have k s l store ≡ manyCard have k s (recordsOf l) store)
+structs have k s l store w = let e = entries-back l w in (e, ap (λ (m : List NewDevice). addAllCard have k s m store) (sym e))
+
 pub together : Together
 together = record {
   count = count-news;
@@ -162,5 +168,7 @@ together = record {
   no-two-tables = no-two;
   made = made;
   makes = makes;
+  structs = structs;
+  first = first-entries;
   on-list = refl;
 }

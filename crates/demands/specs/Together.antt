@@ -9,6 +9,7 @@ use lib.ListN.{length, take}
 use Rattle.answer.specs.Numbers.{ROOM, PAYLOAD, isNumber}
 use Rattle.answer.specs.Outcome.{taken, refused, room, First}
 use Rattle.wire.specs.Numbers.{Bytes}
+use Rattle.order.specs.Keyed.{Every}
 use Rattle.order.specs.Adding.{Chain}
 use Rattle.aerosnap.specs.declared.NewDevice.{NewDevice}
 use Rattle.aerosnap.specs.Content.{Content, contentAt, render, IsCanonical}
@@ -19,7 +20,8 @@ use Rattle.aerosnap.specs.Calls.{canonicalCall}
 use Rattle.cards.specs.declared.Card.{Card}
 use Rattle.cards.specs.declared.Edited.{Edited}
 use Rattle.cards.specs.Cards.{WritesBeside}
-use Rattle.cards.specs.Whole.{manyCard}
+use Rattle.cards.specs.Whole.{addAllCard, manyCard}
+use Rattle.newcomers.specs.Records.{recordsOf, WideEntry}
 use Rattle.demands.specs.Beside.{TrueCard}
 
 pub record Together : Type 0 where
@@ -58,5 +60,9 @@ pub record Together : Type 0 where
       → manyCard (length old) k s t store ≡ (0, taken (take (r .place) new, r .card))
   pub makes : (s t store : List ℕ) (k : Card) (old new : List ℕ) (r : Edited) (i : ℕ) (b : List ℕ) (j : Card) → manyCard (length old) k s t store ≡ (i, taken (b, j)) → WritesBeside k (manyCard (length old) k s t store) old r new
       → (r .number ≡ 0) × (r .index ≡ 0) × (take (r .place) new ≡ b) × (r .card ≡ j)
+  -- entries that are structs, each number as wide as its field: their records are read back as these, so that the call over structs answers as that over the bytes of their records
+  pub structs : (have : ℕ) (k : Card) (s : List ℕ) (l : List NewDevice) (store : List ℕ) → Every WideEntry l → (newDevices (recordsOf l) ≡ l) × (addAllCard have k s l store ≡ manyCard have k s (recordsOf l) store)
+  -- and of more than 4097 the first 4097 alone tell the answer
+  pub first : (have : ℕ) (k : Card) (s : List ℕ) (l : List NewDevice) (store : List ℕ) → Every WideEntry (take 4097 l) → addAllCard have k s (take 4097 l) store ≡ addAllCard have k s l store
   -- a number of the list
   pub on-list : isNumber PAYLOAD ≡ true

@@ -5,7 +5,7 @@ use mathlib.Core.Bool.{Bool, true, false, cond}
 use mathlib.Core.List.{List, [], _∷_, _++_, append-assoc}
 use Prim.Native.Nat.{ℕ, suc, _+_, _*_, _/_, _<_}
 use native.Mathlib.Omega.{arith}
-use borrow.Author.Tests.{leb-false}
+use borrow.Author.Tests.{leb-true, leb-false}
 use lib.Dec.{leb}
 use lib.ListN.{length, take, drop, length-append, length-map, take-append-drop}
 use lib.Seq.{length-take-le, take-all, drop-drop, drop-at}
@@ -155,12 +155,19 @@ more-same have k s l m store w h = go (contentAt s) refl
     go (refused n p) e = refl
 
 -- No entry behind the 4,097th is met, so a call may look at the first 4,097 alone.
-pub first-entries : (have : ℕ) (k : Card) (s : List ℕ) (l : List NewDevice) (store : List ℕ) → Every WideEntry (take (lookedAt (length l)) l)
-    → addAllCard have k s (take (lookedAt (length l)) l) store ≡ addAllCard have k s l store
-first-entries have k s l store = go (leb (length l) 4097) refl
+pub first-entries : (have : ℕ) (k : Card) (s : List ℕ) (l : List NewDevice) (store : List ℕ) → Every WideEntry (take 4097 l) → addAllCard have k s (take 4097 l) store ≡ addAllCard have k s l store
+first-entries have k s l store w = go (leb (length l) 4097) refl
   where
-    go : (t : Bool) → leb (length l) 4097 ≡ t → Every WideEntry (take (cond t (length l) 4097) l) → addAllCard have k s (take (cond t (length l) 4097) l) store ≡ addAllCard have k s l store
-    go true e w = ap (λ (m : List NewDevice). addAllCard have k s m store) (take-all (length l) l (omega arith))
-    go false e w =
+    go : (t : Bool) → leb (length l) 4097 ≡ t → addAllCard have k s (take 4097 l) store ≡ addAllCard have k s l store
+    go true e = ap (λ (m : List NewDevice). addAllCard have k s m store) (take-all 4097 l (leb-true (length l) 4097 e))
+    go false e =
         let n : length (take 4097 l) ≡ 4097 = length-take-le 4097 l (omega (arith, leb-false (length l) 4097 e)) in
         more-same have k s (take 4097 l) (drop 4097 l) store (wide-news (take 4097 l) w) (omega arith) ∙ ap (λ (m : List NewDevice). addAllCard have k s m store) (take-append-drop 4097 l)
+
+-- they are as many as are looked at
+pub take-looked : (l : List NewDevice) → take (lookedAt (length l)) l ≡ take 4097 l
+take-looked l = go (leb (length l) 4097) refl
+  where
+    go : (t : Bool) → leb (length l) 4097 ≡ t → take (cond t (length l) 4097) l ≡ take 4097 l
+    go true e = take-all (length l) l (omega arith) ∙ sym (take-all 4097 l (leb-true (length l) 4097 e))
+    go false e = refl

@@ -23,7 +23,7 @@ use Rattle.cards.specs.Calls.{addDevicesCall}
 use Rattle.cards.specs.Whole.{addAllCard}
 use Rattle.newcomers.specs.Records.{lookedAt, recordOf, stored, storedIn, recordsOf, WideEntry}
 use Rattle.newcomers.proofs.Laws.{length-record}
-use Rattle.newcomers.proofs.First.{entries-back, first-entries}
+use Rattle.newcomers.proofs.First.{entries-back, first-entries, take-looked}
 
 abbrev pub none : NewDevice
 none = record { id = 0; version = 0; flags = 0; place = 0; length = 0 }
@@ -106,4 +106,4 @@ part-end {ds} {zs} {i} have {k} file store {old} {new} {r} p h d =
     let w : Every WideEntry (take n ds) = subst (λ (j : ℕ). Every WideEntry (take j ds)) e (p .wide) in
     let records : take (n * 24) zs ≡ recordsOf (take n ds) = subst (λ (j : ℕ). take (j * 24) zs ≡ recordsOf (take j ds)) e (p .start) in
     let same : newDevices (take (n * 24) zs) ≡ take n ds = ap newDevices records ∙ entries-back (take n ds) w in
-    subst (λ (o : ℕ × Outcome (List ℕ × Card)). WritesBeside k o old r new) (ap (λ (l : List NewDevice). addAllCard have k file l store) same ∙ first-entries have k file ds store w) d
+    subst (λ (o : ℕ × Outcome (List ℕ × Card)). WritesBeside k o old r new) (ap (λ (l : List NewDevice). addAllCard have k file l store) (same ∙ take-looked ds) ∙ first-entries have k file ds store (subst (Every WideEntry) (take-looked ds) w)) d

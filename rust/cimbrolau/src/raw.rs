@@ -349,6 +349,17 @@ mod c {
             out: *mut u8,
             out_length: usize,
         ) -> Edited;
+        pub fn cimbrolau_add_devices_of(
+            file: *const u8,
+            file_length: usize,
+            card: Card,
+            table: *const NewDevice,
+            table_count: usize,
+            store: *const u8,
+            store_length: usize,
+            out: *mut u8,
+            out_length: usize,
+        ) -> Edited;
         pub fn cimbrolau_remove_device(
             file: *const u8,
             file_length: usize,
@@ -697,11 +708,26 @@ pub fn add_devices_of(
     store: &[u8],
     out: &mut [u8],
 ) -> Edited {
-    add_devices(file, card, &table_of(devices), store, out)
+    // SAFETY: each pointer and length are of one live slice, the devices' of so many structs that C lays out as this crate
+    // does; the library reads `file`, `devices` and `store` and writes within `out`, which no other reference names, during
+    // the call alone.
+    unsafe {
+        c::cimbrolau_add_devices_of(
+            file.as_ptr(),
+            file.len(),
+            card,
+            devices.as_ptr(),
+            devices.len(),
+            store.as_ptr(),
+            store.len(),
+            out.as_mut_ptr(),
+            out.len(),
+        )
+    }
 }
 
 /// The table's bytes of these devices: their own, where the machine has the low byte first as the records have.
-fn table_of(devices: &[NewDevice]) -> Cow<'_, [u8]> {
+pub(crate) fn table_of(devices: &[NewDevice]) -> Cow<'_, [u8]> {
     if cfg!(target_endian = "big") {
         return Cow::Owned(devices.iter().flat_map(|device| device.record()).collect());
     }

@@ -551,7 +551,7 @@ pub fn add_devices(
     let most = file_most(file.len() + 20 + bytes as usize);
     let mut index = 0;
     let made = edited(most, |out| {
-        let given = raw::add_devices_of(file, card, devices, store, out);
+        let given = raw::add_devices(file, card, &raw::table_of(devices), store, out);
         index = given.index;
         given
     });

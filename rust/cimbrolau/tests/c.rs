@@ -113,7 +113,9 @@ int main(void) {
     e = cimbrolau_open(empty, 16);
     show("many", cimbrolau_add_devices(empty, 16, e.card, bytes, 48, store, 3, many, 71));
     printf("%c%c%c\n", many[52], many[53], many[70]);
+    show("structs", cimbrolau_add_devices_of(empty, 16, e.card, table, 2, store, 3, many, 71));
     show("again", cimbrolau_add_devices(empty, 16, e.card, bytes, 72, store, 3, many, 71));
+    show("structs again", cimbrolau_add_devices_of(empty, 16, e.card, table, 3, store, 3, many, 71));
     show("outside", cimbrolau_add_devices(empty, 16, far, bytes, 72, store, 1, many, 71));
     show("room", cimbrolau_add_devices(empty, 16, far, bytes, 48, store, 3, many, 70));
     show("none", cimbrolau_add_devices(empty, 16, e.card, bytes, 23, store, 3, many, 71));
@@ -133,7 +135,9 @@ untrue: 28 0 0, 18446744073709551615 2 3 4
 remove: 0 0 16, 16 0 0 0
 many: 0 0 71, 71 1 2 3
 abc
+structs: 0 0 71, 71 1 2 3
 again: 17 2 0, 16 0 0 0
+structs again: 17 2 0, 16 0 0 0
 outside: 26 0 0, 18446744073709551615 2 3 4
 room: 16 1 71, 18446744073709551615 2 3 4
 none: 0 0 16, 16 0 0 0

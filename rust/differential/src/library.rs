@@ -124,9 +124,39 @@ pub fn edit(file: &[u8], card: Card, edit: Edit, out: &mut [u8]) -> Edited {
         Edit::AddDevices(table, store) => {
             given.extend([Bytes(table), Bytes(store)]);
             writes("add_devices", &given, out, |out| {
-                edited(raw::add_devices(file, card, table, store, out))
+                edited(add_devices(file, card, table, store, out))
             })
         }
+    }
+}
+
+/// Many at once over bytes, beside the same call over structs, which answers and writes the same.
+fn add_devices(
+    file: &[u8],
+    card: raw::Card,
+    table: &[u8],
+    store: &[u8],
+    out: &mut [u8],
+) -> raw::Edited {
+    let devices: Vec<_> = table.chunks_exact(24).map(new_device).collect();
+    let mut other = out.to_vec();
+    let of_structs = raw::add_devices_of(file, card, &devices, store, &mut other);
+    let of_bytes = raw::add_devices(file, card, table, store, out);
+    assert_eq!(of_structs, of_bytes, "add_devices over structs answers another than over bytes");
+    assert!(other == out, "add_devices over structs writes other bytes than over bytes");
+    of_bytes
+}
+
+fn new_device(record: &[u8]) -> raw::NewDevice {
+    let number = |at: usize, n: usize| {
+        record[at..at + n].iter().rev().fold(0, |number, &byte| number << 8 | u64::from(byte))
+    };
+    raw::NewDevice {
+        id: number(0, 4) as u32,
+        version: number(4, 2) as u16,
+        flags: number(6, 2) as u16,
+        place: number(8, 8),
+        length: number(16, 8),
     }
 }
 
