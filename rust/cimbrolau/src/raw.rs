@@ -238,7 +238,8 @@ const _: () = assert!(offset_of!(NewDevice, place) == 8 && offset_of!(NewDevice,
 /// The library's own functions. A slice is lent as a pointer and a length, for the time of the call.
 mod c {
     use super::{
-        Access, Answer, Card, Cursors, Edited, Meta, Numbers, Pair, Readiness, Record, Salvaged,
+        Access, Answer, Card, Cursors, Edited, Meta, NewDevice, Numbers, Pair, Readiness, Record,
+        Salvaged,
     };
 
     extern "C" {
