@@ -1184,21 +1184,28 @@ pub fn access(word: u32) -> Access {
 #[cfg(test)]
 mod tests {
     use super::*;
+    use crate::snapshot::EMPTY;
 
     #[test]
-    fn a_slice_of_new_devices_is_its_table() {
-        let devices: Vec<NewDevice> = (0..5u32)
+    fn a_slice_of_new_devices_answers_as_its_records() {
+        let mut devices: Vec<NewDevice> = (0..5u32)
             .map(|at| NewDevice {
                 id: 0x0403_0201 + at,
                 version: 0x0605,
                 flags: 0x0807,
-                place: 0x100F_0E0D_0C0B_0A09,
-                length: u64::MAX - u64::from(at),
+                place: u64::from(at),
+                length: 2,
             })
             .collect();
+        devices.push(NewDevice { length: u64::MAX, ..devices[0] });
         let records: Vec<u8> = devices.iter().flat_map(NewDevice::record).collect();
         for count in 0..=devices.len() {
-            assert_eq!(table_of(&devices[..count]), &records[..24 * count]);
+            let (mut of_structs, mut of_bytes) = ([7; 160], [7; 160]);
+            let (list, table) = (&devices[..count], &records[..24 * count]);
+            let answer = add_devices_of(&EMPTY, Card::EMPTY, list, b"abcdef", &mut of_structs);
+            assert_eq!(answer, add_devices(&EMPTY, Card::EMPTY, table, b"abcdef", &mut of_bytes));
+            assert_eq!(of_structs, of_bytes);
+            assert_eq!((answer.number, answer.index), if count == 6 { (26, 5) } else { (0, 0) });
         }
     }
 }
