@@ -1202,6 +1202,7 @@ mod tests {
         for count in 0..=devices.len() {
             let (mut of_structs, mut of_bytes) = ([7; 160], [7; 160]);
             let (list, table) = (&devices[..count], &records[..24 * count]);
+            assert_eq!(table_of(list), table);
             let answer = add_devices_of(&EMPTY, Card::EMPTY, list, b"abcdef", &mut of_structs);
             assert_eq!(answer, add_devices(&EMPTY, Card::EMPTY, table, b"abcdef", &mut of_bytes));
             assert_eq!(of_structs, of_bytes);
