@@ -126,9 +126,9 @@ unfoldable pub turns : List ℕ → List ℕ → List ℕ → List (List ℕ) �
 turns t store [] old = join old
 turns t store (y ∷ l) old = turn t store y old ++ turns t store l (drop (before t y old) old)
 
--- the rows' payloads lie within the second buffer
+-- the rows stand within the table, and their payloads within the second buffer
 abbrev pub InsideAt : List ℕ → List ℕ → List ℕ → Type 0
-InsideAt t store = Every (λ y. isInside store (newDeviceAt t y) ≡ true)
+InsideAt t store = Every (λ y. (isInside store (newDeviceAt t y) ≡ true) × (y + 24 ≤ length t))
 
 -- of all bytes a part was written over the start of `old`, n of them, and the rest is to come
 pub record Begun (all rest old new : List ℕ) (n : ℕ) : Type 0 where
