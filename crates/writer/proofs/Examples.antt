@@ -11,7 +11,7 @@ use Rattle.order.specs.Keyed.{insert, has}
 use Rattle.order.specs.Entries.{join, split}
 use Rattle.entries.specs.Kinds.{devices}
 use Rattle.lists.specs.Lists.{entryAt, walk, listAt}
-use Rattle.writer.specs.Runs.{entryBy, fits}
+use Rattle.writer.specs.Runs.{entryBy, fits, byStarts}
 use Rattle.writer.specs.Writer.{sortedOf}
 
 -- device (id, 1, 0) with one or two payload bytes
@@ -48,3 +48,8 @@ sorted = (refl, refl, refl, refl, refl, refl)
 pub run : (join (fits 34 (map (entryBy devices payload) (21 ∷ 4 ∷ []))) ≡ three) × (join (fits 35 (map (entryBy devices payload) (21 ∷ 99 ∷ 4 ∷ []))) ≡ three ++ fourteen)
 unfolding span leAt le
 run = (refl, refl)
+
+-- the entries in the order of their starts, and the tail behind them; with one start too few what is left of the list stays behind the entry
+pub placed : (byStarts devices (payload ++ (7 ∷ 8 ∷ [])) (21 ∷ 4 ∷ []) ≡ counted 2 (three ++ fourteen) ++ (7 ∷ 8 ∷ [])) × (byStarts devices payload (4 ∷ []) ≡ payload)
+unfolding span leAt le
+placed = (refl, refl)

@@ -1,12 +1,13 @@
 -- Parts written one after another as long as they fit.
 -- Assumes nothing.
 use mathlib.Core.Path.{_≡_, refl, sym, _∙_, ap}
-use mathlib.Core.Bool.{Bool, cond}
+use mathlib.Core.Bool.{Bool, true, false, cond}
 use mathlib.Core.List.{List, [], _∷_, _++_, append-assoc, append-nil}
 use Prim.Native.Nat.{ℕ, _+_, _-_, _≤_, _<_}
 use native.Mathlib.Omega.{arith}
 use lib.ListN.{length, take, drop, length-append}
-use borrow.Author.Tests.{le-leb, lt-leb}
+use lib.Dec.{leb}
+use borrow.Author.Tests.{le-leb, lt-leb, leb-true}
 use Rattle.wire.specs.Parts.{put, Wrote}
 use Rattle.wire.proofs.Parts.{none, put-not, wrote-put, wrote-tail, wrote-length, length-tail}
 use Rattle.order.specs.Entries.{join}
@@ -23,6 +24,20 @@ fits-all have [] h = refl
 fits-all have (e ∷ l) h =
     let n = length-append e (join l) in
     rw (le-leb (length e) have (omega arith)) (ap (λ (m : List (List ℕ)). e ∷ m) (fits-all (have - length e) l (omega arith)))
+
+-- those that fit are within the room
+module _ (have : ℕ) (e rest : List ℕ) where
+  within : (b : Bool) → leb (length e) have ≡ b → length rest ≤ have - length e → length (cond b (e ++ rest) []) ≤ have
+  within true h r = omega (arith, length-append e rest, leb-true (length e) have h)
+  within false h r = omega arith
+
+join-cond : (b : Bool) (e : List ℕ) (l : List (List ℕ)) → join (cond b (e ∷ l) []) ≡ cond b (e ++ join l) []
+join-cond true e l = refl
+join-cond false e l = refl
+
+pub fits-within : (have : ℕ) (l : List (List ℕ)) → length (join (fits have l)) ≤ have
+fits-within have [] = omega arith
+fits-within have (e ∷ l) = rw (join-cond (leb (length e) have) e (fits (have - length e) l)) (within have e (join (fits (have - length e) l)) (leb (length e) have) refl (fits-within (have - length e) l))
 
 -- of all that goes into old, the first parts, `at` bytes, stand in new; of the rest those come that fit
 pub record Fitting (all old : List ℕ) (rest : List (List ℕ)) (at : ℕ) (new : List ℕ) : Type 0 where

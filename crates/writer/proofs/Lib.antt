@@ -1,6 +1,7 @@
 pub mod Fits
 pub mod Runs
 pub mod Straight
+pub mod Around
 pub mod Whole
 pub mod Asked
 pub mod Once

@@ -1,11 +1,12 @@
 -- Entries written one after another from where they start, whatever stands there.
 -- Assumes nothing.
 use mathlib.Core.Bool.{Bool, true, cond, _&&_}
-use mathlib.Core.List.{List, [], _∷_}
-use Prim.Native.Nat.{ℕ, _-_}
+use mathlib.Core.List.{List, [], _∷_, _++_, map}
+use Prim.Native.Nat.{ℕ, _+_, _-_}
 use lib.Dec.{leb}
 use lib.ListN.{length, take, drop}
 use Rattle.format.specs.Format.{span}
+use Rattle.order.specs.Entries.{join}
 use Rattle.entries.specs.Kinds.{Description}
 
 -- the bytes of the entry that starts at a place, by its lengths alone
@@ -25,3 +26,11 @@ inOrderFrom n (y ∷ l) = leb n y && inOrderFrom y l
 -- each start is at least the one before it
 abbrev pub inOrder : List ℕ → Bool
 inOrder l = inOrderFrom 0 l
+
+-- a list's count, bytes for its entries, and what is left of it behind them
+abbrev pub around : List ℕ → List ℕ → List ℕ
+around s e = take 4 s ++ (e ++ drop (4 + length e) s)
+
+-- a list with the entries that start at places, as long as they fit
+abbrev pub byStarts : Description → List ℕ → List ℕ → List ℕ
+byStarts d s l = around s (join (fits (length s - 4) (map (entryBy d s) l)))

@@ -10,7 +10,9 @@ use entries::length_at;
 use lists::few;
 use lists::index;
 ghost use mathlib.Core.Path.{_≡_};
-ghost use mathlib.Core.List.{map};
+ghost use mathlib.Core.Bool.{cond};
+ghost use mathlib.Core.List.{[], map};
+ghost use lib.Dec.{leb};
 ghost use lib.ListN.{length};
 ghost use Rattle.answer.specs.Outcome.{fitting};
 ghost use Rattle.answer.specs.Calls.{Writes};
@@ -19,7 +21,7 @@ ghost use Rattle.order.specs.Entries.{join};
 ghost use Rattle.entries.specs.Code.{describe};
 ghost use Rattle.lists.specs.Steps.{Room};
 ghost use Rattle.writer.specs.Writer.{sortedBytes, sortedOf};
-ghost use Rattle.writer.specs.Runs.{entryBy, fits, inOrder};
+ghost use Rattle.writer.specs.Runs.{entryBy, fits, inOrder, byStarts};
 ghost use Rattle.writer.specs.Steps.{Listed};
 
 // ---- entries of a list
@@ -71,7 +73,33 @@ pub fn in_order(starts: &[u32]) -> bool
     true
 }
 
-// The list whose entries start at `starts`, where there is room: at once where they stand in the order of their keys. A tail begins where the entries end.
+// The list s over as many bytes, its entries in the order of `starts`: its count, the entries, and behind them what is left of s, which is its tail.
+fn fill_by_starts(kind: Kind, s: &[u8], starts: &[u32], out: &mut [u8])
+    requires { ⌜ length (now out) ≡ length (now s) ⌝ }
+    ensures { λ _. ⌜ now (out .exit) ≡ byStarts (describe kind) (now (s .entry)) (now (starts .entry)) ⌝ }
+{
+    if s.len() < 4 {
+        wire::copy(out, 0, s);
+        return;
+    }
+    wire::copy(out, 0, &s[..4]);
+    let at = 4 + put_run(kind, s, starts, &mut out[4..]);
+    wire::copy(out, at, &s[at..]);
+}
+
+// The same over the start of `out`, where there is room for it.
+pub fn put_by_starts(kind: Kind, s: &[u8], starts: &[u32], out: &mut [u8]) -> usize
+    ensures { λ r. ⌜ Wrote (cond (leb (length (now (s .entry))) (length (now (out .entry)))) (byStarts (describe kind) (now (s .entry)) (now (starts .entry))) []) (now (out .entry)) (now (out .exit)) r ⌝ }
+{
+    let n = s.len();
+    if out.len() < n {
+        return 0;
+    }
+    fill_by_starts(kind, s, starts, &mut out[..n]);
+    n
+}
+
+// The list whose entries start at `starts`, where there is room: at once where they stand in the order of their keys.
 fn put_list(kind: Kind, s: &[u8], starts: &[u32], out: &mut [u8]) -> Answer
     requires { ⌜ Listed (describe kind) (now s) (now starts) ⌝ }
     ensures { λ r. ⌜ Writes (fitting (length (now (out .entry))) (sortedBytes (describe kind) (now (s .entry)))) (now (out .entry)) r (now (out .exit)) ⌝ }
@@ -89,10 +117,7 @@ fn put_list(kind: Kind, s: &[u8], starts: &[u32], out: &mut [u8]) -> Answer
             place: s.len() as u64,
         };
     }
-    wire::put_u32(out, 0, starts.len() as u32);
-    let n = put_run(kind, s, starts, &mut out[4..]);
-    let at = 4 + n;
-    wire::copy(out, at, &s[at..]);
+    put_by_starts(kind, s, starts, out);
     Answer {
         number: TAKEN,
         place: s.len() as u64,
