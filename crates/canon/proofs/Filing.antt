@@ -9,7 +9,7 @@ use native.Mathlib.Omega.{arith}
 use lib.ListN.{length, take, drop, getD, length-append, length-drop, take-append-drop, drop-of-length-le}
 use lib.Seq.{take-append-seam, drop-append-seam, drop-drop, length-take-le}
 use lib.Dec.{leb, ltb, eqb}
-use borrow.Author.Tests.{leb-true, le-leb, lt-ltb, ltb-true, ltb-false, eq-eqb, ne-eqb, eqb-true, eqb-false}
+use borrow.Author.Tests.{leb-true, leb-false, le-leb, lt-ltb, ltb-true, ltb-false, eq-eqb, ne-eqb, eqb-true, eqb-false}
 use Rattle.answer.specs.Outcome.{Outcome, taken, after}
 use Rattle.answer.proofs.Checks.{and-true, pass-checked}
 use Rattle.answer.proofs.Outcomes.{taken-is}
@@ -37,8 +37,8 @@ use Rattle.sections.proofs.Kept.{kept-all, body-other, starts-most}
 use Rattle.sections.proofs.Reading.{Held}
 use Rattle.sections.proofs.Rules.{ruled-not}
 use Rattle.canon.specs.Steps.{bytesFor, mine, ranked, ranks, WholeSection}
-use Rattle.canon.specs.Filed.{held, Filed, WholeFile, otherBytes, othersFrom}
-use Rattle.canon.proofs.Order.{mine-here, mine-not}
+use Rattle.canon.specs.Filed.{held, rankPlace, PassedOver, Filed, WholeFile, otherBytes, othersFrom}
+use Rattle.canon.proofs.Order.{mine-here, mine-not, Ranking, ranking-skip}
 
 -- ---- a file that is taken
 
@@ -339,6 +339,39 @@ others-are (suc n) before at (c ∷ b) = go (partOf before at (c ∷ b)) refl (p
 -- those of a file, by its directory
 pub filed-others : {s index : List ℕ} → Filed s index → othersFrom s (getD index 0 0) 16 ≡ ranked 9 (held s)
 filed-others {s} {index} v = ap (λ (u : ℕ). othersFrom s u 16) (v .directory .others) ∙ others-are (length s) [] 16 (drop 16 s)
+
+-- ---- ranks of which nothing is kept
+
+no-others : (n : ℕ) (b : List ℕ) → otherBytes n 0 b ≡ []
+unfolding otherBytes
+no-others zero b = refl
+no-others (suc n) b = refl
+
+pub rank-none : {s index : List ℕ} → Filed s index → (k : ℕ) → 1 ≤ k → k ≤ 9 → getD index (rankPlace k) 0 ≡ 0 → ranked k (held s) ≡ []
+rank-none {s} {index} v k a b z = go (leb k 8) refl
+  where
+    go : (t : Bool) → leb k 8 ≡ t → ranked k (held s) ≡ []
+    go true e = filed-none k a (leb-true k 8 e) v (sym (ap (λ (x : Bool). getD index (cond x k 0) 0) e) ∙ z)
+    go false e =
+        let q : k ≡ 9 = omega (arith, leb-false k 8 e) in
+        let c : getD index 0 0 ≡ 0 = sym (ap (λ (x : Bool). getD index (cond x k 0) 0) e) ∙ z in
+        ap (λ (j : ℕ). ranked j (held s)) q ∙ sym (filed-others v) ∙ ap (λ (u : ℕ). othersFrom s u 16) c ∙ no-others (length s) (drop 16 s)
+
+pub passed-none : (index : List ℕ) (k i : ℕ) → PassedOver index k i i
+passed-none index k i = record { order = omega arith; none = λ j a b. absurd (omega arith) }
+
+pub passed-next : {index : List ℕ} {k i r : ℕ} → PassedOver index k i r → getD index (rankPlace (k + (r + 1))) 0 ≡ 0 → PassedOver index k i (r + 1)
+passed-next {index} {k} {i} {r} v z = record { order = omega (arith, v .order); none = λ j a b. at j a b (eqb j r) refl }
+  where
+    at : (j : ℕ) → i ≤ j → j < r + 1 → (t : Bool) → eqb j r ≡ t → getD index (rankPlace (k + (j + 1))) 0 ≡ 0
+    at j a b true e = ap (λ (x : ℕ). getD index (rankPlace (k + (x + 1))) 0) (eqb-true j r e) ∙ z
+    at j a b false e = v .none j a (omega (arith, eqb-false j r e))
+
+-- they need not be written
+pub passed-over : {s index : List ℕ} → Filed s index → {k n i r t : ℕ} {old new : List ℕ} → k + n ≤ 9 → PassedOver index k i r → r ≤ n → Ranking (held s) k n i t old new → Ranking (held s) k n r t old new
+passed-over {s} {index} f {k} {n} {i} {r} h p b v =
+    let z : r ≡ i + (r - i) = omega (arith, p .order) in
+    rw z (ranking-skip (r - i) (omega (arith, p .order)) (λ j x y. rank-none f (k + (j + 1)) (omega arith) (omega (arith, p .order)) (p .none j x (omega (arith, p .order)))) v)
 
 -- ---- the walk over them
 

@@ -3,8 +3,9 @@
 use mathlib.Core.Path.{_≡_}
 use mathlib.Core.List.{List, [], _++_}
 use mathlib.Core.Bool.{cond}
-use Prim.Native.Nat.{ℕ, zero, suc, _+_, _-_, _≤_}
-use lib.ListN.{length, take, drop}
+use Prim.Native.Nat.{ℕ, zero, suc, _+_, _-_, _≤_, _<_}
+use lib.Dec.{leb}
+use lib.ListN.{length, take, drop, getD}
 use Rattle.answer.specs.Outcome.{refused, Pass}
 use Rattle.answer.specs.declared.Test.{Test}
 use Rattle.answer.specs.declared.Test.the-variants.{Fault, Fine}
@@ -15,6 +16,8 @@ use Rattle.aerosnap.specs.Salvage.{partsOf, allKept}
 use Rattle.sections.specs.Walks.{Read}
 use Rattle.sections.specs.Index.{startsOf}
 use Rattle.sections.specs.Directory.{directoryPlaces, Directory}
+use Rattle.canon.specs.declared.Places.{Places}
+use Rattle.canon.specs.declared.Places.the-variants.{Few, Some, All}
 
 -- the sections that are kept of a file
 abbrev pub held : List ℕ → List (List ℕ)
@@ -29,6 +32,21 @@ pub record HoldsKept (s : List ℕ) (n : ℕ) : Type 0 where
 pub record HoldsParts (s : List ℕ) (n : ℕ) : Type 0 where
   pub directory : directoryPlaces ≤ n
   pub starts : Pass (headerChecks s) → length (flat startsOf (held s)) ≤ n - directoryPlaces
+
+-- how many places an index has
+abbrev pub placesIn : Places → ℕ
+placesIn Few = 51
+placesIn Some = 275
+placesIn All = 4883
+
+-- the place of the directory that says whether anything of a rank is kept
+abbrev pub rankPlace : ℕ → ℕ
+rankPlace k = cond (leb k 8) k 0
+
+-- by the directory nothing is kept of the ranks behind rank k from the i-th on and before the r-th
+pub record PassedOver (index : List ℕ) (k i r : ℕ) : Type 0 where
+  pub order : i ≤ r
+  pub none : (j : ℕ) → i ≤ j → j < r → getD index (rankPlace (k + (j + 1))) 0 ≡ 0
 
 -- the index has the directory of what is kept of s, and all starts of its lists
 pub record Filed (s index : List ℕ) : Type 0 where

@@ -21,7 +21,6 @@ use Rattle.aerosnap.specs.Calls.{canonicalCall}
 use Rattle.cards.specs.declared.Card.{Card}
 use Rattle.cards.specs.declared.Edited.{Edited}
 use Rattle.cards.specs.Cards.{payloadSize, openFile, openAnswer, editCard, WritesBeside, blankCard}
-use Rattle.cards.specs.Whole.{manyCard}
 use Rattle.sections.specs.Walks.{sectionsIn}
 use Rattle.canon.specs.declared.Site.{Site}
 use Rattle.canon.specs.declared.Cut.{Cut}
@@ -29,7 +28,7 @@ use Rattle.canon.specs.declared.Change.{Change}
 use Rattle.canon.specs.declared.Planned.{Planned}
 use Rattle.canon.specs.declared.Planned.the-variants.{Fault, Fits}
 use Rattle.canon.specs.declared.Work.{Work}
-use Rattle.canon.specs.declared.Work.the-variants.{Canonical, Opening, Editing, Adding}
+use Rattle.canon.specs.declared.Work.the-variants.{Canonical, Opening, Editing}
 use Rattle.canon.specs.Filed.{WholeFile}
 use Rattle.canon.specs.Edits.{editOf, ownRows, oldEntries, oldTail, payloadLong, Lands}
 
@@ -100,4 +99,3 @@ abbrev pub Works : Work → List ℕ → List ℕ → List ℕ → List ℕ → 
 Works Canonical s a b old r new = (q : Answer) × (r ≡ plainAnswer q) × Writes (canonicalCall (length old) s) old q new
 Works Opening s a b old r new = (r ≡ openAnswer (openFile s)) × (new ≡ old)
 Works (Editing e k) s a b old r new = WritesBeside k (0, editCard (length old) k s (editOf e a b)) old r new
-Works (Adding k) s a b old r new = WritesBeside k (manyCard (length old) k s a b) old r new

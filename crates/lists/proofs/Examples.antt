@@ -78,12 +78,12 @@ pub calls : (indexOf devices 2 payload ≡ taken (21 ∷ 4 ∷ []))
 unfolding listAt walk entryAt read leAt le insert has findIn
 calls = (refl, refl, refl, refl, refl, refl)
 
--- by halves the same; in starts out of order the lower key, which is the second, isn't found
+-- by halves the same; in starts out of order the higher key, which is the first, isn't found
 pub by-halves : (halvesIn (keyAt devices payload) (devices .key three) (21 ∷ 4 ∷ []) ≡ There 0)
     × (halvesIn (keyAt devices payload) (devices .key fourteen) (21 ∷ 4 ∷ []) ≡ There 1)
     × (halvesIn (keyAt devices payload) 4294967296 (21 ∷ 4 ∷ []) ≡ Free 0)
     × (halvesIn (keyAt devices payload) 17179869184 (21 ∷ 4 ∷ []) ≡ Free 1)
     × (halvesIn (keyAt devices payload) 64424509440 (21 ∷ 4 ∷ []) ≡ Free 2)
-    × (halvesIn (keyAt devices payload) (devices .key three) (4 ∷ 21 ∷ []) ≡ Free 0)
+    × (halvesIn (keyAt devices payload) (devices .key fourteen) (4 ∷ 21 ∷ []) ≡ Free 2)
 unfolding leAt le halves
 by-halves = (refl, refl, refl, refl, refl, refl)

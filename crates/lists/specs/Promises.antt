@@ -46,23 +46,18 @@ unfoldable pub findIn : {E : Type 0} → (E → ℕ) → ℕ → List E → Foun
 findIn key k [] = Free 0
 findIn key k (y ∷ l) = elim (eqb k (key y)) [ true ↦ There 0 | false ↦ elim (leb k (key y)) [ true ↦ Free 0 | false ↦ later 1 (findIn key k l) ] ]
 
--- where a search by halves ends that has so many starts from lo on before it: it looks at the middle one, and goes on behind it if its key is below k, or else before it
-unfoldable pub halves : (ℕ → ℕ) → ℕ → List ℕ → ℕ → ℕ → ℕ → ℕ
-halves key k l zero lo many = lo
-halves key k l (suc turns) lo zero = lo
-halves key k l (suc turns) lo (suc n) = elim (leb k (key (getD l (lo + suc n / 2) 0))) [ true ↦ halves key k l turns lo (suc n / 2) | false ↦ halves key k l turns (suc (lo + suc n / 2)) (n - suc n / 2) ]
+-- what a search by halves finds that has so many starts from lo on before it: it looks at the middle one, and if that has another key goes on before it or behind it
+unfoldable pub halves : (ℕ → ℕ) → ℕ → List ℕ → ℕ → ℕ → ℕ → Found
+halves key k l zero lo many = Free lo
+halves key k l (suc turns) lo zero = Free lo
+halves key k l (suc turns) lo (suc n) = elim (eqb k (key (getD l (lo + suc n / 2) 0))) [
+  | true ↦ There (lo + suc n / 2)
+  | false ↦ elim (leb k (key (getD l (lo + suc n / 2) 0))) [ true ↦ halves key k l turns lo (suc n / 2) | false ↦ halves key k l turns (suc (lo + suc n / 2)) (n - suc n / 2) ]
+]
 
--- it ends within as many turns as there are starts
-abbrev pub lowerIn : (ℕ → ℕ) → ℕ → List ℕ → ℕ
-lowerIn key k l = halves key k l (length l) 0 (length l)
-
--- what there is at the place r: the key k, or room for an entry that has it
-abbrev pub foundAt : (ℕ → ℕ) → ℕ → List ℕ → ℕ → Found
-foundAt key k l r = cond (leb (length l) r) (Free r) (cond (eqb (key (getD l r 0)) k) (There r) (Free r))
-
--- where an entry with the key k goes, by halves: in ascending keys the place that `findIn` has
+-- where an entry with the key k goes, by halves, within as many turns as there are starts: in ascending keys the place that `findIn` has
 abbrev pub halvesIn : (ℕ → ℕ) → ℕ → List ℕ → Found
-halvesIn key k l = foundAt key k l (lowerIn key k l)
+halvesIn key k l = halves key k l (length l) 0 (length l)
 
 -- the documents' number and place for each answer, by whether an entry with the key is wanted: one that is there then, or else its place, is taken; a key that is wanted and isn't there is ABSENT, one that is there unwanted HAVE
 abbrev pub foundOf : Bool → Found → Outcome ℕ
