@@ -1,12 +1,13 @@
-//! Measures the proved library beside the reference, `memcpy` and `from_utf8`, and prints a table of ratios.
+//! Measures the proved library beside the reference, `memcpy`, `from_utf8` and a bare loop, and prints a table of ratios.
 //!
-//! It fails if the library's copy is no longer a `memmove`, or if the library and the reference answer differently.
+//! It fails if the library's copy is no longer a `memmove`, or if the library and the reference or the loop answer differently.
 //! A ratio over its target is told, and is no failure: times depend on the machine. A word as argument measures only the
 //! rows of that name: `sizes`, `counts`, `mixed`, `texts`, `messages`, `rings`, `ready`, `states`, `salvage` or `many`. The word `wasm` measures the library in WebAssembly
 //! beside the native one, which nothing else does.
 
 mod contest;
 mod disassembly;
+mod floor;
 mod inputs;
 mod rows;
 mod wasm;
@@ -44,21 +45,17 @@ fn main() -> ExitCode {
     println!("{}\n", machine());
     let (check, canonical) = rows::controls();
     println!("Control, the reference beside itself: check {check:.2}, canonical {canonical:.2}\n");
-    println!("| call | input | library | peer | ratio | target | | of memcpy |");
-    println!("|---|---|---:|---:|---:|---:|---|---:|");
+    println!("| call | input | library | peer | ratio | target | | of memcpy | of floor | |");
+    println!("|---|---|---:|---:|---:|---:|---|---:|---:|---|");
     let (mut met, mut missed) = (0, Vec::new());
     let mut tell = |row: Row| {
         println!("{}", line(&row));
-        if row.met() {
-            met += 1;
-        } else {
-            missed.push(format!(
-                "- {}, {}: {:.2}, target {}",
-                row.call,
-                row.input,
-                row.ratio,
-                target(&row)
-            ));
+        for (held, said) in verdicts(&row) {
+            if held {
+                met += 1;
+            } else {
+                missed.push(said);
+            }
         }
     };
     for (name, measure) in rows::GROUPS {
@@ -71,13 +68,36 @@ fn main() -> ExitCode {
     ExitCode::SUCCESS
 }
 
+/// Whether a row meets each of its targets, and what is said of it where it does not.
+fn verdicts(row: &Row) -> Vec<(bool, String)> {
+    let Row { call, input, ratio, floor_target, .. } = row;
+    let missed = format!("- {call}, {input}: {ratio:.2}, target {}", target(row));
+    let mut verdicts = vec![(row.met(), missed)];
+    if let (Some(near), Some(floor)) = (row.near(), row.floor) {
+        let missed = format!("- {call}, {input}: {floor:.2} of the floor, target {floor_target}");
+        verdicts.push((near, missed));
+    }
+    verdicts
+}
+
 fn line(row: &Row) -> String {
     let Row { call, input, peer, ratio, .. } = row;
     let target = target(row);
     let (library, other) = (time(row.library), time(row.other));
-    let verdict = if row.met() { "met" } else { "not met" };
-    let of_memcpy = row.of_memcpy.map_or(String::new(), |ratio| format!("{ratio:.2}"));
-    format!("| {call} | {input} | {library} | {other} ({peer}) | {ratio:.2} | {target} | {verdict} | {of_memcpy} |")
+    let verdict = verdict(row.met());
+    let shown = |ratio: Option<f64>| ratio.map_or(String::new(), |ratio| format!("{ratio:.2}"));
+    let (of_memcpy, of_floor) = (shown(row.of_memcpy), shown(row.floor));
+    let near = row.near().map_or("", self::verdict);
+    format!("| {call} | {input} | {library} | {other} ({peer}) | {ratio:.2} | {target} | {verdict} | {of_memcpy} | {of_floor} | {near} |")
+}
+
+/// What the table says of a target.
+fn verdict(met: bool) -> &'static str {
+    if met {
+        "met"
+    } else {
+        "not met"
+    }
 }
 
 /// The ratio that a row may have, and the time where that has a bound of its own.

@@ -1,6 +1,7 @@
 //! What is measured: the rows of the table.
 
-use crate::contest::{contest, contestant, Outcome};
+use crate::contest::{contest, contestant, Contestant, Outcome};
+use crate::floor;
 use crate::inputs::{self, Order};
 use cimbrolau::region::{layout, Plan};
 use cimbrolau::{raw, Level, Message};
@@ -21,11 +22,20 @@ pub struct Row {
     pub most: Option<f64>,
     /// The library's time over that of one `memcpy` of the file, for calls that write files.
     pub of_memcpy: Option<f64>,
+    /// The library's time over that of the floor, where that is measured.
+    pub floor: Option<f64>,
+    /// The most that this may be; infinite where it may be anything.
+    pub floor_target: f64,
 }
 
 impl Row {
     pub fn met(&self) -> bool {
         self.ratio <= self.target && self.most.is_none_or(|most| self.library <= most)
+    }
+
+    /// Whether the library is as near to the floor as it has to be, where there is such a target.
+    pub fn near(&self) -> Option<bool> {
+        self.floor.filter(|_| self.floor_target.is_finite()).map(|floor| floor <= self.floor_target)
     }
 }
 
@@ -38,6 +48,8 @@ struct Case<'a> {
     input: String,
     reading: f64,
     writing: f64,
+    /// How much more than the floor, where that is measured; infinite where it may be anything.
+    floor: Option<f64>,
 }
 
 const MIB: usize = 1 << 20;
@@ -80,16 +92,19 @@ fn sizes(tell: Tell) {
     ];
     for (size, name) in small {
         let file = inputs::ram(size);
-        file_rows(Case { file: &file, input: name.to_string(), reading: 1.25, writing: 1.2 }, tell);
+        file_rows(
+            Case { file: &file, input: name.to_string(), reading: 1.25, writing: 1.2, floor: None },
+            tell,
+        );
     }
     for size in [16, 256] {
         let file = inputs::ram(size * MIB);
         let input = format!("{size} MiB, RAM");
-        file_rows(Case { file: &file, input, reading: 1.25, writing: 1.6 }, tell);
+        file_rows(Case { file: &file, input, reading: 1.25, writing: 1.6, floor: None }, tell);
     }
     let file = inputs::devices(4, 63 * MIB, Order::Descending);
     let input = "252 MiB, 4 devices descending".to_string();
-    file_rows(Case { file: &file, input, reading: 2.0, writing: 1.6 }, tell);
+    file_rows(Case { file: &file, input, reading: 2.0, writing: 1.6, floor: None }, tell);
 }
 
 /// Lists from one entry to as many as there may be, in each order.
@@ -100,13 +115,24 @@ fn counts(tell: Tell) {
             let file = inputs::devices(count, 64, order);
             let devices = if count == 1 { "device" } else { "devices" };
             let input = format!("{count} {devices} {}", order.name());
-            file_rows(Case { file: &file, input: input.clone(), reading, writing: 1.2 }, tell);
-            edit_rows(Case { file: &file, input, reading, writing: 1.2 }, tell);
+            let floor = floor_target(count, order);
+            file_rows(
+                Case { file: &file, input: input.clone(), reading, writing: 1.2, floor },
+                tell,
+            );
+            edit_rows(Case { file: &file, input, reading, writing: 1.2, floor: None }, tell);
         }
         let file = inputs::disks(255, order);
         let input = format!("255 disks {}", order.name());
-        disk_rows(Case { file: &file, input, reading, writing: 1.2 }, tell);
+        disk_rows(Case { file: &file, input, reading, writing: 1.2, floor: None }, tell);
     }
+}
+
+/// The most that the library may take beside the floor, which takes lists in ascending order. In short ones the loop is so
+/// short that what stands around it counts for more, and there it may take anything.
+fn floor_target(count: u32, order: Order) -> Option<f64> {
+    let target = if count >= 1024 { 1.5 } else { f64::INFINITY };
+    (order == Order::Ascending).then_some(target)
 }
 
 /// The table of devices whose payloads are of many lengths, so that none stands where entries of one length would.
@@ -116,7 +142,7 @@ fn mixed(tell: Tell) {
             let file = inputs::mixed_devices(count, order);
             let input = format!("{count} devices of mixed lengths {}", order.name());
             let reading = if order == Order::Descending { 2.0 } else { 1.25 };
-            let case = Case { file: &file, input, reading, writing: 1.2 };
+            let case = Case { file: &file, input, reading, writing: 1.2, floor: None };
             tell(reading_row("devices", &case, raw::devices, reference::devices));
         }
     }
@@ -191,12 +217,18 @@ fn states(tell: Tell) {
     for order in Order::ALL {
         let file = inputs::cpus(256, order);
         let input = format!("256 CPUs {}", order.name());
-        let case = Case { file: &file, input, reading: 1.25, writing: 1.2 };
+        let case = Case { file: &file, input, reading: 1.25, writing: 1.2, floor: None };
         tell(reading_row("cpus", &case, raw::cpus, reference::cpus));
         tell(reading_row("mmus", &case, raw::mmus, reference::mmus));
     }
     let file = inputs::ram(1024);
-    let case = Case { file: &file, input: "1 KiB, RAM".to_string(), reading: 1.25, writing: 1.2 };
+    let case = Case {
+        file: &file,
+        input: "1 KiB, RAM".to_string(),
+        reading: 1.25,
+        writing: 1.2,
+        floor: None,
+    };
     tell(reading_row(
         "meta",
         &case,
@@ -214,7 +246,7 @@ fn states(tell: Tell) {
     // A state is copied before it is set, by both.
     let state = inputs::cpu_state();
     let input = format!("a state of {} bytes", state.len());
-    let case = Case { file: &state, input, reading: 1.0, writing: 1.2 };
+    let case = Case { file: &state, input, reading: 1.0, writing: 1.2, floor: None };
     tell(reading_row(
         "cpu_field",
         &case,
@@ -229,7 +261,7 @@ fn states(tell: Tell) {
     ));
     let state = vec![0x44; 264];
     let input = format!("a state of {} bytes", state.len());
-    let case = Case { file: &state, input, reading: 1.0, writing: 1.2 };
+    let case = Case { file: &state, input, reading: 1.0, writing: 1.2, floor: None };
     tell(reading_row(
         "mmu_field",
         &case,
@@ -270,12 +302,14 @@ fn reading_row(
 ) -> Row {
     let mut table = vec![0xEE; 32 * 4096];
     agree(call, case, &mut table, &library, &peer);
-    let contestants = [
+    let mut contestants = vec![
         contestant(|table| library(black_box(case.file), table)),
         contestant(|table| peer(black_box(case.file), table)),
     ];
+    contestants.extend(floor_beside(call, case, table.len(), &library));
     let outcome = contest(&contestants, &mut table);
-    row(call, &case.input, "reference", case.reading, &outcome)
+    let row = row(call, &case.input, "reference", case.reading, &outcome);
+    above_floor(Row { of_memcpy: None, ..row }, case, outcome.ratios.get(2))
 }
 
 fn writing_row(
@@ -287,13 +321,56 @@ fn writing_row(
     // Every page of the output has been written before it is measured.
     let mut out = vec![0xEE; case.file.len() + 256];
     agree(call, case, &mut out, &library, &peer);
-    let contestants = [
+    let mut contestants = vec![
         contestant(|out| library(black_box(case.file), out)),
         contestant(|out| peer(black_box(case.file), out)),
         contestant(|out| out[..case.file.len()].copy_from_slice(black_box(case.file))),
     ];
+    contestants.extend(floor_beside(call, case, out.len(), &library));
     let outcome = contest(&contestants, &mut out);
-    row(call, &case.input, "reference", case.writing, &outcome)
+    let row = row(call, &case.input, "reference", case.writing, &outcome);
+    above_floor(row, case, outcome.ratios.get(3))
+}
+
+/// A row with the library's time over that of the floor, where that was measured.
+fn above_floor(row: Row, case: &Case, ratio: Option<&f64>) -> Row {
+    Row { floor: ratio.copied(), floor_target: case.floor.unwrap_or(f64::INFINITY), ..row }
+}
+
+/// The floor as a contestant, where it takes the file and has such a call. It has to agree with the library, in a buffer
+/// of so many bytes that nothing was written to before.
+fn floor_beside<'a>(
+    call: &str,
+    case: &'a Case,
+    room: usize,
+    library: impl Fn(&[u8], &mut [u8]) -> raw::Answer,
+) -> Option<Contestant<'a>> {
+    case.floor?;
+    match call {
+        "check" => Some(floored(call, case, room, library, |file, _| floor::check(file))),
+        "canonical" => Some(floored(call, case, room, library, floor::canonical)),
+        "devices" => Some(floored(call, case, room, library, floor::devices)),
+        "add_device" => Some(floored(call, case, room, library, |file, out| {
+            floor::add_device(file, (1, 1, 1), &[0x11; 64], out)
+        })),
+        _ => None,
+    }
+}
+
+/// One call of the floor as a contestant, after it has agreed with the library.
+fn floored<'a>(
+    call: &str,
+    case: &'a Case,
+    room: usize,
+    library: impl Fn(&[u8], &mut [u8]) -> raw::Answer,
+    floor: impl Fn(&[u8], &mut [u8]) -> Option<u64> + 'a,
+) -> Contestant<'a> {
+    let said = format!("{call} and its floor");
+    agree(&said, case, &mut vec![0xEE; room], library, |file, out| {
+        let place = floor(file, out);
+        reference::Answer { number: place.map_or(u32::MAX, |_| 0), place: place.unwrap_or(0) }
+    });
+    contestant(move |out| floor(black_box(case.file), out))
 }
 
 /// The two have to take the file, with one answer and the same bytes in the buffer afterwards.
@@ -573,6 +650,7 @@ fn many(tell: Tell) {
         input: input.to_string(),
         reading: 1.25,
         writing,
+        floor: None,
     };
     tell(many_row(case(&file, TWENTY_DEVICES, FEWER), &table, &store));
     let empty = inputs::ram(16);
@@ -645,5 +723,7 @@ fn row(call: &'static str, input: &str, peer: &'static str, target: f64, outcome
         target,
         most: None,
         of_memcpy: outcome.ratios.get(2).copied(),
+        floor: None,
+        floor_target: f64::INFINITY,
     }
 }
