@@ -64,15 +64,20 @@ module _ (s : List ℕ) where
   table-of rows have h = ap (λ (o : Outcome (List (List ℕ))). after o (λ l. fitting have (rows l))) h
 
   -- a file that has no section: no record, so that its verdict is the answer
-  pub bare-table : (i : ℕ) (old : List ℕ) → length s ≤ 16 → {r : Answer} → r ≡ verdict (fileOf s) → Writes (listTable i (length old) s) old r old
-  bare-table i old h k = subst (λ (r : Answer). Writes (listTable i (length old) s) old r old) (sym k) (go (fileOf s) refl)
-    where
-      rows : List (List ℕ) → List ℕ
-      rows l = flat (listRows i) (placed 16 l)
+  module _ (rows : List (List ℕ) → List ℕ) (z : rows [] ≡ []) where
+    bare-rows : (old : List ℕ) → length s ≤ 16 → {r : Answer} → r ≡ verdict (fileOf s) → Writes (table rows (length old) s) old r old
+    bare-rows old h k = subst (λ (r : Answer). Writes (table rows (length old) s) old r old) (sym k) (go (fileOf s) refl)
+      where
+        go : (o : Outcome (List (List ℕ))) → fileOf s ≡ o → Writes (table rows (length old) s) old (verdict o) old
+        go (refused n p) e = stopped rows old e
+        go (taken l) e = writes-taken (table-of rows (length old) e ∙ ap (λ (m : List (List ℕ)). fitting (length old) (rows m)) (no-section s e h) ∙ rw (z, le-leb 0 (length old) (omega arith))) (none old)
 
-      go : (o : Outcome (List (List ℕ))) → fileOf s ≡ o → Writes (listTable i (length old) s) old (verdict o) old
-      go (refused n p) e = stopped rows old e
-      go (taken l) e = writes-taken (table-of rows (length old) e ∙ ap (λ (m : List (List ℕ)). fitting (length old) (rows m)) (no-section s e h) ∙ rw (none-placed, le-leb 0 (length old) (omega arith))) (none old)
+  pub bare-table : (i : ℕ) (old : List ℕ) → length s ≤ 16 → {r : Answer} → r ≡ verdict (fileOf s) → Writes (listTable i (length old) s) old r old
+  bare-table i old h k = bare-rows (λ l. flat (listRows i) (placed 16 l)) (ap (flat (listRows i)) none-placed) old h k
+
+  pub bare-sections : (old : List ℕ) → length s ≤ 16 → {r : Answer} → r ≡ verdict (fileOf s) → Writes (sectionTable (length old) s) old r old
+  unfolding sectionRows
+  bare-sections old h k = bare-rows (sectionRows 16 0) refl old h k
 
 -- ---- the table of sections
 

@@ -92,8 +92,8 @@ fn put_rows(file: &[u8], out: &mut [u8])
     }
 }
 
-// The table of sections in file order.
-pub fn sections(file: &[u8], table: &mut [u8]) -> Answer
+// The table of sections in file order, of a file that may have some.
+fn section_table(file: &[u8], table: &mut [u8]) -> Answer
     ensures { λ r. ⌜ Writes (sectionsCall (length (now (table .entry))) (now (file .entry))) (now (table .entry)) r (now (table .exit)) ⌝ }
 {
     let mut index = [0u32; 1];
@@ -117,6 +117,16 @@ pub fn sections(file: &[u8], table: &mut [u8]) -> Answer
             }
         }
     }
+}
+
+// The table of sections in file order.
+pub fn sections(file: &[u8], table: &mut [u8]) -> Answer
+    ensures { λ r. ⌜ Writes (sectionsCall (length (now (table .entry))) (now (file .entry))) (now (table .entry)) r (now (table .exit)) ⌝ }
+{
+    if file.len() <= HEADER {
+        return check(file);
+    }
+    section_table(file, table)
 }
 
 // The table of a list, by the id and the version of its section.
