@@ -100,11 +100,11 @@ fn sizes(tell: Tell) {
     for size in [16, 256] {
         let file = inputs::ram(size * MIB);
         let input = format!("{size} MiB, RAM");
-        file_rows(Case { file: &file, input, reading: 1.25, writing: 1.6, floor: None }, tell);
+        file_rows(Case { file: &file, input, reading: 1.25, writing: 1.25, floor: None }, tell);
     }
     let file = inputs::devices(4, 63 * MIB, Order::Descending);
     let input = "252 MiB, 4 devices descending".to_string();
-    file_rows(Case { file: &file, input, reading: 2.0, writing: 1.6, floor: None }, tell);
+    file_rows(Case { file: &file, input, reading: 2.0, writing: 1.25, floor: None }, tell);
 }
 
 /// Lists from one entry to as many as there may be, in each order.
@@ -116,10 +116,9 @@ fn counts(tell: Tell) {
             let devices = if count == 1 { "device" } else { "devices" };
             let input = format!("{count} {devices} {}", order.name());
             let floor = floor_target(count, order);
-            file_rows(
-                Case { file: &file, input: input.clone(), reading, writing: 1.2, floor },
-                tell,
-            );
+            let straight = count >= 1024 && order == Order::Ascending;
+            let writing = if straight { 1.0 } else { 1.2 };
+            file_rows(Case { file: &file, input: input.clone(), reading, writing, floor }, tell);
             edit_rows(Case { file: &file, input, reading, writing: 1.2, floor: None }, tell);
         }
         let file = inputs::disks(255, order);
