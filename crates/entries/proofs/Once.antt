@@ -15,7 +15,7 @@ use Rattle.format.specs.Places.{readAt}
 use Rattle.format.proofs.Once.{read-once}
 use Rattle.entries.specs.declared.Kind.{Kind}
 use Rattle.entries.specs.States.{cpuSized, cpuWhole, mmuLength}
-use Rattle.entries.specs.Kinds.{leadChecks}
+use Rattle.entries.specs.Kinds.{leadChecks, devices}
 use Rattle.entries.specs.Code.{describe}
 
 pub most-once : (k : Kind) {r p : ℕ} → r ≡ describe k .most → p ≡ describe k .most → r ≡ p
@@ -53,3 +53,6 @@ length-once k s at e f = equal-once e f
 
 pub device-key-once : (id version flags : ℕ) {r q : ℕ} → r ≡ (id * 65536 + version) * 65536 + flags → q ≡ (id * 65536 + version) * 65536 + flags → r ≡ q
 device-key-once id version flags e f = equal-once e f
+
+pub device-once : (s : List ℕ) (at : ℕ) (r p : Piece) → pieceOf r ≡ readAt (devices .form) s at → pieceOf p ≡ readAt (devices .form) s at → r ≡ p
+device-once s at r p e f = read-once (devices .form) s at r p e f
