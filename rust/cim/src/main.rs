@@ -9,6 +9,7 @@
 // What commands share.
 mod calls;
 mod command;
+mod device;
 mod failure;
 mod files;
 mod help;

@@ -1,7 +1,8 @@
 //! `cim remove-device`: a snapshot without one of its devices.
 
 use crate::card::{self, CARD};
-use crate::command::{with, Command, JSON, KEEP};
+use crate::command::{Command, JSON, KEEP};
+use crate::device::{self, FLAGS, ID, VERSION};
 use crate::failure::Failure;
 use crate::files;
 use crate::words::Words;
@@ -17,9 +18,9 @@ device is its id, version and flags, all three; one that is not there is refused
 last device a snapshot loses its section of devices. Numbers are decimal, or hexadecimal behind 0x.
 ",
     options: &[
-        with("--id", "N", "the device's id"),
-        with("--version", "N", "the version of its payload"),
-        with("--flags", "N", "its flags"),
+        ID,
+        VERSION,
+        FLAGS,
         CARD,
         KEEP,
         JSON,
@@ -29,10 +30,8 @@ last device a snapshot loses its section of devices. Numbers are decimal, or hex
 
 fn run(words: &Words) -> Result<(), Failure> {
     let [name, out] = words.plain("FILE and OUT")?;
-    let id = words.number("--id", u32::MAX)?;
-    let version = words.number("--version", u16::MAX.into())? as u16;
-    let flags = words.number("--flags", u16::MAX.into())? as u16;
+    let key = device::key(words)?;
     let target = card::claim(words, out)?;
     let file = files::read(name, snapshot::MOST_BYTES)?;
-    card::edit(words, &file, target, |it| it.remove_device((id, version, flags)))
+    card::edit(words, &file, target, |it| it.remove_device(key))
 }
