@@ -17,53 +17,11 @@ mod rings;
 #[path = "differential/sheets.rs"]
 mod sheets;
 
-use std::panic::{catch_unwind, AssertUnwindSafe};
-
 use differential::compare::Comparison;
-use differential::edits::EditCalls;
 use differential::planted::{
-    cards as in_cards, many as in_tables, rings as in_rings, sheets as in_sheets,
+    cards as in_cards, found_by, many as in_tables, rings as in_rings, sheets as in_sheets, Group,
 };
-use differential::rings::RingCalls;
-use differential::sheets::SheetCalls;
 use differential::{edits as on_files, rings as on_rings, sheets as on_states};
-
-type Group = fn(&mut Comparison);
-
-/// What stands in the library's place.
-trait Planted: Copy {
-    fn put(self, run: &mut Comparison);
-}
-
-impl Planted for RingCalls {
-    fn put(self, run: &mut Comparison) {
-        run.rings = self;
-    }
-}
-
-impl Planted for SheetCalls {
-    fn put(self, run: &mut Comparison) {
-        run.sheets = self;
-    }
-}
-
-impl Planted for EditCalls {
-    fn put(self, run: &mut Comparison) {
-        run.edits = self;
-    }
-}
-
-/// Each group finds the error.
-fn found_by(groups: &[Group], planted: impl Planted) {
-    for (at, group) in groups.iter().enumerate() {
-        let mut run = Comparison::new("planted", 7);
-        planted.put(&mut run);
-        let ended = catch_unwind(AssertUnwindSafe(|| group(&mut run)));
-        let told = ended.err().and_then(|why| why.downcast::<String>().ok());
-        let told = told.unwrap_or_else(|| panic!("group {at} does not find the error"));
-        assert!(told.starts_with("planted (seed 0x7)"), "group {at}: {told}");
-    }
-}
 
 #[test]
 fn nothing_is_found_in_the_reference_itself() {

@@ -5,25 +5,9 @@
 #[path = "differential/salvage.rs"]
 mod salvage;
 
-use std::panic::{catch_unwind, AssertUnwindSafe};
-
 use differential::compare::Comparison;
 use differential::planted::salvage::*;
-use differential::salvage::Salvage;
-
-type Group = fn(&mut Comparison);
-
-/// Each group finds the error.
-fn found_by(groups: &[Group], planted: Salvage) {
-    for (at, group) in groups.iter().enumerate() {
-        let mut run = Comparison::new("planted", 7);
-        run.salvage = planted;
-        let ended = catch_unwind(AssertUnwindSafe(|| group(&mut run)));
-        let told = ended.err().and_then(|why| why.downcast::<String>().ok());
-        let told = told.unwrap_or_else(|| panic!("group {at} does not find the error"));
-        assert!(told.starts_with("planted (seed 0x7)"), "group {at}: {told}");
-    }
-}
+use differential::planted::{found_by, Group};
 
 #[test]
 fn nothing_is_found_in_the_reference_itself() {
