@@ -1,8 +1,8 @@
 //! The floor: the least work that a call can do on a file that is right, as a bare loop in unsafe Rust.
 //!
 //! It takes files of one section, a list of devices in the order of its keys. Of any other file it says that it does not
-//! take it, and neither why nor where; and a table is written while the list is read, so that records may stand in the
-//! buffer of a call that took nothing. The library may do neither.
+//! take it, and neither why nor where, which the library may not do. As for the library, nothing is written before the
+//! whole file is known to be right: a table takes a second loop, which asks nothing.
 
 use std::ptr::copy_nonoverlapping;
 
@@ -29,9 +29,8 @@ const MOST_LIST: usize = 256 << 20;
 const MOST_PAYLOAD: u64 = 64 << 20;
 const MOST_DEVICES: usize = 4096;
 
-/// A device as the loop meets it: its first eight bytes as a number, its key, its payload's offset and length.
+/// A device as the loop meets it: its key, its payload's offset and length.
 struct Device {
-    head: u64,
     key: u64,
     offset: usize,
     length: usize,
@@ -41,7 +40,7 @@ struct Device {
 #[inline(never)]
 pub fn check(file: &[u8]) -> Option<u64> {
     let count = stated(file)?;
-    walk(file, count, |_, _| ())?;
+    walk(file, count, |_| ())?;
     Some(0)
 }
 
@@ -49,7 +48,7 @@ pub fn check(file: &[u8]) -> Option<u64> {
 #[inline(never)]
 pub fn canonical(file: &[u8], out: &mut [u8]) -> Option<u64> {
     let count = stated(file)?;
-    walk(file, count, |_, _| ())?;
+    walk(file, count, |_| ())?;
     if out.len() < file.len() {
         return None;
     }
@@ -62,16 +61,21 @@ pub fn canonical(file: &[u8], out: &mut [u8]) -> Option<u64> {
 #[inline(never)]
 pub fn devices(file: &[u8], table: &mut [u8]) -> Option<u64> {
     let count = stated(file)?;
+    walk(file, count, |_| ())?;
     let needed = RECORD * count;
     if table.len() < needed {
         return None;
     }
-    let records = table.as_mut_ptr();
-    walk(file, count, |position, device| {
-        let numbers = [device.head, device.offset as u64, device.length as u64, position as u64];
-        // SAFETY: positions are below the count, and the table has room for so many records.
-        unsafe { store(records.add(RECORD * position), numbers.map(u64::to_le)) };
-    })?;
+    let (records, mut at) = (table.as_mut_ptr(), FIRST);
+    for position in 0..count {
+        // SAFETY: the walk found so many entries in the file, and the table has room for so many records.
+        unsafe {
+            let (head, length) = (load(file, at), load(file, at + 8));
+            let numbers = [head, (at + FIXED) as u64, length, position as u64];
+            store(records.add(RECORD * position), numbers.map(u64::to_le));
+            at += FIXED + length as usize;
+        }
+    }
     Some(needed as u64)
 }
 
@@ -111,7 +115,7 @@ pub fn add_device(
 fn place_of(file: &[u8], new: u64) -> Option<(usize, usize)> {
     let count = stated(file)?;
     let mut place = FIRST;
-    let end = walk(file, count, |_, device| {
+    let end = walk(file, count, |device| {
         if device.key < new {
             place = device.offset + device.length;
         }
@@ -141,7 +145,7 @@ fn stated(file: &[u8]) -> Option<usize> {
 
 /// The loop: each entry fits, its length is in bounds, and its key is above the last one. The end of the list.
 #[inline(always)]
-fn walk(file: &[u8], count: usize, mut each: impl FnMut(usize, Device)) -> Option<usize> {
+fn walk(file: &[u8], count: usize, mut each: impl FnMut(Device)) -> Option<usize> {
     let (mut at, mut last) = (FIRST, 0);
     for position in 0..count {
         if file.len() - at < FIXED {
@@ -157,7 +161,7 @@ fn walk(file: &[u8], count: usize, mut each: impl FnMut(usize, Device)) -> Optio
         if key <= last && position > 0 {
             return None;
         }
-        each(position, Device { head, key, offset, length });
+        each(Device { key, offset, length });
         (at, last) = (offset + length, key);
     }
     Some(at)
