@@ -1,4 +1,4 @@
--- The demands and request 3, of edits beside a card: from the laws of cards, and from what is proved of edits without one.
+-- Edits beside a card, from the laws of cards and from what is proved of the definitions without one: what demands 1 and 2 say of them, and how they go beside a true card.
 -- Assumes nothing.
 use mathlib.Core.Path.{_≡_, refl, sym, _∙_, ap, subst}
 use mathlib.Core.Logic.{_≢_, _↔_, _⊎_, inl, inr}
@@ -37,9 +37,8 @@ use Rattle.cards.specs.Cards.{cardOf, openFile, cardChecks, movedCard, carded, 
 use Rattle.cards.specs.Whole.{addAllCard, manyCard}
 use Rattle.cards.proofs.Carded.{card-open, card-true, card-again, card-bytes, no-card}
 use Rattle.cards.proofs.Whole.{all-bytes}
-use Rattle.demands.specs.Demand1.{InTable}
-use Rattle.demands.proofs.Removal.{removal}
-use Rattle.demands.specs.Beside.{TrueCard, CallBeside, Past, FillsBeside, Opens, Demand1Beside, EditingBeside, AddBeside, Demand3Beside, RemovalBeside}
+use Rattle.demands.specs.Demand1.{InTable, Past, FillsBeside, Opens}
+use Rattle.demands.specs.Beside.{TrueCard, CallBeside}
 
 -- ---- beside a true card
 
@@ -246,7 +245,7 @@ open-faulty s = go (contentAt s) (content-faulty s)
     go (taken c) h = tt
     go (refused n p) h = h
 
-opens : (s : List ℕ) → Opens s
+pub opens : (s : List ℕ) → Opens s
 opens s = record {
   faults = open-faulty s;
   zero = λ r e. zero r (openFile s) e (open-faulty s);
@@ -259,7 +258,7 @@ opens s = record {
     zero r (refused n p) e h = ((λ z. absurd (omega (arith, ap (λ (x : Edited). x .number) e, fault-some n h))), λ (k, t). absurd (taken-refused (sym t)))
 
 -- with the length that ROOM names an edit beside a true card is taken
-enough : (s : List ℕ) (e : Edit) (k : Card) (old new : List ℕ) (r : Edited) → TrueCard s k → WideEdit e → WritesBeside k (0, editCard (length old) k s e) old r new → r .number ≡ ROOM
+pub enough : (s : List ℕ) (e : Edit) (k : Card) (old new : List ℕ) (r : Edited) → TrueCard s k → WideEdit e → WritesBeside k (0, editCard (length old) k s e) old r new → r .number ≡ ROOM
     → (b : List ℕ) × (j : Card) × (editCard (r .place) k s e ≡ taken (b, j)) × (length b ≡ r .place)
 unfolding editFile
 enough s e k old new r t w x z = go (editCard (length old) k s e) refl x
@@ -276,13 +275,12 @@ enough s e k old new r t w x z = go (editCard (length old) k s e) refl x
         let u = card-again p s (g .old) e b (g .reads) w f in
         (b, cardOf (apply e (g .old)), ap (λ (have : ℕ). editCard have k s e) (sym i) ∙ edit-true p s k e b (cardOf (apply e (g .old))) t w f u, sym (g .place) ∙ i)
 
-pub demand1-beside : Demand1Beside
-demand1-beside = record {
-  opens = opens;
-  edit = λ s e. fills _ (edit-sound s e);
-  many = λ s t store y. fills _ (many-sound s t store y);
-  enough = enough;
-}
+-- the calls
+pub edit-fills : (s : List ℕ) (e : Edit) → FillsBeside (λ have k. (0, editCard have k s e))
+edit-fills s e = fills _ (edit-sound s e)
+
+pub many-fills : (s t store : List ℕ) → Bytes t → FillsBeside (λ have k. manyCard have k s t store)
+many-fills s t store y = fills _ (many-sound s t store y)
 
 -- ---- demand 2
 
@@ -297,11 +295,11 @@ card-rows have k c e =
     ∙ checked-after l (taken (render u)) (carded k c u)
     ∙ sym (checked-append l (cardChecks k (cardOf c) (cardOf u)) (taken (render u, movedCard k (cardOf c) (cardOf u))))
 
-exactly : (have : ℕ) (k : Card) (s : List ℕ) (e : Edit) (b : List ℕ) (j : Card)
+pub card-exactly : (have : ℕ) (k : Card) (s : List ℕ) (e : Edit) (b : List ℕ) (j : Card)
     → (editCard have k s e ≡ taken (b, j))
     ↔ ((c : Content) × (contentAt s ≡ taken c) × Pass (editChecks e c (apply e c)) × (length b ≤ have) × (render (apply e c) ≡ b) × Pass (cardChecks k (cardOf c) (cardOf (apply e c))) × (movedCard k (cardOf c) (cardOf (apply e c)) ≡ j))
 unfolding editCard editCardTo
-exactly have k s e b j = (
+card-exactly have k s e b j = (
   λ h.
       let (c, r, q) = after-taken (contentAt s) (λ c. editCardTo have k c e) h in
       let (d, i, t) = after-taken (editTo have c e) (carded k c (apply e c)) q in
@@ -316,11 +314,11 @@ exactly have k s e b j = (
       ∙ ap (λ (j : Card). taken (b, j)) z,
 )
 
-refuses : (have : ℕ) (k : Card) (s : List ℕ) (e : Edit) (n p : ℕ)
+pub card-first : (have : ℕ) (k : Card) (s : List ℕ) (e : Edit) (n p : ℕ)
     → (editCard have k s e ≡ refused n p)
     ↔ ((contentAt s ≡ refused n p) ⊎ ((c : Content) × (contentAt s ≡ taken c) × First ((editChecks e c (apply e c) ++ room have (length (render (apply e c)))) ++ cardChecks k (cardOf c) (cardOf (apply e c))) n p))
 unfolding editCard
-refuses have k s e n p = ((λ q. there (after-refused (contentAt s) (λ c. editCardTo have k c e) n p q)), back)
+card-first have k s e n p = ((λ q. there (after-refused (contentAt s) (λ c. editCardTo have k c e) n p q)), back)
   where
     rows : Content → Checks
     rows c = (editChecks e c (apply e c) ++ room have (length (render (apply e c)))) ++ cardChecks k (cardOf c) (cardOf (apply e c))
@@ -337,74 +335,5 @@ refuses have k s e n p = ((λ q. there (after-refused (contentAt s) (λ c. editC
 pub bare-call : {have : ℕ} {s : List ℕ} {k : Card} {e : Edit} {b : List ℕ} {j : Card} → CallBeside have s k e b j → EditCall have s e b
 bare-call {have} {s} {k} {e} {b} {j} c = record { wide = c .wide; accepts = card-bytes have k j s e b (c .accepts) }
 
-pub editing-beside : EditingBeside
-editing-beside = record {
-  exactly = exactly;
-  refuses = refuses;
-  gives = λ have s k e b j c. let g = edit-gives have s e b (bare-call c) in (g .old, g .read, g .content-is, g .canonical-is);
-}
-
--- ---- demand 3
-
-made : (s : List ℕ) (k : Card) (e : Edit) (old new : List ℕ) (r : Edited) → WideEdit e → WritesBeside k (0, editCard (length old) k s e) old r new → r .number ≡ 0 → CallBeside (length old) s k e (take (r .place) new) (r .card)
-made s k e old new r w x z =
-    let (b, h, _, _, p, m) = demand1-beside .edit s e .writes k old new r x z in
-    let i : take (r .place) new ≡ b = ap (λ (n : ℕ). take n new) p ∙ ap (take (length b)) m ∙ take-append-seam b (drop (length b) old) in
-    record { wide = w; accepts = h ∙ ap (λ (b : List ℕ). taken (b, r .card)) (sym i) }
-
-makes : (s : List ℕ) (k : Card) (e : Edit) (old new : List ℕ) (r : Edited) (b : List ℕ) (j : Card) → CallBeside (length old) s k e b j → WritesBeside k (0, editCard (length old) k s e) old r new
-    → (r .number ≡ 0) × (take (r .place) new ≡ b) × (r .card ≡ j)
-makes s k e old new r b j c x =
-    let i : r ≡ answerBeside k 0 (taken (b, j)) = x .answers ∙ ap (answerBeside k 0) (c .accepts) in
-    let m : new ≡ memory (taken b) old = x .leaves ∙ ap (λ (o : Outcome (List ℕ × Card)). memory (bytesBeside o) old) (c .accepts) in
-    (ap (λ (y : Edited). y .number) i, rw (i, m) (take-append-seam b (drop (length b) old)), ap (λ (y : Edited). y .card) i)
-
--- from a true card, a chain is one without cards, and the last card is true; and back
-chain-bare : (l : List (ℕ × Item)) (s : List ℕ) (k : Card) (t : List ℕ × Card) → TrueCard s k → Chain AddBeside (s, k) l t → Chain Call s l (t .0) × TrueCard (t .0) (t .1)
-chain-bare [] s k t h e = (ap (λ (q : List ℕ × Card). q .0) e, subst (λ (q : List ℕ × Card). TrueCard (q .0) (q .1)) e h)
-chain-bare (x ∷ l) s k t h (u, c, e) =
-    let (d, z) = chain-bare l (u .0) (u .1) t (edit-keeps (x .0) s k (add (x .1)) (u .0) (u .1) h (c .wide) (c .accepts)) e in
-    ((u .0, bare-call c, d), z)
-
-bare-chain : (l : List (ℕ × Item)) (s : List ℕ) (k : Card) (b : List ℕ) (j : Card) → TrueCard s k → TrueCard b j → Chain Call s l b → Chain AddBeside (s, k) l (b, j)
-bare-chain [] s k b j h z e =
-    let i : k ≡ j = taken-is (sym h ∙ ap openFile e ∙ z) in
-    λ x. (e x, i x)
-bare-chain (x ∷ l) s k b j h z (u, c, e) =
-    let (d, r, _) = card-open s k h in
-    let m : TrueCard u (cardOf (apply (add (x .1)) d)) = card-again (x .0) s d (add (x .1)) u r (c .wide) (c .accepts) in
-    ((u, cardOf (apply (add (x .1)) d)), record { wide = c .wide; accepts = edit-true (x .0) s k (add (x .1)) u (cardOf (apply (add (x .1)) d)) h (c .wide) (c .accepts) m }, bare-chain l u (cardOf (apply (add (x .1)) d)) b j m z e)
-
-pub demand3-beside : Demand3Beside
-demand3-beside = record {
-  made = made;
-  makes = makes;
-  any-order = λ s k l m b j o t c p n. let (d, z) = chain-bare l s k (b, j) t c in bare-chain m s k b j t z (any-order s l m b o d p n);
-  no-two-sets = λ s k l m b i j o t c d. no-two-sets s l m b o (chain-bare l s k (b, i) t c .0) (chain-bare m s k (b, j) t d .0);
-  final = λ s k l b j o t c. let (d, z) = chain-bare l s k (b, j) t c in let e = final s l b o d in (e .old, e .read, e .content-is, sym (e .bytes-are), e .canonical-is, z);
-}
-
--- ---- request 3
-
-absent : (have : ℕ) (k : Card) (s : List ℕ) (n : Name) (c : Content) → contentAt s ≡ taken c → stands n c ≡ false → editCard have k s (remove n) ≡ refused ABSENT 0
-unfolding editCard editCardTo editTo
-absent have k s n c r h = ap (λ (o : Outcome Content). after o (λ c. editCardTo have k c (remove n))) r ∙ rw h
-
-undo-beside : (have room : ℕ) (s : List ℕ) (k : Card) (x : Item) (b : List ℕ) (j : Card) → IsCanonical s → TrueCard s k → CallBeside have s k (add x) b j → length s ≤ room → editCard room j b (remove (nameOf x)) ≡ taken (s, k)
-undo-beside have room s k x b j o t c n =
-    edit-true room b j (remove (nameOf x)) s k (edit-keeps have s k (add x) b j t (c .wide) (c .accepts)) (c .wide) (undo have room s x b o (bare-call c) n) t
-
-twice : (have room : ℕ) (s : List ℕ) (k : Card) (b : List ℕ) (i : Card) (d : List ℕ) (j : Card) (id v f : ℕ) (p q : List ℕ) → TrueCard s k → CallBeside have s k (replace id v f p) b i → CallBeside room b i (replace id v f q) d j
-    → (more : ℕ) → length d ≤ more → editCard more k s (replace id v f q) ≡ taken (d, j)
-twice have room s k b i d j id v f p q t x y more n =
-    let u = edit-keeps have s k (replace id v f p) b i t (x .wide) (x .accepts) in
-    edit-true more s k (replace id v f q) d j t (x .wide) (replace-twice have room s b d id v f p q (bare-call x) (bare-call y) more n) (edit-keeps room b i (replace id v f q) d j u (y .wide) (y .accepts))
-
-pub removal-beside : RemovalBeside
-removal-beside = record {
-  absent = absent;
-  last = λ have s k n b j c l x r one w f. removal .last have s n b c l (bare-call x) r one w f;
-  undo = undo-beside;
-  keeps = λ have s k id v f p b j c x r. removal .keeps have s id v f p b c (bare-call x) r;
-  twice = twice;
-}
+pub card-gives : (have : ℕ) (s : List ℕ) (k : Card) (e : Edit) (b : List ℕ) (j : Card) → CallBeside have s k e b j → (c : Content) × (contentAt s ≡ taken c) × (contentAt b ≡ taken (apply e c)) × IsCanonical b
+card-gives have s k e b j c = let g = edit-gives have s e b (bare-call c) in (g .old, g .read, g .content-is, g .canonical-is)

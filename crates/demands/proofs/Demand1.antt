@@ -48,6 +48,7 @@ use Rattle.numbers.specs.declared.Told.{Told}
 use Rattle.numbers.specs.Numbers.{numbersOf, kindIn, allWithin, messageOf, told, writeNumbers}
 use Rattle.demands.specs.Demand1.{Taken, InTable, Answers, Fills, ReadsMessage, TellsMessage, numbersIn, TellsMeta, Demand1}
 use Rattle.demands.proofs.Faults.{wrapper-faulty, message-faulty}
+use Rattle.demands.proofs.Beside.{edit-fills, many-fills, opens, enough}
 
 -- ---- numbers
 
@@ -315,6 +316,10 @@ demand1 = record {
   mmus = λ file. fills _ (table-core (λ l. flat (listRows MMUS) (placed 16 l)) file);
   meta = tells-meta;
   canonical = λ file. fills _ (canonical-core file);
+  opens = opens;
+  edit = edit-fills;
+  many = many-fills;
+  enough = enough;
   wrapper-check = λ wrapper. answers (wrapped.wrapperOf wrapper) (wrapper-faulty wrapper);
   controllers = λ wrapper. fills _ (read-core (wrapped.wrapperOf wrapper) (rowsAt Controllers 16 (drop 16 wrapper)) (wrapper-faulty wrapper));
   wrapper-canonical = λ wrapper. fills _ (read-core (wrapped.wrapperOf wrapper) (λ _. wrapped.wrapperBytes (sort (controllers .key) (wrapped.controllersOf wrapper))) (wrapper-faulty wrapper));

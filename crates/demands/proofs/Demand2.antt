@@ -29,13 +29,10 @@ use Rattle.aerosnap.specs.File.{fileMost, fileOf}
 use Rattle.aerosnap.specs.Rules.{IsSection}
 use Rattle.aerosnap.specs.Content.{Content, contentOf, contentAt, render, entriesIn, canonical}
 use Rattle.aerosnap.specs.Tables.{placed, tableIn, listRows, sectionRows, table, listTable}
-use Rattle.aerosnap.specs.Edits.{Edit, apply, editChecks, editFile}
 use Rattle.aerosnap.proofs.Slots.{Once}
 use Rattle.aerosnap.proofs.Taken.{file-sound, taken-exactly, file-unique}
 use Rattle.aerosnap.proofs.Records.{SectionRows, section-rows, one-version, list-rows}
 use Rattle.aerosnap.proofs.Canonical.{fits-taken, taken-fits, canonical-is, same-canonical, same-content, any-saver}
-use Rattle.aerosnap.proofs.Passing.{edit-exactly}
-use Rattle.aerosnap.proofs.Edited.{edit-gives}
 use Rattle.dskc.specs.Wrapper as wrapped
 use Rattle.dskc.proofs.Taken.{wrapper-sound, wrapper-complete, controllers-back, wrapper-one, ordered-length, ordered-valid, ordered-again, address-parts, parts-address}
 use Rattle.dskc.proofs.Reading.{whole}
@@ -48,6 +45,7 @@ use Rattle.demands.specs.Demand1.{Taken}
 use Rattle.demands.specs.Demand2.{Writing, Canonical, Files, OfVersion, Tables, Keys, Addresses, Editing, ordered, Wrappers, Says, dataOf, Messages, Demand2}
 use Rattle.answer.proofs.Firsts.{after-refused}
 use Rattle.demands.proofs.FirstFaults.{faults}
+use Rattle.demands.proofs.Beside.{card-exactly, card-gives}
 
 -- ---- what is written of what was read
 
@@ -202,14 +200,8 @@ addresses = record {
 
 -- ---- edits
 
-editing-exactly : (have : ℕ) (s : List ℕ) (e : Edit) (b : List ℕ) → (editFile have s e ≡ taken b) ↔ ((c : Content) × (contentAt s ≡ taken c) × Pass (editChecks e c (apply e c)) × (length b ≤ have) × (render (apply e c) ≡ b))
-editing-exactly have s e b = (
-  λ h. let (c, r, p, q) = edit-exactly have s e b .0 h in (c, r, p .rows, omega (arith, p .room-is, ap length q), q),
-  λ (c, r, p, n, q). edit-exactly have s e b .1 (c, r, record { rows = p; room-is = omega (arith, ap length q) }, q),
-)
-
 editing : Editing
-editing = record { exactly = editing-exactly; gives = λ have s e b k. let g = edit-gives have s e b k in (g .old, g .read, g .content-is, g .canonical-is) }
+editing = record { exactly = card-exactly; gives = card-gives }
 
 -- ---- wrappers
 

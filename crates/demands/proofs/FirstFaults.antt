@@ -27,8 +27,6 @@ use Rattle.aerosnap.specs.Known.{known}
 use Rattle.aerosnap.specs.Payloads.{bodyOf, payload}
 use Rattle.aerosnap.specs.File.{fileMost, sectionsMost, header, headerChecks, idOf, versionOf, flagsOf, lengthOf, payloadOf, frameChecks, knownChecks, ruled, sectionOf, sections, fileOf}
 use Rattle.aerosnap.specs.Rules.{IsFile}
-use Rattle.aerosnap.specs.Content.{Content, contentAt, render}
-use Rattle.aerosnap.specs.Edits.{Edit, apply, editChecks, editTo, editFile}
 use Rattle.aerosnap.proofs.Taken.{header-sound}
 use Rattle.aerosnap.proofs.Faults.{Stops, sections-stop, stop-sections}
 use Rattle.dskc.specs.Wrapper as wrapped
@@ -40,6 +38,7 @@ use Rattle.messages.specs.Writing.{writeChecks, written, writeMessage}
 use Rattle.numbers.specs.declared.Numbers.{Numbers}
 use Rattle.numbers.specs.Numbers.{kindIn, allWithin, messageOf, writeNumbers}
 use Rattle.demands.specs.Demand2.{SectionFault, EntryFault, ListFault, Faults}
+use Rattle.demands.proofs.Beside.{card-first}
 use Rattle.answer.proofs.Firsts.{checked-first, then-first, or-else, moved-first, shift-first, after-refused, after-only}
 
 -- ---- a section, and a file
@@ -209,28 +208,6 @@ module _ (v : Numbers) (d : List ℕ) (have n p : ℕ) where
       back (inl e) = whole ∙ ap (λ (o : Outcome MessageKind). after o (λ k. checked (rows k) (taken (written (made k) d)))) e
       back (inr (k, e, h)) = whole ∙ ap (λ (o : Outcome MessageKind). after o (λ k. checked (rows k) (taken (written (made k) d)))) e ∙ checked-first (rows k) (written (made k) d) n p .1 h
 
--- ---- edits
-
-edit-first : (have : ℕ) (s : List ℕ) (e : Edit) (n p : ℕ)
-    → (editFile have s e ≡ refused n p)
-    ↔ ((contentAt s ≡ refused n p) ⊎ ((c : Content) × (contentAt s ≡ taken c) × First (editChecks e c (apply e c) ++ room have (length (render (apply e c)))) n p))
-unfolding editFile editTo
-edit-first have s e n p = ((λ q. there (after-refused (contentAt s) (λ c. editTo have c e) n p q)), back)
-  where
-    rows : Content → Checks
-    rows c = editChecks e c (apply e c) ++ room have (length (render (apply e c)))
-
-    joined : (c : Content) → editTo have c e ≡ checked (rows c) (taken (render (apply e c)))
-    joined c = sym (checked-append (editChecks e c (apply e c)) (room have (length (render (apply e c)))) (taken (render (apply e c))))
-
-    there : ((contentAt s ≡ refused n p) ⊎ ((c : Content) × (contentAt s ≡ taken c) × (editTo have c e ≡ refused n p))) → (contentAt s ≡ refused n p) ⊎ ((c : Content) × (contentAt s ≡ taken c) × First (rows c) n p)
-    there (inl q) = inl q
-    there (inr (c, q, h)) = inr (c, q, checked-first (rows c) (render (apply e c)) n p .0 (sym (joined c) ∙ h))
-
-    back : ((contentAt s ≡ refused n p) ⊎ ((c : Content) × (contentAt s ≡ taken c) × First (rows c) n p)) → after (contentAt s) (λ c. editTo have c e) ≡ refused n p
-    back (inl q) = ap (λ (r : Outcome Content). after r (λ c. editTo have c e)) q
-    back (inr (c, q, h)) = ap (λ (r : Outcome Content). after r (λ c. editTo have c e)) q ∙ joined c ∙ checked-first (rows c) (render (apply e c)) n p .1 h
-
 pub faults : Faults
 faults = record {
   file = file-first;
@@ -239,5 +216,5 @@ faults = record {
   reading = reading-first;
   writing = writing-first;
   by-numbers = numbers-first;
-  edit = edit-first;
+  edit = card-first;
 }

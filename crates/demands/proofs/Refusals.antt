@@ -24,7 +24,6 @@ use Rattle.messages.specs.Reading as messages
 use Rattle.demands.specs.Demand1.{InTable, Fills}
 use Rattle.demands.specs.Refusals.{withdrawn, addressCheck, WritesNever, Refusals}
 use Rattle.demands.proofs.Demand1.{demand1}
-use Rattle.demands.proofs.Beside.{demand1-beside}
 use Rattle.cards.specs.declared.Card.{Card}
 use Rattle.cards.specs.declared.Edited.{Edited}
 use Rattle.cards.specs.Cards.{openAnswer, answerBeside, editCard}
@@ -113,8 +112,8 @@ refusals = record {
   mmus = λ file. fills-not (demand1 .mmus file);
   meta = meta-not;
   canonical = λ file. fills-not (demand1 .canonical file);
-  opens = λ file. open-not (openCall file) (demand1-beside .opens file .faults);
-  edit = λ card file e old new r w. beside-not card (editCard (length old) card file e) (demand1-beside .edit file e .table (length old) card) r (w .answers);
+  opens = λ file. open-not (openCall file) (demand1 .opens file .faults);
+  edit = λ card file e old new r w. beside-not card (editCard (length old) card file e) (demand1 .edit file e .table (length old) card) r (w .answers);
   wrapper-check = λ wrapper. verdict-not (wrapped.wrapperOf wrapper) (demand1 .wrapper-check wrapper .faults);
   controllers = λ wrapper. fills-not (demand1 .controllers wrapper);
   wrapper-canonical = λ wrapper. fills-not (demand1 .wrapper-canonical wrapper);

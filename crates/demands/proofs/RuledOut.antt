@@ -41,7 +41,8 @@ use Rattle.numbers.specs.Numbers.{messageOf, writeNumbers}
 use Rattle.demands.specs.Examples.{empty, u32, withDevices, oneByte, twoBytes, fourteenThree, threeFourteen, noDevices}
 use Rattle.demands.specs.RuledOut.{Program, Takes, output, Useful, RuledOut, EditProgram, TakesEdit, editOutput, RunsBeside, RuledOutBeside}
 use Rattle.demands.proofs.Examples.{examples}
-use Rattle.demands.proofs.Beside.{bare-call, demand3-beside}
+use Rattle.demands.proofs.Beside.{bare-call}
+use Rattle.demands.proofs.Demand3.{demand3}
 
 -- ---- programs that meet a promise
 
@@ -180,7 +181,7 @@ module _ (P : EditProgram) where
 
   -- what the program does is a call
   edit-called : (k : Card) (s : List ℕ) (x : Item) (old : List ℕ) → Wide x → TakesEdit P k s (add x) old → Call (length old) s x (editOutput P k s (add x) old)
-  edit-called k s x old w h = bare-call (demand3-beside .made s k (add x) old (P .leaves k s (add x) old) (P .answers k s (add x) old) w (P .meets k s (add x) old) h)
+  edit-called k s x old w h = bare-call (demand3 .made s k (add x) old (P .leaves k s (add x) old) (P .answers k s (add x) old) w (P .meets k s (add x) old) h)
 
   runs-grow : (l : List (List ℕ × Item)) (s : List ℕ) (k : Card) (b : List ℕ) → IsCanonical s → RunsBeside P s k l b → length s ≤ length b
   runs-grow [] s k b o h = omega (arith, ap length h)

@@ -16,7 +16,8 @@ use Rattle.cards.specs.Cards.{editCard, WritesBeside}
 use Rattle.cards.specs.Shifts.{CallMade, fileThen, CallsMade, mapThen}
 use Rattle.cards.proofs.Shifts.{shift-map}
 use Rattle.demands.specs.Shift.{AllCanonical, Dictionary, Shifts}
-use Rattle.demands.proofs.Beside.{editing-beside, demand3-beside}
+use Rattle.demands.proofs.Demand2.{demand2}
+use Rattle.demands.proofs.Demand3.{demand3}
 
 dictionary : Dictionary
 dictionary = record {
@@ -34,8 +35,8 @@ canonical-then s k q o w x = go (eqb (q .answer .number) 0) refl
   where
     go : (b : Bool) → eqb (q .answer .number) 0 ≡ b → IsCanonical (cond b (take (q .answer .place) (q .left)) s)
     go true e =
-        let c = demand3-beside .made s k (q .edit) (q .lent) (q .left) (q .answer) w x (eqb-true (q .answer .number) 0 e) in
-        editing-beside .gives (length (q .lent)) s k (q .edit) (take (q .answer .place) (q .left)) (q .answer .card) c .3
+        let c = demand3 .made s k (q .edit) (q .lent) (q .left) (q .answer) w x (eqb-true (q .answer .number) 0 e) in
+        demand2 .editing .gives (length (q .lent)) s k (q .edit) (take (q .answer .place) (q .left)) (q .answer .card) c .3
     go false e = o
 
 all-canonical : (l : List CallMade) (s : List ℕ) (k : Card) → IsCanonical s → CallsMade s k l → AllCanonical s l

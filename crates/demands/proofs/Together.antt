@@ -36,7 +36,7 @@ use Rattle.newcomers.specs.Records.{recordsOf, WideEntry}
 use Rattle.newcomers.proofs.First.{entries-back, first-entries}
 use Rattle.demands.specs.Beside.{TrueCard}
 use Rattle.demands.specs.Together.{Together}
-use Rattle.demands.proofs.Beside.{demand1-beside}
+use Rattle.demands.proofs.Demand1.{demand1}
 use Rattle.demands.proofs.Sizes.{many-zero, many-keeps}
 
 -- ---- tables with an entry, and with none
@@ -133,7 +133,7 @@ no-two have room s t u store other k i j b x y o h v w p q =
 made : (s t store : List ℕ) → Bytes t → (k : Card) (old new : List ℕ) (r : Edited) → WritesBeside k (manyCard (length old) k s t store) old r new → r .number ≡ 0
     → manyCard (length old) k s t store ≡ (0, taken (take (r .place) new, r .card))
 made s t store y k old new r x z =
-    let (b, h, _, i, p, m) = demand1-beside .many s t store y .writes k old new r x z in
+    let (b, h, _, i, p, m) = demand1 .many s t store y .writes k old new r x z in
     let e : take (r .place) new ≡ b = ap (λ (n : ℕ). take n new) p ∙ ap (take (length b)) m ∙ take-append-seam b (drop (length b) old) in
     let (n, _) = all-bytes (length old) k s (newDevices t) store (manyCard (length old) k s t store .0) b (r .card) (λ x. (manyCard (length old) k s t store .0, h x)) in
     let w : manyCard (length old) k s t store ≡ (0, taken (b, r .card)) = λ x. (n x, h x) in

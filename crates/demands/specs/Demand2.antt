@@ -26,8 +26,10 @@ use Rattle.aerosnap.specs.File.{header, headerChecks, idOf, versionOf, flagsOf,
 use Rattle.aerosnap.specs.Rules.{IsFile}
 use Rattle.aerosnap.specs.Content.{Content, contentOf, contentAt, render, tidy, isOther, isId, entriesIn, tailIn, IsCanonical}
 use Rattle.aerosnap.specs.Tables.{table}
-use Rattle.aerosnap.specs.Edits.{Edit, apply, editChecks, editFile, EditCall}
+use Rattle.aerosnap.specs.Edits.{Edit, apply, editChecks}
 use Rattle.aerosnap.specs.Calls.{checkCall, sectionsCall, devicesCall, disksCall, cpusCall, mmusCall, canonicalCall}
+use Rattle.cards.specs.declared.Card.{Card}
+use Rattle.cards.specs.Cards.{cardOf, cardChecks, movedCard, editCard}
 use Rattle.dskc.specs.Wrapper as wrapped
 use Rattle.kinds.specs.declared.Message.{Message}
 use Rattle.kinds.specs.declared.Cell.{Cell}
@@ -38,6 +40,7 @@ use Rattle.messages.specs.Writing.{writeChecks, written, writeMessage}
 use Rattle.numbers.specs.declared.Numbers.{Numbers}
 use Rattle.numbers.specs.Numbers.{numbersOf, kindIn, allWithin, writeNumbers}
 use Rattle.demands.specs.Demand1.{Taken}
+use Rattle.demands.specs.Beside.{CallBeside}
 
 -- ---- files
 
@@ -120,12 +123,14 @@ pub record Addresses : Type 0 where
 
 -- ---- edits: adds, removals, replacements
 
--- an edit is taken exactly if the file is, none of the edit's checks fails and the output holds the result; the bytes are the rendering of the content after it
 pub record Editing : Type 0 where
-  pub exactly : (have : ℕ) (s : List ℕ) (e : Edit) (b : List ℕ)
-      → (editFile have s e ≡ taken b) ↔ ((c : Content) × (contentAt s ≡ taken c) × Pass (editChecks e c (apply e c)) × (length b ≤ have) × (render (apply e c) ≡ b))
-  -- the file that is written has that content and is canonical
-  pub gives : (have : ℕ) (s : List ℕ) (e : Edit) (b : List ℕ) → EditCall have s e b → (c : Content) × (contentAt s ≡ taken c) × (contentAt b ≡ taken (apply e c)) × IsCanonical b
+  -- an edit is taken exactly if the file is, none of the edit's checks fails, the output holds the result and each number of the card stays within its bounds; the bytes are the rendering
+  -- of the content after it, and the card has moved as the true one
+  pub exactly : (have : ℕ) (k : Card) (s : List ℕ) (e : Edit) (b : List ℕ) (j : Card)
+      → (editCard have k s e ≡ taken (b, j))
+      ↔ ((c : Content) × (contentAt s ≡ taken c) × Pass (editChecks e c (apply e c)) × (length b ≤ have) × (render (apply e c) ≡ b) × Pass (cardChecks k (cardOf c) (cardOf (apply e c))) × (movedCard k (cardOf c) (cardOf (apply e c)) ≡ j))
+  -- the file that is written has that content and is canonical, whatever the card is
+  pub gives : (have : ℕ) (s : List ℕ) (k : Card) (e : Edit) (b : List ℕ) (j : Card) → CallBeside have s k e b j → (c : Content) × (contentAt s ≡ taken c) × (contentAt b ≡ taken (apply e c)) × IsCanonical b
 
 -- ---- wrappers
 
@@ -209,10 +214,10 @@ pub record Faults : Type 0 where
       ↔ ((kindIn kinds (v .tag) ≡ refused n p)
       ⊎ ((k : MessageKind) × (kindIn kinds (v .tag) ≡ taken k)
       × First ((allWithin (blank k) v, VALUE, 0) ∷ (writeChecks (paper (k (v .a) (v .b) (v .c) (v .d))) d ++ room have (length (written (k (v .a) (v .b) (v .c) (v .d)) d)))) n p))
-  -- an edit: the file's fault, or else the first check of the edit that fails, room last
-  pub edit : (have : ℕ) (s : List ℕ) (e : Edit) (n p : ℕ)
-      → (editFile have s e ≡ refused n p)
-      ↔ ((contentAt s ≡ refused n p) ⊎ ((c : Content) × (contentAt s ≡ taken c) × First (editChecks e c (apply e c) ++ room have (length (render (apply e c)))) n p))
+  -- an edit: the file's fault, or else the first check that fails: the edit's, room, and the card's last
+  pub edit : (have : ℕ) (k : Card) (s : List ℕ) (e : Edit) (n p : ℕ)
+      → (editCard have k s e ≡ refused n p)
+      ↔ ((contentAt s ≡ refused n p) ⊎ ((c : Content) × (contentAt s ≡ taken c) × First ((editChecks e c (apply e c) ++ room have (length (render (apply e c)))) ++ cardChecks k (cardOf c) (cardOf (apply e c))) n p))
 
 pub record Demand2 : Type 0 where
   pub files : Files

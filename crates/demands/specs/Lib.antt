@@ -1,4 +1,4 @@
--- Demand1 to Demand3: the demands, Demands: all of them. Examples: P1 to P13. RuledOut: wrong answers that no call can give. Rings: request 1. Text: requests 2 and 7. Removal: request 3. Tails: request 4. Refusals: request 5. Sheet and Meta: request 6. Together: request 8. Positions: request 9. Shift: request 10. Salvage: request 11. Sizes: request 12. Ready: request 13. Beside: the demands and request 3, of edits beside a card.
+-- Demand1 to Demand3: the demands, Demands: all of them. Examples: P1 to P13. RuledOut: wrong answers that no call can give. Rings: request 1. Text: requests 2 and 7. Removal: request 3. Tails: request 4. Refusals: request 5. Sheet and Meta: request 6. Together: request 8. Positions: request 9. Shift: request 10. Salvage: request 11. Sizes: request 12. Ready: request 13. Beside: a call beside a card.
 pub mod Demand1
 pub mod Demand2
 pub mod Demand3
