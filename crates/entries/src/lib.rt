@@ -436,12 +436,19 @@ fn cpu_reach(b: &[u8]) -> usize
     reach(b, e + 8, u64_at(b, e))
 }
 
+// The same of a device: a payload behind 16 bytes.
+fn device_reach(b: &[u8]) -> usize
+    ensures { λ r. ⌜ r ≡ length (take (span (devices .form) (now (b .entry))) (now (b .entry))) ⌝ }
+{
+    reach(b, 16, u64_at(b, 8))
+}
+
 // How many bytes the entry that begins the bytes has by its lengths alone, and no more than there are.
 fn length_of(kind: Kind, b: &[u8]) -> usize
     ensures { λ r. ⌜ r ≡ length (take (span (describe kind .form) (now (b .entry))) (now (b .entry))) ⌝ }
 {
     match kind {
-        Kind::Devices => reach(b, 16, u64_at(b, 8)),
+        Kind::Devices => device_reach(b),
         Kind::Disks => disk_reach(b),
         Kind::Cpus(_) => cpu_reach(b),
         Kind::Mmus(v) => reach(b, 4, mmu_length(v) as u64),
@@ -454,4 +461,11 @@ pub fn length_at(kind: Kind, s: &[u8], at: usize) -> usize
     ensures { λ r. ⌜ r ≡ length (take (span (describe kind .form) (drop at (now (s .entry)))) (drop at (now (s .entry)))) ⌝ }
 {
     length_of(kind, tail(s, at))
+}
+
+// The same of a device, with no choice of a kind (decision 119).
+pub fn device_length(s: &[u8], at: usize) -> usize
+    ensures { λ r. ⌜ r ≡ length (take (span (devices .form) (drop at (now (s .entry)))) (drop at (now (s .entry)))) ⌝ }
+{
+    device_reach(tail(s, at))
 }

@@ -11,6 +11,7 @@ ghost use Prim.Native.Nat.{ℕ, _+_, _≤_};
 ghost use lib.ListN.{length, take, drop};
 ghost use Rattle.answer.specs.Outcome.{taken, fitting};
 ghost use Rattle.wire.specs.Parts.{Wrote};
+ghost use Rattle.format.specs.Format.{span};
 ghost use Rattle.entries.specs.Kinds as kinds;
 ghost use Rattle.entries.specs.Code.{describe};
 ghost use Rattle.aerosnap.specs.File.{fileOf};
@@ -94,6 +95,16 @@ fn note(id: usize, at: usize, notes: &mut [usize])
     }
 }
 
+// How many bytes the entry at a place has; that the list is one of devices is asked first, and their reader goes into the loop (decision 119).
+fn length_in(kind: Kind, list: &[u8], at: usize) -> usize
+    ensures { λ r. ⌜ r ≡ length (take (span (describe kind .form) (drop at (now (list .entry)))) (drop at (now (list .entry)))) ⌝ }
+{
+    match kind {
+        Kind::Devices => entries::device_length(list, at),
+        _ => entries::length_at(kind, list, at),
+    }
+}
+
 // The ids of a list's entries noted, one entry after another by their lengths.
 fn note_all(kind: Kind, list: &[u8], notes: &mut [usize])
     ensures { λ _. ⌜ ((m : List (List ℕ)) → steps.Stands (describe kind) (now (list .entry)) m → steps.Noted m (now (notes .entry)) (now (notes .exit))) ⌝ }
@@ -103,7 +114,7 @@ fn note_all(kind: Kind, list: &[u8], notes: &mut [usize])
     let mut i = 0;
     while i < n {
         note(wire::u32_at(list, at) as usize, at, notes);
-        at += entries::length_at(kind, list, at);
+        at += length_in(kind, list, at);
         i += 1;
     }
 }

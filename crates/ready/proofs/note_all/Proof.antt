@@ -21,11 +21,11 @@ loop-holds : tie.Need-loop-holds Inv-loop μ-loop
 loop-holds c = (refl, omega arith, λ m v. passing-start _ (c .u32-at .ensures) v)
 
 -- the place that comes next
-room : (c : tie.After-length-at Inv-loop μ-loop) → let l = c .before .before .before .before .before .before .before in l .loop .at + c .length-at .result ≤ length (l .before .before .before .before .args .list .now) + 4
+room : (c : tie.After-length-in Inv-loop μ-loop) → let l = c .before .before .before .before .before .before .before in l .loop .at + c .length-in .result ≤ length (l .before .before .before .before .args .list .now) + 4
 room c =
     let l = c .before .before .before .before .before .before .before in
     let s = l .before .before .before .before .args .list .now in
-    rw (c .length-at .ensures) (pass-room (span (describe (l .before .before .before .before .args .kind) .form) (drop (l .loop .at) s)) (l .loop .at) s (l .loop .inv .1))
+    rw (c .length-in .ensures) (pass-room (span (describe (l .before .before .before .before .args .kind) .form) (drop (l .loop .at) s)) (l .loop .at) s (l .loop .inv .1))
 
 add-at : tie.Need-add-at Inv-loop μ-loop
 add-at c = omega (arith, room c)
@@ -37,7 +37,7 @@ loop-again c =
     let a = l .before .before .before .before .args in (
       c .before .before .before .note .kept .1 .1 .0 ∙ l .loop .inv .0,
       room c,
-      λ m v. rw (c .before .before .before .note .ensures) (passing-next (a .kind) (l .loop .inv .2 m v) (u .before .before .loop-test .taken) (l .loop .inv .0) (u .before .u32-at2 .ensures) (c .length-at .ensures)),
+      λ m v. rw (c .before .before .before .note .ensures) (passing-next (a .kind) (l .loop .inv .2 m v) (u .before .before .loop-test .taken) (l .loop .inv .0) (u .before .u32-at2 .ensures) (c .length-in .ensures)),
     )
 
 same-length : tie.Need-same-length Inv-loop μ-loop
