@@ -14,10 +14,10 @@ pub use Rattle.format.proofs.Once.{read-once as format-once, flag-once}
 pub use Rattle.entries.proofs.Once.{most-once, cpu-state-once, mmu-length-once, lead-once, lead-at-once, device-key-once, key-once, device-once, entry-once, length-once, device-length-once}
 -- lists: few; check; index; forget; blank; find; find_ordered; arrange
 pub use Rattle.lists.proofs.Once.{few-once, check-once as lists-check-once, index-once, forget-once, blank-once, find-once, find-ordered-once, arrange-once}
--- tables: put_rows; write; put_section
-pub use Rattle.tables.proofs.Once.{rows-once, write-once as tables-write-once, section-once}
--- writer: put_run; in_order; write
-pub use Rattle.writer.proofs.Once.{run-once, order-once, write-once as writer-write-once}
+-- tables: put_rows; put_section
+pub use Rattle.tables.proofs.Once.{rows-once, section-once}
+-- writer: put_run; put_by_starts; in_order
+pub use Rattle.writer.proofs.Once.{run-once, by-starts-once, order-once}
 -- dskc: check; controllers; canonical
 pub use Rattle.dskc.proofs.Once.{check-once as dskc-check-once, controllers-once, canonical-once as dskc-canonical-once}
 -- kinds: form_of

@@ -6,76 +6,64 @@ use Prim.Native.Nat.{ℕ, _-_, _≤_, _<_}
 use native.Mathlib.Omega.{arith}
 use lib.ListN.{length, take, drop, length-append, length-drop}
 use borrow.Author.Tests.{leb-true, le-leb, lt-leb}
-use Rattle.answer.specs.declared.Answer.{Answer}
 use Rattle.answer.specs.Numbers.{ROOM}
-use Rattle.answer.specs.Outcome.{Outcome, taken, refused, checked, after, done, fitting}
-use Rattle.answer.specs.Calls.{memory, Writes}
-use Rattle.answer.proofs.Outcomes.{done-taken, done-stop}
+use Rattle.answer.specs.Outcome.{Outcome, taken, refused, after, fitting}
 use Rattle.wire.specs.Parts.{Wrote}
 use Rattle.wire.proofs.Filling.{Filling, filling-room, filling-done}
 use Rattle.order.specs.Keyed.{sort}
 use Rattle.entries.specs.Kinds.{controllers}
 use Rattle.entries.specs.declared.Kind.the-variants as kind
 use Rattle.entries.proofs.Lawful.{lawful}
-use Rattle.lists.specs.Lists.{partChecks, listAt, tailOf, listBytes}
+use Rattle.lists.specs.Lists.{tailOf, listBytes}
 use Rattle.lists.proofs.Taken.{list-sound, closed-tail}
 use Rattle.lists.proofs.Written.{sorted-length}
-use Rattle.writer.specs.Writer.{sortedOf}
+use Rattle.writer.specs.Steps.{sortedBytes}
 use Rattle.dskc.specs.Wrapper.{header, wrapperOf, wrapperBytes, controllersOf, canonicalCall}
-use Rattle.dskc.proofs.Reading.{whole, list-whole}
+use Rattle.dskc.proofs.Reading.{whole}
 
 -- the controllers in address order, as the list behind the header
-abbrev pub listed : List ℕ → List ℕ
-listed s = listBytes (sort (controllers .key) (controllersOf s))
+abbrev inAddressOrder : List ℕ → List ℕ
+inAddressOrder s = listBytes (sort (controllers .key) (controllersOf s))
 
-pub canon-stop : (s : List ℕ) (have : ℕ) {n p : ℕ} → refused n p ≡ done (wrapperOf s) → canonicalCall have s ≡ refused n p
-canon-stop s have h = ap (λ (o : Outcome (List ℕ)). after o (λ _. fitting have (header ++ listed s))) (done-stop (wrapperOf s) h)
+-- what the call makes of a wrapper's outcome
+abbrev goOn : ℕ → List ℕ → Outcome (List ℕ) → Outcome (List ℕ)
+goOn have s o = after o (λ _. fitting have (header ++ inAddressOrder s))
 
-module _ (s : List ℕ) (h : taken tt ≡ done (wrapperOf s)) where
-  long : 16 ≤ length s
-  long = let t = done-taken (wrapperOf s) (sym h) in leb-true 16 (length s) (whole s (t .1) .0 .1 .0)
+pub canon-stop : (s : List ℕ) (have : ℕ) {n p : ℕ} → wrapperOf s ≡ refused n p → canonicalCall have s ≡ refused n p
+canon-stop s have h = ap (goOn have s) h
+
+module _ (s : List ℕ) {l : List ℕ} (h : wrapperOf s ≡ taken l) where
+  pub canon-long : 16 ≤ length s
+  canon-long = leb-true 16 (length s) (whole s h .0 .1 .0)
 
   -- nothing stands behind the last controller
   no-tail : tailOf controllers (drop 16 s) ≡ []
-  no-tail = let t = done-taken (wrapperOf s) (sym h) in closed-tail controllers (drop 16 s) refl (list-sound (lawful kind.Controllers) (drop 16 s) (whole s (t .1) .1))
+  no-tail = closed-tail controllers (drop 16 s) refl (list-sound (lawful kind.Controllers) (drop 16 s) (whole s h .1))
 
-  listed-length : length (listed s) ≡ length (drop 16 s)
-  listed-length = let t = done-taken (wrapperOf s) (sym h) in omega (arith, sorted-length (lawful kind.Controllers) (drop 16 s) (whole s (t .1) .1), ap length no-tail)
+  order-length : length (inAddressOrder s) ≡ length (drop 16 s)
+  order-length = omega (arith, sorted-length (lawful kind.Controllers) (drop 16 s) (whole s h .1), ap length no-tail)
 
-  pub canon-length : (16 ≤ length s) × (length (wrapperBytes (sort (controllers .key) (controllersOf s))) ≡ length s)
-  canon-length = (long, omega (arith, long, length-append header (listed s), listed-length, length-drop 16 s))
+  canon-length : length (wrapperBytes (sort (controllers .key) (controllersOf s))) ≡ length s
+  canon-length = omega (arith, canon-long, length-append header (inAddressOrder s), order-length, length-drop 16 s)
 
   module _ (have : ℕ) where
-    by-room : canonicalCall have s ≡ fitting have (header ++ listed s)
-    by-room =
-        let t = done-taken (wrapperOf s) (sym h) in
-        ap (λ (o : Outcome (List ℕ)). after o (λ _. fitting have (header ++ listed s))) (t .1)
-
     pub canon-short : have < length s → canonicalCall have s ≡ refused ROOM (length s)
-    canon-short k = by-room ∙ rw (canon-length .1, lt-leb (length s) have k)
+    canon-short k = ap (goOn have s) h ∙ rw (canon-length, lt-leb (length s) have k)
 
-    pub canon-done : length s ≤ have → canonicalCall have s ≡ taken (header ++ listed s)
-    canon-done k = by-room ∙ rw (canon-length .1, le-leb (length s) have k)
-
-  -- the list's writer, in a tail that is long enough
-  pub list-written : {b old new : List ℕ} {r : Answer} → b ≡ drop 16 s → length b ≤ length old → Writes (sortedOf controllers (length old) b) old r new → Wrote (listed s) old new (length b)
-  list-written {b} {old} {new} e k w =
-      let t = done-taken (wrapperOf s) (sym h) in
-      let p = whole s (t .1) in
-      let bare : listed s ++ tailOf controllers (drop 16 s) ≡ listed s = ap (λ (b : List ℕ). listed s ++ b) no-tail ∙ append-nil (listed s) in
-      let f : sortedOf controllers (length old) (drop 16 s) ≡ taken (listed s) =
-      ap (λ (b : List ℕ). checked (partChecks (drop 16 s)) (after (listAt controllers (drop 16 s)) (λ _. fitting (length old) b))) bare
-      ∙ list-whole s (p .0) (after (listAt controllers (drop 16 s)) (λ _. fitting (length old) (listed s)))
-      ∙ ap (λ (o : Outcome (List ℕ)). after o (λ _. fitting (length old) (listed s))) (p .1)
-      ∙ rw (listed-length, le-leb (length (drop 16 s)) (length old) (omega (arith, ap length e))) in
-      let g : sortedOf controllers (length old) b ≡ taken (listed s) = ap (sortedOf controllers (length old)) e ∙ f in
-      record { count = ap length e ∙ sym listed-length; bytes = w .leaves ∙ ap (λ (o : Outcome (List ℕ)). memory o old) g }
+    pub canon-done : length s ≤ have → canonicalCall have s ≡ taken (header ++ inAddressOrder s)
+    canon-done k = ap (goOn have s) h ∙ rw (canon-length, le-leb (length s) have k)
 
   -- the header, and the list in the tail behind it
-  pub canon-written : {b old mid new : List ℕ} {r : Answer} → b ≡ drop 16 s → length s ≤ length old → Wrote header old mid 16
-      → Writes (sortedOf controllers (length (take (length mid - 16) (drop 16 mid))) b) (take (length mid - 16) (drop 16 mid)) r new
-      → Wrote (header ++ listed s) old (take 16 mid ++ (new ++ drop (length mid - 16) (drop 16 mid))) (length s)
-  canon-written {b} {old} {mid} e k so w =
-      let first : Filling (header ++ listed s) old (listed s) 16 mid = record { part = header; whole = refl; room = omega (arith, canon-length .1); wrote = so } in
-      let all = filling-done first (list-written e (omega (arith, filling-room first, listed-length, ap length e)) w) in
-      record { count = sym (canon-length .1); bytes = all .bytes }
+  module _ {b old mid : List ℕ} (e : b ≡ drop 16 s) (k : length s ≤ length old) (so : Wrote header old mid 16) where
+    first : Filling (header ++ inAddressOrder s) old (inAddressOrder s) 16 mid
+    first = record { part = header; whole = refl; room = omega (arith, canon-length); wrote = so }
+
+    pub canon-room : length b ≤ length (take (length mid - 16) (drop 16 mid))
+    canon-room = omega (arith, filling-room first, order-length, ap length e)
+
+    pub canon-written : {new : List ℕ} → Wrote (sortedBytes controllers b) (take (length mid - 16) (drop 16 mid)) new (length b)
+        → Wrote (header ++ inAddressOrder s) old (take 16 mid ++ (new ++ drop (length mid - 16) (drop 16 mid))) (length s)
+    canon-written w =
+        let bare : sortedBytes controllers b ≡ inAddressOrder s = ap (sortedBytes controllers) e ∙ ap (λ (t : List ℕ). inAddressOrder s ++ t) no-tail ∙ append-nil (inAddressOrder s) in
+        let all = filling-done first (rw bare at w) in
+        record { count = sym canon-length; bytes = all .bytes }

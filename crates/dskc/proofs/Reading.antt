@@ -1,53 +1,74 @@
--- A wrapper by its header and its list, and the exits of the calls that read it.
+-- A wrapper by its header and the index of its list, and the exits of the calls that read it.
 -- Assumes nothing.
-use mathlib.Core.Path.{_≡_, sym, _∙_, ap}
+use mathlib.Core.Path.{_≡_, refl, sym, _∙_, ap, subst}
 use mathlib.Core.List.{List}
-use Prim.Native.Nat.{ℕ, _+_, _≤_}
+use Prim.Native.Nat.{ℕ, _+_, _*_, _/_, _≤_, _<_}
 use native.Mathlib.Omega.{arith}
-use lib.ListN.{length, drop, length-drop}
-use borrow.Author.Tests.{leb-true, le-leb}
-use Rattle.answer.specs.Outcome.{Outcome, taken, refused, checked, Pass, after, moved, done, fitting}
-use Rattle.answer.specs.Calls.{asked}
+use lib.ListN.{length, take, drop, length-take, length-drop}
+use borrow.Author.Tests.{leb-true, le-leb, lt-leb}
+use Rattle.answer.specs.declared.Piece.the-variants.{Stop, Ends}
+use Rattle.answer.specs.Numbers.{ROOM}
+use Rattle.answer.specs.Outcome.{Outcome, taken, refused, Pass, after, moved, fitting}
+use Rattle.answer.specs.Calls.{asked, Writes}
 use Rattle.answer.proofs.Checks.{checked-pass, pass-checked, asked-stop}
-use Rattle.answer.proofs.Outcomes.{moved-taken, done-taken, done-stop}
+use Rattle.answer.proofs.Outcomes.{moved-taken, taken-is}
+use Rattle.wire.specs.Parts.{Wrote}
+use Rattle.wire.proofs.Calls.{writes-taken}
 use Rattle.entries.specs.Kinds.{controllers}
 use Rattle.entries.specs.declared.Kind.the-variants as kind
 use Rattle.entries.proofs.Lawful.{lawful}
-use Rattle.lists.specs.Lists.{listAt, partChecks}
+use Rattle.lists.specs.Lists.{listAt, partChecks, indexOf}
+use Rattle.lists.specs.Promises.{lentAfter, Indexed}
+use Rattle.lists.proofs.Callers.{indexed-stop, indexed-done, index-roomy}
+use Rattle.lists.proofs.Taken.{list-sound}
+use Rattle.lists.proofs.Ordered.{index-length}
 use Rattle.lists.proofs.Within.{list-within}
 use Rattle.tables.specs.declared.Table.the-variants.{Controllers}
-use Rattle.tables.specs.Tables.{rowsAt, tableOf}
+use Rattle.tables.specs.Tables.{ROW, rowsIn, rowsAt}
+use Rattle.tables.proofs.Rows.{length-rows, rows-all}
+use Rattle.writer.specs.Steps.{Listed}
 use Rattle.dskc.specs.Wrapper.{wrapperMost, headerChecks, wrapperOf, controllersCall}
 
+-- a refusal, with the places as they were
+stopped : {o : Outcome (List ℕ)} {old new : List ℕ} {n p : ℕ} → o ≡ refused n p → new ≡ old → Indexed o old (Stop n p) new
+stopped {o} {old} e k = record { answers = sym (ap (λ (x : Outcome (List ℕ)). after x (λ l. taken (length l))) e); leaves = k ∙ sym (ap (λ (x : Outcome (List ℕ)). lentAfter x old) e) }
+
+-- ---- the wrapper, by the index of the list behind its header
+
 module _ (s : List ℕ) where
-  pub header-stop : {n p : ℕ} → refused n p ≡ asked (headerChecks s) → refused n p ≡ done (wrapperOf s)
+  pub header-stop : {n p : ℕ} (old : List ℕ) → refused n p ≡ asked (headerChecks s) → Indexed (wrapperOf s) old (Stop n p) old
   unfolding wrapperOf
-  header-stop h = sym (ap done (asked-stop (headerChecks s) (moved 16 (listAt controllers (drop 16 s))) h))
+  header-stop old h = stopped (asked-stop (headerChecks s) (moved 16 (listAt controllers (drop 16 s))) h) refl
 
   -- a header that passes
   module _ (g : Pass (headerChecks s)) where
-    pub behind : wrapperOf s ≡ moved 16 (listAt controllers (drop 16 s))
+    behind : wrapperOf s ≡ moved 16 (listAt controllers (drop 16 s))
     unfolding wrapperOf
     behind = pass-checked (headerChecks s) (moved 16 (listAt controllers (drop 16 s))) g
 
-    small : Pass (partChecks (drop 16 s))
-    small = (le-leb (length (drop 16 s)) 1073741824 (omega (arith, leb-true (length s) wrapperMost (g .0), length-drop 16 s)), tt)
+    pub small : length (drop 16 s) ≤ 1073741824
+    small = omega (arith, leb-true (length s) wrapperMost (g .0), length-drop 16 s)
 
-    pub list-whole : {A : Type 0} (next : Outcome A) → checked (partChecks (drop 16 s)) next ≡ next
-    list-whole next = pass-checked (partChecks (drop 16 s)) next small
+    module _ (b old : List ℕ) (e : b ≡ drop 16 s) (k : controllers .most ≤ length old) where
+      abbrev index : Outcome (List ℕ)
+      index = indexOf controllers (length old) b
 
-    module _ {b : List ℕ} (e : b ≡ drop 16 s) where
-      judged : {r : Outcome (Unit {0})} → r ≡ checked (partChecks b) (done (listAt controllers b)) → r ≡ done (listAt controllers (drop 16 s))
-      judged t = (rw e at t) ∙ list-whole (done (listAt controllers (drop 16 s)))
+      kept : index ≡ listAt controllers (drop 16 s)
+      kept =
+          ap (indexOf controllers (length old)) e
+          ∙ index-roomy (lawful kind.Controllers) (length old) (drop 16 s) k
+          ∙ pass-checked (partChecks (drop 16 s)) (listAt controllers (drop 16 s)) (le-leb (length (drop 16 s)) 1073741824 small, tt)
 
-      pub list-stop : {n p : ℕ} → refused n p ≡ checked (partChecks b) (done (listAt controllers b)) → (refused n (16 + p) ≡ done (wrapperOf s)) × (16 + p ≤ length s)
-      list-stop t =
-          let f = done-stop (listAt controllers (drop 16 s)) (judged t) in
-          let w = rw f at (list-within (lawful kind.Controllers) (drop 16 s)) in
-          (sym (ap done (behind ∙ ap (moved 16) f)), omega (arith, leb-true 16 (length s) (g .1 .0), length-drop 16 s, w))
+      pub list-stop : {n p : ℕ} {new : List ℕ} → Indexed index old (Stop n p) new → Indexed (wrapperOf s) old (Stop n (16 + p)) new × (16 + p ≤ length s)
+      list-stop i =
+          let f = indexed-stop index i in
+          let w = rw (sym kept ∙ f) at (list-within (lawful kind.Controllers) (drop 16 s)) in
+          (stopped (behind ∙ ap (moved 16) (sym kept ∙ f)) (i .leaves ∙ ap (λ (x : Outcome (List ℕ)). lentAfter x old) f), omega (arith, leb-true 16 (length s) (g .1 .0), length-drop 16 s, w))
 
-      pub list-done : taken tt ≡ checked (partChecks b) (done (listAt controllers b)) → taken tt ≡ done (wrapperOf s)
-      list-done t = let f = done-taken (listAt controllers (drop 16 s)) (sym (judged t)) in sym (ap done (behind ∙ ap (moved 16) (f .1)))
+      pub list-done : {n : ℕ} {new : List ℕ} → Indexed index old (Ends n) new → Indexed (wrapperOf s) old (Ends n) new
+      list-done {n} {new} i =
+          let f = indexed-done index i in
+          subst (λ (o : Outcome (List ℕ)). Indexed o old (Ends n) new) (f ∙ sym (behind ∙ ap (moved 16) (sym kept ∙ f))) i
 
 -- a wrapper that is taken has a header that passes, and a list that is taken
 pub whole : (s : List ℕ) {l : List ℕ} → wrapperOf s ≡ taken l → Pass (headerChecks s) × (listAt controllers (drop 16 s) ≡ taken l)
@@ -56,18 +77,46 @@ whole s {l} h =
     let p = checked-pass (headerChecks s) (moved 16 (listAt controllers (drop 16 s))) l h in
     (p .0, moved-taken 16 (listAt controllers (drop 16 s)) (p .1))
 
--- ---- its table
+-- ---- the calls that go on from the index
 
--- the records of the starts of its list
-abbrev rows : ℕ → List ℕ → List ℕ → Outcome (List ℕ)
-rows have s l = fitting have (rowsAt Controllers 16 (drop 16 s) l)
+module _ (s : List ℕ) {old new : List ℕ} where
+  pub refused-so : {n p : ℕ} → Indexed (wrapperOf s) old (Stop n p) new → wrapperOf s ≡ refused n p
+  refused-so i = indexed-stop (wrapperOf s) i
 
-pub table-stop : (have : ℕ) (s : List ℕ) {n p : ℕ} → refused n p ≡ done (wrapperOf s) → controllersCall have s ≡ refused n p
-table-stop have s h = ap (λ (o : Outcome (List ℕ)). after o (rows have s)) (done-stop (wrapperOf s) h)
+  module _ {n : ℕ} (i : Indexed (wrapperOf s) old (Ends n) new) where
+    pub taken-so : wrapperOf s ≡ taken (take n new)
+    taken-so = indexed-done (wrapperOf s) i
 
--- the table of its list is its table
-pub table-same : (have : ℕ) (s : List ℕ) → taken tt ≡ done (wrapperOf s) → tableOf Controllers have 16 (drop 16 s) ≡ controllersCall have s
-table-same have s h =
-    let t = done-taken (wrapperOf s) (sym h) in
-    let w = whole s (t .1) in
-    list-whole s (w .0) (after (listAt controllers (drop 16 s)) (rows have s)) ∙ ap (λ (o : Outcome (List ℕ)). after o (rows have s)) (w .1 ∙ sym (t .1))
+    -- as many starts as it says, and no more than there may be
+    pub counted : (length (take n new) ≡ n) × (n ≤ controllers .most)
+    counted =
+        let c : n ≡ length (take n new) = taken-is (i .answers ∙ ap (λ (o : Outcome (List ℕ)). after o (λ l. taken (length l))) taken-so) in
+        let l = whole s taken-so .1 in
+        (sym c, omega (arith, index-length (lawful kind.Controllers) (drop 16 s) l, list-sound (lawful kind.Controllers) (drop 16 s) l .few))
+
+    pub places : n ≤ length new
+    places = omega (arith, counted .0, length-take n new)
+
+    pub listed-so : Listed controllers (drop 16 s) (take n new)
+    listed-so = let w = whole s taken-so in record { short = small s (w .0); list = w .1 }
+
+    -- ---- the table
+
+    module _ (have : ℕ) where
+      need : length (rowsAt Controllers 16 (drop 16 s) (take n new)) ≡ ROW * n
+      need = length-rows Controllers 16 (drop 16 s) (take n new) ∙ ap (λ (m : ℕ). ROW * m) (counted .0)
+
+      found : controllersCall have s ≡ fitting have (rowsAt Controllers 16 (drop 16 s) (take n new))
+      found = ap (λ (o : Outcome (List ℕ)). after o (λ l. fitting have (rowsAt Controllers 16 (drop 16 s) l))) taken-so
+
+      pub table-short : have < ROW * n → controllersCall have s ≡ refused ROOM (ROW * n)
+      table-short k = found ∙ rw (need, lt-leb (ROW * n) have k)
+
+      pub table-done : ROW * n ≤ have → {b out last : List ℕ} {r : ℕ} → b ≡ drop 16 s → Wrote (rowsIn Controllers 16 b (take n new) (take (have / ROW) (take n new))) out last r
+          → Writes (controllersCall have s) out (record { number = 0; place = ROW * n }) last
+      table-done k {b} {out} {last} {r} e w =
+          let v : Wrote (rowsAt Controllers 16 (drop 16 s) (take n new)) out last r = rw (e, rows-all (take n new) have (omega (arith, counted .0))) at w in
+          writes-taken {b = rowsAt Controllers 16 (drop 16 s) (take n new)} (found ∙ rw (need, le-leb (ROW * n) have k)) (record { count = sym need; bytes = v .bytes })
+
+pub table-stop : (have : ℕ) (s : List ℕ) {n p : ℕ} → wrapperOf s ≡ refused n p → controllersCall have s ≡ refused n p
+table-stop have s h = ap (λ (o : Outcome (List ℕ)). after o (λ l. fitting have (rowsAt Controllers 16 (drop 16 s) l))) h

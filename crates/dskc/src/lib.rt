@@ -2,6 +2,7 @@
 // Slices that are handed on as `&s[..]` go in registers (decision 38).
 use answer::Answer;
 use answer::MAGIC;
+use answer::Piece;
 use answer::ROOM;
 use answer::SHORT;
 use answer::SIZE;
@@ -9,6 +10,7 @@ use answer::TAKEN;
 use answer::Test;
 use answer::VERSION;
 use entries::Kind;
+use tables::ROW;
 use tables::Table;
 use wire::u16_at;
 use wire::u32_at;
@@ -17,15 +19,20 @@ ghost use mathlib.Core.Bool.{_&&_};
 ghost use Prim.Native.Nat.{_+_, _≤_};
 ghost use lib.Dec.{eqb};
 ghost use lib.ListN.{length};
-ghost use Rattle.answer.specs.Outcome.{done};
 ghost use Rattle.answer.specs.Calls.{testOf, asked, verdict, Writes};
 ghost use Rattle.wire.specs.Numbers.{leAt};
 ghost use Rattle.wire.specs.Parts.{Wrote};
+ghost use Rattle.entries.specs.Kinds.{controllers};
+ghost use Rattle.lists.specs.Promises.{Indexed};
+ghost use Rattle.writer.specs.Steps.{Listed, sortedBytes};
 ghost use Rattle.dskc.specs.Wrapper.{headerChecks, wrapperOf, controllersCall, canonicalCall};
 ghost use Rattle.dskc.specs.Wrapper as wrapper;
 
 // The bound of a wrapper.
 const WRAPPER_MOST: usize = 67108864;
+
+// The bound of its controllers.
+const CONTROLLERS_MOST: usize = 256;
 
 // The letters, as the number that they are in the file.
 const AERO: u32 = 0x4F524541;
@@ -67,18 +74,19 @@ fn header(s: &[u8]) -> Test
     Test::Fine
 }
 
-// The first fault of a wrapper, if any.
-fn faults(s: &[u8]) -> Test
-    ensures { λ r. ⌜ testOf r ≡ done (wrapperOf (now (s .entry))) ⌝ }
+// Where the controllers of a wrapper start behind its header, in address order; or its first fault.
+fn index(s: &[u8], starts: &mut [u32]) -> Piece
+    requires { ⌜ controllers .most ≤ length (now starts) ⌝ }
+    ensures { λ r. ⌜ Indexed (wrapperOf (now (s .entry))) (now (starts .entry)) r (now (starts .exit)) ⌝ }
 {
     match header(&s[..]) {
-        Test::Fault(number, place) => Test::Fault(number, place),
-        Test::Fine => match lists::check(Kind::Controllers, wire::tail(&s[..], 16)) {
-            Test::Fault(number, place) => {
+        Test::Fault(number, place) => Piece::Stop(number, place),
+        Test::Fine => match lists::index(Kind::Controllers, wire::tail(&s[..], 16), starts) {
+            Piece::Stop(number, place) => {
                 let at = 16 + place;
-                Test::Fault(number, at)
+                Piece::Stop(number, at)
             }
-            Test::Fine => Test::Fine,
+            Piece::Ends(n) => Piece::Ends(n),
         },
     }
 }
@@ -86,19 +94,49 @@ fn faults(s: &[u8]) -> Test
 pub fn check(wrapper: &[u8]) -> Answer
     ensures { λ r. ⌜ r ≡ verdict (wrapperOf (now (wrapper .entry))) ⌝ }
 {
-    answer::answered(faults(wrapper))
+    let mut starts = [0u32; CONTROLLERS_MOST];
+    match index(wrapper, &mut starts) {
+        Piece::Stop(number, place) => Answer {
+            number,
+            place: place as u64,
+        },
+        Piece::Ends(_) => Answer {
+            number: TAKEN,
+            place: 0,
+        },
+    }
 }
 
 // The table of controllers in address order.
 pub fn controllers(wrapper: &[u8], table: &mut [u8]) -> Answer
     ensures { λ r. ⌜ Writes (controllersCall (length (now (table .entry))) (now (wrapper .entry))) (now (table .entry)) r (now (table .exit)) ⌝ }
 {
-    match faults(wrapper) {
-        Test::Fault(number, place) => Answer {
+    let mut starts = [0u32; CONTROLLERS_MOST];
+    match index(wrapper, &mut starts) {
+        Piece::Stop(number, place) => Answer {
             number,
             place: place as u64,
         },
-        Test::Fine => tables::write(Table::Controllers, wire::tail(wrapper, 16), 16, table),
+        Piece::Ends(n) => {
+            let need = ROW * n;
+            if table.len() < need {
+                return Answer {
+                    number: ROOM,
+                    place: need as u64,
+                };
+            }
+            tables::put_rows(
+                Table::Controllers,
+                wire::tail(wrapper, 16),
+                16,
+                &starts[..n],
+                table,
+            );
+            Answer {
+                number: TAKEN,
+                place: need as u64,
+            }
+        }
     }
 }
 
@@ -113,16 +151,29 @@ fn put_header(out: &mut [u8])
     wire::put_u32(out, 12, 1);
 }
 
+// The list of controllers that start at `starts`, in address order: at once where it stands so.
+fn put_list(s: &[u8], starts: &[u32], out: &mut [u8])
+    requires { ⌜ Listed controllers (now s) (now starts) × (length (now s) ≤ length (now out)) ⌝ }
+    ensures { λ _. ⌜ Wrote (sortedBytes controllers (now (s .entry))) (now (out .entry)) (now (out .exit)) (length (now (s .entry))) ⌝ }
+{
+    if writer::in_order(starts) {
+        wire::copy(out, 0, s);
+        return;
+    }
+    writer::put_by_starts(Kind::Controllers, s, starts, out);
+}
+
 // The canonical wrapper: the header, and the controllers in address order, a count of 0 kept.
 pub fn canonical(wrapper: &[u8], out: &mut [u8]) -> Answer
     ensures { λ r. ⌜ Writes (canonicalCall (length (now (out .entry))) (now (wrapper .entry))) (now (out .entry)) r (now (out .exit)) ⌝ }
 {
-    match faults(wrapper) {
-        Test::Fault(number, place) => Answer {
+    let mut starts = [0u32; CONTROLLERS_MOST];
+    match index(wrapper, &mut starts) {
+        Piece::Stop(number, place) => Answer {
             number,
             place: place as u64,
         },
-        Test::Fine => {
+        Piece::Ends(n) => {
             let need = wrapper.len();
             if out.len() < need {
                 return Answer {
@@ -131,7 +182,7 @@ pub fn canonical(wrapper: &[u8], out: &mut [u8]) -> Answer
                 };
             }
             put_header(out);
-            writer::write(Kind::Controllers, wire::tail(wrapper, 16), &mut out[16..]);
+            put_list(wire::tail(wrapper, 16), &starts[..n], &mut out[16..]);
             Answer {
                 number: TAKEN,
                 place: need as u64,

@@ -14,7 +14,6 @@ use Rattle.entries.specs.Kinds.{Description}
 use Rattle.entries.proofs.Lawful.{Lawful}
 use Rattle.lists.specs.Lists.{listAt, partChecks, listOf, whole, indexOf}
 use Rattle.lists.specs.Promises.{Indexed}
-use Rattle.lists.specs.Steps.{Room}
 use Rattle.lists.proofs.Taken.{list-sound}
 use Rattle.lists.proofs.Ordered.{index-length}
 use Rattle.lists.proofs.Shift.{take-over}
@@ -35,10 +34,10 @@ indexed-done (refused n p) i = absurd (taken-refused (i .answers))
 pub list-then : {A : Type 0} (d : Description) (s : List ℕ) (f : List ℕ → Outcome A) → checked (partChecks s) (after (listAt d s) f) ≡ after (listOf d s) f
 list-then d s f = sym (checked-after (partChecks s) (listAt d s) f)
 
--- where there is room, all are kept
-pub index-roomy : {d : Description} → Lawful d → (m : ℕ) (s : List ℕ) → Room s m → indexOf d m s ≡ listOf d s
+-- where there are places for as many as there may be, all are kept
+pub index-roomy : {d : Description} → Lawful d → (m : ℕ) (s : List ℕ) → d .most ≤ m → indexOf d m s ≡ listOf d s
 index-roomy {d} K m s h = ap (checked (partChecks s)) (go (listAt d s) refl)
   where
     go : (o : Outcome (List ℕ)) → listAt d s ≡ o → after o (λ l. taken (whole m l)) ≡ o
-    go (taken l) e = let n : length l ≤ m = omega (arith, index-length K s e, h (omega (arith, K .bounded, list-sound K s e .few))) in rw (le-leb (length l) m n)
+    go (taken l) e = let n : length l ≤ m = omega (arith, index-length K s e, list-sound K s e .few) in rw (le-leb (length l) m n)
     go (refused n p) e = refl

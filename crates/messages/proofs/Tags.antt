@@ -1,13 +1,19 @@
--- Tags that the table has not: what their bytes say is nothing.
+-- What the bytes of a message say, by its tag: nothing if the table has it not.
 -- Assumes nothing.
-use mathlib.Core.Path.{_≡_, refl}
+use mathlib.Core.Path.{_≡_, refl, sym, _∙_, ap}
 use mathlib.Core.List.{List, [], _∷_}
 use Prim.Native.Nat.{ℕ}
 use borrow.Author.Tests.{ne-eqb}
 use Rattle.wire.specs.Numbers.{leAt}
+use Rattle.kinds.specs.declared.Message.{Message}
 use Rattle.kinds.specs.declared.Message.the-variants.{Nothing}
 use Rattle.kinds.specs.Kinds.{Kind, kinds, blank}
 use Rattle.messages.specs.Fields.{messageIn, messageAt}
+
+-- a tag that is a number: what is said is what that number is looked up for
+pub by-tag : (m : List ℕ) {t n : ℕ} {r : Message} → t ≡ leAt 2 m 0 → t ≡ n → r ≡ messageIn kinds n m → r ≡ messageAt m
+unfolding messageAt
+by-tag m e k h = h ∙ ap (λ (x : ℕ). messageIn kinds x m) (sym k ∙ e)
 
 -- no kind of a list has the tag
 abbrev pub Missing : List Kind → ℕ → Type 0

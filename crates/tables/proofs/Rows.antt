@@ -7,32 +7,14 @@ use native.Mathlib.Numerals.{add-one}
 use native.Mathlib.Omega.{arith}
 use lib.ListN.{length, take, drop, getD, length-append}
 use lib.Seq.{take-suc, take-all}
-use borrow.Author.Tests.{le-leb, lt-leb}
-use Rattle.answer.specs.Numbers.{ROOM}
-use Rattle.answer.specs.Outcome.{Outcome, taken, refused, after, fitting}
-use Rattle.answer.specs.Calls.{Writes}
-use Rattle.answer.proofs.Outcomes.{taken-is}
-use Rattle.answer.proofs.Checks.{checked-pass}
 use Rattle.wire.specs.Parts.{Wrote}
 use Rattle.wire.proofs.Numbers.{length-bytesOf}
 use Rattle.wire.proofs.Parts.{wrote-tail}
-use Rattle.wire.proofs.Calls.{writes-taken}
 use Rattle.order.specs.Keyed.{flat}
 use Rattle.order.proofs.Folds.{flat-append}
-use Rattle.entries.specs.Kinds.{Description}
-use Rattle.entries.specs.declared.Kind.{Kind}
-use Rattle.entries.specs.Code.{describe}
-use Rattle.entries.proofs.Lawful.{lawful}
-use Rattle.lists.specs.Lists.{partChecks, listAt, listOf, indexOf}
-use Rattle.lists.specs.Promises.{Indexed}
-use Rattle.lists.specs.Steps.{Room}
-use Rattle.lists.proofs.Taken.{list-sound}
-use Rattle.lists.proofs.Ordered.{index-length}
-use Rattle.lists.proofs.Callers.{indexed-stop, indexed-done, list-then, index-roomy}
-use Rattle.answer.specs.declared.Piece.the-variants.{Stop, Ends}
 use Rattle.tables.specs.declared.Table.{Table}
 use Rattle.tables.specs.declared.Table.the-variants.{Devices, Disks, Cpus, Mmus, Controllers}
-use Rattle.tables.specs.Tables.{ROW, described, positionIn, ended, framedRow, rowOf, rowsIn, rowsAt, tableOf}
+use Rattle.tables.specs.Tables.{ROW, positionIn, ended, framedRow, rowOf, rowsIn, rowsAt}
 use Rattle.wire.specs.Numbers.{Bytes, leAt, bytesOf}
 use Rattle.wire.proofs.Numbers.{leAt-add, leAt-bound, bytesOf-halves}
 
@@ -116,44 +98,3 @@ module _ (t : Table) (base : ℕ) (s all : List ℕ) where
 
 pub length-rows : (t : Table) (base : ℕ) (s l : List ℕ) → length (rowsAt t base s l) ≡ ROW * length l
 length-rows t base s l = length-rows-in t base s l l
-
--- ---- the exits of the call
-
-module _ (t : Table) (k : Kind) (q : describe k ≡ described t) (have base : ℕ) (s : List ℕ) (m : ℕ) (R : Room s m) where
-  -- what the records of the starts make of the room
-  abbrev rowsOf : List ℕ → Outcome (List ℕ)
-  rowsOf l = fitting have (rowsAt t base s l)
-
-  -- the call by the index of its list, for which there are m places
-  by-index : tableOf t have base s ≡ after (indexOf (describe k) m s) rowsOf
-  by-index =
-      list-then (described t) s rowsOf
-      ∙ ap (λ (d : Description). after (listOf d s) rowsOf) (sym q)
-      ∙ ap (λ (o : Outcome (List ℕ)). after o rowsOf) (sym (index-roomy (lawful k) m s R))
-
-  pub table-stop : {old new : List ℕ} {n p : ℕ} → Indexed (indexOf (describe k) m s) old (Stop n p) new → tableOf t have base s ≡ refused n p
-  table-stop h = by-index ∙ ap (λ (o : Outcome (List ℕ)). after o rowsOf) (indexed-stop (indexOf (describe k) m s) h)
-
-  module _ {old new : List ℕ} {n : ℕ} (h : Indexed (indexOf (describe k) m s) old (Ends n) new) where
-    done : indexOf (describe k) m s ≡ taken (take n new)
-    done = indexed-done (indexOf (describe k) m s) h
-
-    -- as many starts as it says, and no more than there may be
-    pub table-count : (length (take n new) ≡ n) × (n ≤ 4096)
-    table-count =
-        let c : n ≡ length (take n new) = taken-is (h .answers ∙ ap (λ (o : Outcome (List ℕ)). after o (λ l. taken (length l))) done) in
-        let l : listAt (describe k) s ≡ taken (take n new) = checked-pass (partChecks s) (listAt (describe k) s) (take n new) (sym (index-roomy (lawful k) m s R) ∙ done) .1 in
-        (sym c, omega (arith, index-length (lawful k) s l, list-sound (lawful k) s l .few, lawful k .bounded))
-
-    need : length (rowsAt t base s (take n new)) ≡ ROW * n
-    need = length-rows t base s (take n new) ∙ ap (λ (m : ℕ). ROW * m) (table-count .0)
-
-    found : tableOf t have base s ≡ rowsOf (take n new)
-    found = by-index ∙ ap (λ (o : Outcome (List ℕ)). after o rowsOf) done
-
-    pub table-short : have < ROW * n → tableOf t have base s ≡ refused ROOM (ROW * n)
-    table-short k = found ∙ rw (need, lt-leb (ROW * n) have k)
-
-    pub table-done : ROW * n ≤ have → {out last : List ℕ} {r : ℕ} → Wrote (rowsIn t base s (take n new) (take (have / ROW) (take n new))) out last r
-        → Writes (tableOf t have base s) out (record { number = 0; place = r }) last
-    table-done k w = writes-taken (found ∙ rw (need, le-leb (ROW * n) have k)) (rw (rows-all (take n new) have (omega (arith, table-count .0))) at w)

@@ -5,12 +5,10 @@ use mathlib.Core.Bool.{cond}
 use Prim.Native.Nat.{ℕ, _+_}
 use lib.Dec.{leb}
 use lib.ListN.{drop}
-use Rattle.answer.specs.Outcome.{Outcome, checked, after, fitting}
 use Rattle.wire.specs.Numbers.{leAt, bytesOf}
 use Rattle.order.specs.Keyed.{weigh, flat}
 use Rattle.entries.specs.States.{mmuLength}
 use Rattle.entries.specs.Kinds.{Description, devices, disks, cpus, mmus, controllers}
-use Rattle.lists.specs.Lists.{partChecks, listAt}
 use Rattle.tables.specs.declared.Table.{Table}
 use Rattle.tables.specs.declared.Table.the-variants.{Devices, Disks, Cpus, Mmus, Controllers}
 
@@ -68,7 +66,3 @@ rowsIn t base s all l = flat (λ y. rowOf t (base + y) (positionIn all y) (drop 
 -- the records of all entries of s
 abbrev pub rowsAt : Table → ℕ → List ℕ → List ℕ → List ℕ
 rowsAt t base s l = rowsIn t base s l l
-
--- the table of the list that s is, for an output of so many bytes
-abbrev pub tableOf : Table → ℕ → ℕ → List ℕ → Outcome (List ℕ)
-tableOf t have base s = checked (partChecks s) (after (listAt (described t) s) (λ l. fitting have (rowsAt t base s l)))

@@ -3,16 +3,13 @@
 use mathlib.Core.Path.{_≡_, refl}
 use mathlib.Core.List.{List, [], _∷_, _++_, map}
 use Prim.Native.Nat.{ℕ}
-use Rattle.answer.specs.Numbers.{KEY, ROOM}
-use Rattle.answer.specs.Outcome.{taken, refused}
 use Rattle.wire.specs.Numbers.{le, leAt, bytesOf}
 use Rattle.format.specs.Format.{read, span}
-use Rattle.order.specs.Keyed.{insert, has}
+use Rattle.order.specs.Keyed.{insert}
 use Rattle.order.specs.Entries.{join, split}
 use Rattle.entries.specs.Kinds.{devices}
-use Rattle.lists.specs.Lists.{entryAt, walk, listAt}
 use Rattle.writer.specs.Runs.{entryBy, fits, byStarts}
-use Rattle.writer.specs.Writer.{sortedOf}
+use Rattle.writer.specs.Steps.{sortedBytes}
 
 -- device (id, 1, 0) with one or two payload bytes
 abbrev device : ℕ → ℕ → List ℕ → List ℕ
@@ -32,17 +29,12 @@ counted n entries = n ∷ 0 ∷ 0 ∷ 0 ∷ entries
 abbrev payload : List ℕ
 payload = counted 2 (fourteen ++ three)
 
--- P5: (3, 1, 0) comes first; written again it is the same; 38 bytes are no room
-pub sorted : (sortedOf devices 39 payload ≡ taken (counted 2 (three ++ fourteen)))
-    × (sortedOf devices 39 (counted 2 (three ++ fourteen)) ≡ taken (counted 2 (three ++ fourteen)))
-    × (sortedOf devices 38 payload ≡ refused ROOM 39)
-    -- the list's own faults come first
-    × (sortedOf devices 0 (counted 2 (three ++ three)) ≡ refused KEY 22)
-    -- a tail stays behind the entries, and counts in the room
-    × (sortedOf devices 41 (payload ++ (7 ∷ 8 ∷ [])) ≡ taken (counted 2 (three ++ fourteen) ++ (7 ∷ 8 ∷ [])))
-    × (sortedOf devices 40 (payload ++ (7 ∷ 8 ∷ [])) ≡ refused ROOM 41)
-unfolding listAt walk entryAt read leAt le bytesOf insert has split
-sorted = (refl, refl, refl, refl, refl, refl)
+-- P5: (3, 1, 0) comes first; in order it is the same; a tail stays behind the entries
+pub sorted : (sortedBytes devices payload ≡ counted 2 (three ++ fourteen))
+    × (sortedBytes devices (counted 2 (three ++ fourteen)) ≡ counted 2 (three ++ fourteen))
+    × (sortedBytes devices (payload ++ (7 ∷ 8 ∷ [])) ≡ counted 2 (three ++ fourteen) ++ (7 ∷ 8 ∷ []))
+unfolding read leAt le bytesOf insert split
+sorted = (refl, refl, refl)
 
 -- (3, 1, 0) fits, (14, 1, 0) does not, and nothing stands past the end
 pub run : (join (fits 34 (map (entryBy devices payload) (21 ∷ 4 ∷ []))) ≡ three) × (join (fits 35 (map (entryBy devices payload) (21 ∷ 99 ∷ 4 ∷ []))) ≡ three ++ fourteen)

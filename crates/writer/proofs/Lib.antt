@@ -3,6 +3,5 @@ pub mod Runs
 pub mod Straight
 pub mod Around
 pub mod Whole
-pub mod Asked
 pub mod Once
 pub mod Examples

@@ -6,16 +6,13 @@ use mathlib.Core.List.{List, [], map}
 use Prim.Native.Nat.{ℕ}
 use lib.Dec.{leb}
 use lib.ListN.{length}
-use Rattle.answer.specs.declared.Answer.{Answer}
-use Rattle.answer.specs.Calls.{Writes}
-use Rattle.answer.proofs.Once.{equal-once, writes-once}
+use Rattle.answer.proofs.Once.{equal-once}
 use Rattle.wire.specs.Parts.{Wrote}
 use Rattle.wire.proofs.Once.{wrote-once}
 use Rattle.order.specs.Entries.{join}
 use Rattle.entries.specs.declared.Kind.{Kind}
 use Rattle.entries.specs.Code.{describe}
 use Rattle.writer.specs.Runs.{entryBy, fits, inOrder, byStarts}
-use Rattle.writer.specs.Writer.{sortedOf}
 
 pub run-once : (k : Kind) (s starts old : List ℕ) {r q : ℕ} {new now : List ℕ}
     → Wrote (join (fits (length old) (map (entryBy (describe k) s) starts))) old new r → Wrote (join (fits (length old) (map (entryBy (describe k) s) starts))) old now q → (r ≡ q) × (new ≡ now)
@@ -27,7 +24,3 @@ by-starts-once k s starts old a b = wrote-once a b
 
 pub order-once : (starts : List ℕ) {r q : Bool} → r ≡ inOrder starts → q ≡ inOrder starts → r ≡ q
 order-once starts e f = equal-once e f
-
-pub write-once : (k : Kind) (s old : List ℕ) {r q : Answer} {new now : List ℕ}
-    → Writes (sortedOf (describe k) (length old) s) old r new → Writes (sortedOf (describe k) (length old) s) old q now → (r ≡ q) × (new ≡ now)
-write-once k s old a b = writes-once a b

@@ -24,8 +24,7 @@ use Rattle.lists.proofs.Taken.{self, list-sound, list-entries}
 use Rattle.lists.proofs.Ordered.{index-perm, index-asc, list-order}
 use Rattle.lists.proofs.Written.{list-bytes}
 use Rattle.writer.specs.Runs.{inOrderFrom, inOrder}
-use Rattle.writer.specs.Writer.{sortedBytes}
-use Rattle.writer.specs.Steps.{entryFrom, Listed}
+use Rattle.writer.specs.Steps.{entryFrom, Listed, sortedBytes}
 
 -- ---- the test, start by start: what is left of it from the start with the number i on
 

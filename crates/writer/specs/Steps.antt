@@ -1,13 +1,14 @@
--- What the parts of the code that writes a list ask and give.
+-- For contracts of private functions: a list that is known to be one, and what it is in the order of its keys.
 -- Assumes nothing.
 use mathlib.Core.Path.{_≡_}
-use mathlib.Core.List.{List, map}
+use mathlib.Core.List.{List, _++_, map}
 use Prim.Native.Nat.{ℕ, _≤_}
 use lib.ListN.{length, drop}
 use Rattle.answer.specs.Outcome.{taken}
+use Rattle.order.specs.Keyed.{sort}
 use Rattle.order.specs.Entries.{join, first}
 use Rattle.entries.specs.Kinds.{Description}
-use Rattle.lists.specs.Lists.{listAt, widthOf, fileMost}
+use Rattle.lists.specs.Lists.{listAt, widthOf, entries, tailOf, listBytes, fileMost}
 
 -- the entry that starts at a place
 abbrev pub entryFrom : Description → List ℕ → ℕ → List ℕ
@@ -21,3 +22,7 @@ run d s l = join (map (entryFrom d s) l)
 pub record Listed (d : Description) (s l : List ℕ) : Type 0 where
   pub short : length s ≤ fileMost
   pub list : listAt d s ≡ taken l
+
+-- the list that s is, in the order of its keys, its tail behind them
+abbrev pub sortedBytes : Description → List ℕ → List ℕ
+sortedBytes d s = listBytes (sort (d .key) (entries d s)) ++ tailOf d s

@@ -1,28 +1,16 @@
-// Lists written in the order of their keys, whatever their kind: runs of entries from their starts, and whole lists.
-// Of a whole list the length needed is known before anything is written, and a refusal leaves `out` as it was.
+// Entries of a list written from their starts, whatever their kind: runs of them, and whole lists.
 // Slices that are handed on as `&s[..]` go in registers (decision 38).
-use answer::Answer;
-use answer::Piece;
-use answer::ROOM;
-use answer::TAKEN;
 use entries::Kind;
 use entries::length_at;
-use lists::few;
-use lists::index;
 ghost use mathlib.Core.Path.{_≡_};
 ghost use mathlib.Core.Bool.{cond};
 ghost use mathlib.Core.List.{[], map};
 ghost use lib.Dec.{leb};
 ghost use lib.ListN.{length};
-ghost use Rattle.answer.specs.Outcome.{fitting};
-ghost use Rattle.answer.specs.Calls.{Writes};
 ghost use Rattle.wire.specs.Parts.{put, Wrote};
 ghost use Rattle.order.specs.Entries.{join};
 ghost use Rattle.entries.specs.Code.{describe};
-ghost use Rattle.lists.specs.Steps.{Room};
-ghost use Rattle.writer.specs.Writer.{sortedBytes, sortedOf};
 ghost use Rattle.writer.specs.Runs.{entryBy, fits, inOrder, byStarts};
-ghost use Rattle.writer.specs.Steps.{Listed};
 
 // ---- entries of a list
 
@@ -97,55 +85,4 @@ pub fn put_by_starts(kind: Kind, s: &[u8], starts: &[u32], out: &mut [u8]) -> us
     }
     fill_by_starts(kind, s, starts, &mut out[..n]);
     n
-}
-
-// The list whose entries start at `starts`, where there is room: at once where they stand in the order of their keys.
-fn put_list(kind: Kind, s: &[u8], starts: &[u32], out: &mut [u8]) -> Answer
-    requires { ⌜ Listed (describe kind) (now s) (now starts) ⌝ }
-    ensures { λ r. ⌜ Writes (fitting (length (now (out .entry))) (sortedBytes (describe kind) (now (s .entry)))) (now (out .entry)) r (now (out .exit)) ⌝ }
-{
-    if out.len() < s.len() {
-        return Answer {
-            number: ROOM,
-            place: s.len() as u64,
-        };
-    }
-    if in_order(starts) {
-        wire::copy(out, 0, s);
-        return Answer {
-            number: TAKEN,
-            place: s.len() as u64,
-        };
-    }
-    put_by_starts(kind, s, starts, out);
-    Answer {
-        number: TAKEN,
-        place: s.len() as u64,
-    }
-}
-
-// The list that s is, in the order of its keys, with room for the starts.
-fn write_in(kind: Kind, s: &[u8], starts: &mut [u32], out: &mut [u8]) -> Answer
-    requires { ⌜ Room (now s) (length (now starts)) ⌝ }
-    ensures { λ r. ⌜ Writes (sortedOf (describe kind) (length (now (out .entry))) (now (s .entry))) (now (out .entry)) r (now (out .exit)) ⌝ }
-{
-    match index(kind, s, starts) {
-        Piece::Stop(number, place) => Answer {
-            number,
-            place: place as u64,
-        },
-        Piece::Ends(n) => put_list(kind, s, &starts[..n], out),
-    }
-}
-
-// The list that s is, in the order of its keys.
-pub fn write(kind: Kind, s: &[u8], out: &mut [u8]) -> Answer
-    ensures { λ r. ⌜ Writes (sortedOf (describe kind) (length (now (out .entry))) (now (s .entry))) (now (out .entry)) r (now (out .exit)) ⌝ }
-{
-    if few(s) {
-        let mut starts = [0u32; 256];
-        return write_in(kind, s, &mut starts, out);
-    }
-    let mut starts = [0u32; 4096];
-    write_in(kind, s, &mut starts, out)
 }
