@@ -20,7 +20,7 @@ use Rattle.kinds.specs.declared.Cell.{Cell}
 use Rattle.kinds.specs.declared.Form.{Form}
 use Rattle.kinds.specs.Kinds.{paper, cells, okOf}
 use Rattle.messages.specs.Fields.{fieldWidth, allowed, sizeOf, messageAt}
-use Rattle.messages.specs.Reading.{most, fieldChecks, dataLength, dataFits, leftOver, bodyChecks, numbersEnd, readChecks, messageContent, readMessage}
+use Rattle.messages.specs.Reading.{most, cellChecks, dataLength, dataFits, leftOver, bodyChecks, numbersEnd, readChecks, messageContent, readMessage}
 use Rattle.aipc.specs.Steps.{fieldAt, textPart, behind, formed}
 
 -- the steps that the code makes, each from where the one before it ended
@@ -32,20 +32,20 @@ walked-refused : (ok : ℕ) (cs : List Cell) (m : List ℕ) (n p : ℕ) → walk
 walked-refused ok [] m n p = refl
 walked-refused ok (c ∷ cs) m n p = walked-refused ok cs m n p
 
-pub walked-checks : (ok : ℕ) (cs : List Cell) (m : List ℕ) (at : ℕ) → walked ok cs m (taken at) ≡ checked (fieldChecks ok cs at m) (taken (at + sizeOf ok cs))
-unfolding fieldChecks sizeOf
+pub walked-checks : (ok : ℕ) (cs : List Cell) (m : List ℕ) (at : ℕ) → walked ok cs m (taken at) ≡ checked (cellChecks ok cs at m) (taken (at + sizeOf ok cs))
+unfolding cellChecks sizeOf
 walked-checks ok [] m at = ap taken (omega arith)
 walked-checks ok (c ∷ cs) m at = go (leb (at + w) (length m)) (allowed ok (c .0) (c .1)) (walked-checks ok cs m (at + w))
   where
     w : ℕ
     w = fieldWidth ok (c .0)
 
-    go : (a b : Bool) → walked ok cs m (taken (at + w)) ≡ checked (fieldChecks ok cs (at + w) m) (taken (at + w + sizeOf ok cs))
+    go : (a b : Bool) → walked ok cs m (taken (at + w)) ≡ checked (cellChecks ok cs (at + w) m) (taken (at + w + sizeOf ok cs))
         → walked ok cs m (checked ((a, SHAPE, at) ∷ (b, VALUE, at) ∷ []) (taken (at + w)))
-        ≡ checked ((a, SHAPE, at) ∷ (b, VALUE, at) ∷ fieldChecks ok cs (at + w) m) (taken (at + (w + sizeOf ok cs)))
+        ≡ checked ((a, SHAPE, at) ∷ (b, VALUE, at) ∷ cellChecks ok cs (at + w) m) (taken (at + (w + sizeOf ok cs)))
     go false b h = walked-refused ok cs m SHAPE at
     go true false h = walked-refused ok cs m VALUE at
-    go true true h = h ∙ ap (λ (n : ℕ). checked (fieldChecks ok cs (at + w) m) (taken n)) (omega arith)
+    go true true h = h ∙ ap (λ (n : ℕ). checked (cellChecks ok cs (at + w) m) (taken n)) (omega arith)
 
 -- ---- where the numbers end
 
@@ -89,4 +89,4 @@ pub read-formed : (m : List ℕ) (k : Message) (f : Form) → k ≡ messageAt m 
 unfolding formed behind readMessage readChecks
 read-formed m k f ek ef h g t =
     rw (← ek, ← ef, le-leb (length m) most h, le-leb 2 (length m) g, t)
-    (sym (checked-append (fieldChecks (okOf f) (cells f) 2 m) (bodyChecks (f .body) (numbersEnd f) m) (taken (messageContent k (f .body) (numbersEnd f) m))))
+    (sym (checked-append (cellChecks (okOf f) (cells f) 2 m) (bodyChecks (f .body) (numbersEnd f) m) (taken (messageContent k (f .body) (numbersEnd f) m))))

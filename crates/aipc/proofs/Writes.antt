@@ -20,7 +20,7 @@ use Rattle.kinds.specs.Kinds.{paper, cells, okOf}
 use Rattle.messages.specs.Fields.{allowed}
 use Rattle.messages.specs.Reading.{most}
 use Rattle.messages.specs.Writing.{formBytes, valueChecks, dataChecks, writeChecks, written, writeMessage}
-use Rattle.aipc.specs.Steps.{allAllowed, faults, limits, writing, putForm}
+use Rattle.aipc.specs.Steps.{allAllowed, writeFaults, limits, writing, putForm}
 use Rattle.aipc.proofs.Going.{test-stops, test-passes, test-goes}
 use Rattle.aipc.proofs.Puts.{put-form}
 
@@ -40,7 +40,7 @@ values-checks f x =
 
 -- first by the numbers and the data, then by the length
 pub writing-checks : {A : Type 0} (f : Form) (d : List ℕ) (have : ℕ) (x : Outcome A)
-    → checked (writing f d have) x ≡ checked (faults f d) (checked (limits (length (formBytes f d)) have) x)
+    → checked (writing f d have) x ≡ checked (writeFaults f d) (checked (limits (length (formBytes f d)) have) x)
 unfolding writeChecks
 writing-checks f d have x =
     let l : Checks = (leb (length (formBytes f d)) most, LIMIT, 0) ∷ [] in

@@ -17,7 +17,7 @@ use Rattle.kinds.specs.declared.Cell.{Cell}
 use Rattle.kinds.specs.declared.Form.{Form}
 use Rattle.kinds.specs.Kinds.{cells, okOf}
 use Rattle.messages.specs.Fields.{fieldWidth, allowed}
-use Rattle.messages.specs.Reading.{Content, most, fieldChecks, bodyChecks, numbersEnd, messageContent}
+use Rattle.messages.specs.Reading.{MessageAndData, most, cellChecks, bodyChecks, numbersEnd, messageContent}
 use Rattle.messages.specs.Writing.{dataChecks, formBytes, writeChecks}
 
 -- one field at a place, and where it ends
@@ -36,12 +36,12 @@ abbrev pub textPart : ℕ → ℕ → List ℕ → Checks
 textPart start end m = (isText (take (end - start) (drop start m)), TEXT, start + breakAt (take (end - start) (drop start m))) ∷ []
 
 -- what stands behind the numbers, at a place
-unfoldable pub behind : Message → Body → ℕ → List ℕ → Outcome Content
+unfoldable pub behind : Message → Body → ℕ → List ℕ → Outcome MessageAndData
 behind k b at m = checked (bodyChecks b at m) (taken (messageContent k b at m))
 
 -- the numbers, and what stands behind them
-unfoldable pub formed : Message → Form → List ℕ → Outcome Content
-formed k f m = checked (fieldChecks (okOf f) (cells f) 2 m) (behind k (f .body) (numbersEnd f) m)
+unfoldable pub formed : Message → Form → List ℕ → Outcome MessageAndData
+formed k f m = checked (cellChecks (okOf f) (cells f) 2 m) (behind k (f .body) (numbersEnd f) m)
 
 -- each number is among its values
 abbrev pub allAllowed : Form → Bool
@@ -50,8 +50,8 @@ allAllowed f =
     allowed ok (f .a .0) (f .a .1) && (allowed ok (f .b .0) (f .b .1) && (allowed ok (f .c .0) (f .c .1) && allowed ok (f .d .0) (f .d .1)))
 
 -- the first checks of writing, which go by the numbers and the data
-abbrev pub faults : Form → List ℕ → Checks
-faults f d = (f .known, VALUE, 0) ∷ (allAllowed f, VALUE, 0) ∷ dataChecks (f .body) d
+abbrev pub writeFaults : Form → List ℕ → Checks
+writeFaults f d = (f .known, VALUE, 0) ∷ (allAllowed f, VALUE, 0) ∷ dataChecks (f .body) d
 
 -- the last ones, which go by the length needed
 abbrev pub limits : ℕ → ℕ → Checks

@@ -11,9 +11,9 @@ ghost use Rattle.wire.specs.Numbers.{bytesOf};
 ghost use Rattle.wire.specs.Parts.{put};
 ghost use Rattle.kinds.specs.Kinds.{cells, okOf};
 ghost use Rattle.messages.specs.Fields.{fieldWidth, allowed as allowedOf};
-ghost use Rattle.messages.specs.Reading.{fieldChecks, leftOver, dataLength, dataFits, bodyChecks, numbersEnd, messageContent, readMessage, reading};
+ghost use Rattle.messages.specs.Reading.{cellChecks, leftOver, dataLength, dataFits, bodyChecks, numbersEnd, messageContent, readMessage, reading};
 ghost use Rattle.messages.specs.Writing.{bodyBytes, formBytes, dataChecks, writeMessage};
-ghost use Rattle.aipc.specs.Steps.{fieldAt, behind, formed, then, textPart, allAllowed, limits as limitsOf, faults as faultsOf, writing, putCells, putBody, putForm};
+ghost use Rattle.aipc.specs.Steps.{fieldAt, behind, formed, then, textPart, allAllowed, limits as limitsOf, writeFaults, writing, putCells, putBody, putForm};
 use answer::Answer;
 use answer::LIMIT;
 use answer::Piece;
@@ -108,7 +108,7 @@ fn next(m: &[u8], ok: u64, p: Piece, c: Cell) -> Piece
 
 // The numbers, behind the tag.
 fn numbers(m: &[u8], f: Form) -> Piece
-    ensures { λ r. ⌜ pieceOf r ≡ checked (fieldChecks (okOf f) (cells f) 2 (now (m .entry))) (taken (numbersEnd f)) ⌝ }
+    ensures { λ r. ⌜ pieceOf r ≡ checked (cellChecks (okOf f) (cells f) 2 (now (m .entry))) (taken (numbersEnd f)) ⌝ }
 {
     let a = f.a;
     let b = f.b;
@@ -345,7 +345,7 @@ fn data_test(body: Body, bytes: &[u8]) -> Test
 
 // The checks that go by the numbers and the data.
 fn faults(f: Form, bytes: &[u8]) -> Test
-    ensures { λ r. ⌜ testOf r ≡ asked (faultsOf f (now (bytes .entry))) ⌝ }
+    ensures { λ r. ⌜ testOf r ≡ asked (writeFaults f (now (bytes .entry))) ⌝ }
 {
     let body = f.body;
     if f.known {

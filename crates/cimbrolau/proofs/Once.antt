@@ -99,7 +99,7 @@ wrapper-check-once wrapper r s e f = equal-once e f
 pub controllers-once : Fills wrapped.controllersCall
 controllers-once wrapper old r s new now a b = writes-once a b
 
-pub wrapper-canonical-once : Fills wrapped.canonicalCall
+pub wrapper-canonical-once : Fills wrapped.wrapperCanonicalCall
 wrapper-canonical-once wrapper old r s new now a b = writes-once a b
 
 pub message-read-once : (message : List ℕ) {r s : Told} → r ≡ told (reading (readMessage message)) → s ≡ told (reading (readMessage message)) → r ≡ s

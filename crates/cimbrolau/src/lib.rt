@@ -222,7 +222,7 @@ pub extern "C" fn cimbrolau_controllers(wrapper: &[u8], table: &mut [u8]) -> Ans
 
 #[no_mangle]
 pub extern "C" fn cimbrolau_wrapper_canonical(wrapper: &[u8], out: &mut [u8]) -> Answer
-    ensures { λ r. ⌜ Writes (wrapped.canonicalCall (length (now (out .entry))) (now (wrapper .entry))) (now (out .entry)) r (now (out .exit)) ⌝ }
+    ensures { λ r. ⌜ Writes (wrapped.wrapperCanonicalCall (length (now (out .entry))) (now (wrapper .entry))) (now (out .entry)) r (now (out .exit)) ⌝ }
 {
     dskc::canonical(wrapper, out)
 }

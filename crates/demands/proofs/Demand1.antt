@@ -41,7 +41,7 @@ use Rattle.kinds.specs.declared.Cell.{Cell}
 use Rattle.kinds.specs.declared.Form.{Form}
 use Rattle.kinds.specs.Kinds.{Kind, kinds, blank, paper, cells, okOf}
 use Rattle.messages.specs.declared.Reading.{Reading}
-use Rattle.messages.specs.Reading.{Content as MessageContent, reading, readMessage}
+use Rattle.messages.specs.Reading.{MessageAndData, reading, readMessage}
 use Rattle.messages.specs.Writing.{valueChecks, dataChecks, writeChecks, written, writeMessage}
 use Rattle.numbers.specs.declared.Numbers.{Numbers}
 use Rattle.numbers.specs.declared.Told.{Told}
@@ -91,15 +91,15 @@ answers o h = record {
 -- ---- readings
 
 -- taken and refused are told apart by the number, whatever else is answered
-reading-zero : {A : Type 0} (number : A → ℕ) (made : Outcome MessageContent → A) → ((c : MessageContent) → number (made (taken c)) ≡ 0) → ((n p : ℕ) → number (made (refused n p)) ≡ n)
-    → (o : Outcome MessageContent) → Faulty o → (r : A) → r ≡ made o → (number r ≡ 0) ↔ Taken o
+reading-zero : {A : Type 0} (number : A → ℕ) (made : Outcome MessageAndData → A) → ((c : MessageAndData) → number (made (taken c)) ≡ 0) → ((n p : ℕ) → number (made (refused n p)) ≡ n)
+    → (o : Outcome MessageAndData) → Faulty o → (r : A) → r ≡ made o → (number r ≡ 0) ↔ Taken o
 reading-zero number made t f (taken c) h r e = ((λ z. (c, refl)), λ _. ap number e ∙ t c)
 reading-zero number made t f (refused n p) h r e = (
   (λ z. absurd (omega (arith, ap number e ∙ f n p, fault-some n h))),
   λ (a, q). absurd (taken-refused (sym q)),
 )
 
-reads : (o : Outcome MessageContent) → Faulty o → ReadsMessage o
+reads : (o : Outcome MessageAndData) → Faulty o → ReadsMessage o
 reads o h = record {
   faults = h;
   zero = reading-zero (λ r. r .number) reading (λ c. refl) (λ n p. refl) o h;
@@ -110,14 +110,14 @@ reads o h = record {
 }
 
 -- by tag and numbers
-abbrev toldOf : Outcome MessageContent → Told
+abbrev toldOf : Outcome MessageAndData → Told
 toldOf o = told (reading o)
 
 nothing-told : numbersOf Nothing ≡ record { tag = 0; a = 0; b = 0; c = 0; d = 0 }
 unfolding paper
 nothing-told = refl
 
-tells : (o : Outcome MessageContent) → Faulty o → TellsMessage o
+tells : (o : Outcome MessageAndData) → Faulty o → TellsMessage o
 tells o h = record {
   faults = h;
   zero = reading-zero (λ r. r .number) toldOf (λ c. refl) (λ n p. refl) o h;

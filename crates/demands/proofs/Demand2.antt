@@ -225,7 +225,7 @@ wrappers = record {
 
 -- ---- messages
 
-said : (m : List ℕ) (k : Message) (d : List ℕ) → Says m k d → (c : messages.Content) × (messages.readMessage m ≡ taken c) × (c .message ≡ k) × (dataOf c m ≡ d)
+said : (m : List ℕ) (k : Message) (d : List ℕ) → Says m k d → (c : messages.MessageAndData) × (messages.readMessage m ≡ taken c) × (c .message ≡ k) × (dataOf c m ≡ d)
 said m k d s = let r = read-written k d (s .typed) (s .passes) in rw (← s .bytes) (told k d, r .reads, refl, r .bytes)
 
 message-exactly : (m : List ℕ) → Bytes m → Taken (messages.readMessage m) ↔ ((k : Message) × (d : List ℕ) × Says m k d)

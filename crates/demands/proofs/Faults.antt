@@ -12,12 +12,12 @@ use Rattle.kinds.specs.declared.Body.the-variants.{Empty, Bytes, Text}
 use Rattle.kinds.specs.declared.Cell.{Cell}
 use Rattle.kinds.specs.Kinds.{paper, cells, okOf}
 use Rattle.messages.specs.Fields.{fieldWidth, messageAt}
-use Rattle.messages.specs.Reading.{fieldChecks, bodyChecks, numbersEnd, messageContent, readChecks, readMessage}
+use Rattle.messages.specs.Reading.{cellChecks, bodyChecks, numbersEnd, messageContent, readChecks, readMessage}
 
 -- ---- the message
 
-fields-numbered : (ok : ℕ) (cs : List Cell) (at : ℕ) (m : List ℕ) → Numbered (fieldChecks ok cs at m)
-unfolding fieldChecks
+fields-numbered : (ok : ℕ) (cs : List Cell) (at : ℕ) (m : List ℕ) → Numbered (cellChecks ok cs at m)
+unfolding cellChecks
 fields-numbered ok [] at m = tt
 fields-numbered ok (c ∷ cs) at m = (refl, (refl, fields-numbered ok cs (at + fieldWidth ok (c .0)) m))
 
@@ -33,4 +33,4 @@ message-faulty m =
     let k = messageAt m in
     let f = paper k in
     checked-faulty (readChecks f m) (taken (messageContent k (f .body) (numbersEnd f) m))
-    (refl, (refl, (refl, every-append _ (fieldChecks (okOf f) (cells f) 2 m) (bodyChecks (f .body) (numbersEnd f) m) (fields-numbered (okOf f) (cells f) 2 m) (body-numbered (f .body) (numbersEnd f) m)))) tt
+    (refl, (refl, (refl, every-append _ (cellChecks (okOf f) (cells f) 2 m) (bodyChecks (f .body) (numbersEnd f) m) (fields-numbered (okOf f) (cells f) 2 m) (body-numbered (f .body) (numbersEnd f) m)))) tt

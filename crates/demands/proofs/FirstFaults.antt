@@ -98,13 +98,13 @@ file-first s n p =
 
 -- ---- a wrapper
 
-wrapper-first : (s : List ℕ) (n p : ℕ) → (wrapped.wrapperOf s ≡ refused n p) ↔ FirstOr (wrapped.headerChecks s) n p (FaultAt 16 (listAt controllers (drop 16 s)) n p)
+wrapper-first : (s : List ℕ) (n p : ℕ) → (wrapped.wrapperOf s ≡ refused n p) ↔ FirstOr (wrapped.wrapperHeaderChecks s) n p (FaultAt 16 (listAt controllers (drop 16 s)) n p)
 unfolding wrapped.wrapperOf
 wrapper-first s n p =
-    let all = then-first (wrapped.headerChecks s) (moved 16 (listAt controllers (drop 16 s))) n p in
+    let all = then-first (wrapped.wrapperHeaderChecks s) (moved 16 (listAt controllers (drop 16 s))) n p in
     let part = moved-first 16 (listAt controllers (drop 16 s)) n p in (
-      (λ e. or-else (wrapped.headerChecks s) n p (λ _ h. part .0 h) (all .0 e)),
-      λ f. all .1 (or-else (wrapped.headerChecks s) n p (λ _ h. part .1 h) f),
+      (λ e. or-else (wrapped.wrapperHeaderChecks s) n p (λ _ h. part .0 h) (all .0 e)),
+      λ f. all .1 (or-else (wrapped.wrapperHeaderChecks s) n p (λ _ h. part .1 h) f),
     )
 
 -- ---- a list

@@ -30,20 +30,20 @@ use Rattle.dskc.specs.Wrapper.{wrapperOf}
 use Rattle.ready.specs.declared.Readiness.{Readiness}
 use Rattle.ready.specs.Missing.{hasId, withId, isTaken, oneWrapper, Need, wantedDevice, wanted, nameIn, lacking, missing, pairBytes, pairsBytes, readyCall, asReadiness, Tells}
 use Rattle.ready.proofs.Once.{tells-once}
-use Rattle.demands.specs.Ready.{Has, OneWrapper, Restorable, Lacks, pit, rtc, wrapper, i8042, acpi-pm, hpet, controller, disk-0, disk-1, Listed, pairKey, IsMissing, Says, Refuses, Ready}
+use Rattle.demands.specs.Ready.{HasEntry, OneWrapper, Restorable, Lacks, pit, rtc, wrapper, i8042, acpi-pm, hpet, controller, disk-0, disk-1, PairIn, pairKey, IsMissing, SaysReady, Refuses, ReadyToRestore}
 
 -- ---- an id that an entry has
 
-has-some : (k : ℕ) (l : List (List ℕ)) → hasId k l ≡ true → Has k l
+has-some : (k : ℕ) (l : List (List ℕ)) → hasId k l ≡ true → HasEntry k l
 unfolding has
 has-some k [] h = let z : _≡_ {A = ℕ} 0 1 = cc in absurd (omega arith)
 has-some k (e ∷ l) h = go (eqb k (idKey e)) refl h (has-some k l)
   where
-    go : (b : Bool) → eqb k (idKey e) ≡ b → _≡_ {A = Bool} (elim b as (λ _. Bool) [ true ↦ true | false ↦ hasId k l ]) true → (hasId k l ≡ true → Has k l) → (idKey e ≡ k) ⊎ Has k l
+    go : (b : Bool) → eqb k (idKey e) ≡ b → _≡_ {A = Bool} (elim b as (λ _. Bool) [ true ↦ true | false ↦ hasId k l ]) true → (hasId k l ≡ true → HasEntry k l) → (idKey e ≡ k) ⊎ HasEntry k l
     go true q h r = inl (sym (eqb-true k (idKey e) q))
     go false q h r = inr (r h)
 
-some-has : (k : ℕ) (l : List (List ℕ)) → Has k l → hasId k l ≡ true
+some-has : (k : ℕ) (l : List (List ℕ)) → HasEntry k l → hasId k l ≡ true
 unfolding has
 some-has k [] h = absurd h
 some-has k (e ∷ l) (inl h) = rw (eq-eqb k (idKey e) (sym h), has)
@@ -69,7 +69,7 @@ module _ {b : Bool} {P : Type 0} (t : Tests b P) where
       go true e = absurd (h (t .holds e))
       go false e = refl
 
-has-tests : (k : ℕ) (l : List (List ℕ)) → Tests (hasId k l) (Has k l)
+has-tests : (k : ℕ) (l : List (List ℕ)) → Tests (hasId k l) (HasEntry k l)
 has-tests k l = record { holds = has-some k l; says = some-has k l }
 
 either-tests : {a b : Bool} {P Q : Type 0} → Tests a P → Tests b Q → Tests (a || b) (P ⊎ Q)
@@ -102,7 +102,7 @@ wrapper-tests l = record { holds = go (withId 6 l) refl; says = λ (e, q, w). rw
     go (x ∷ []) e h = (x, e, taken-tests (wrapperOf (drop 16 x)) .holds (rw e at h))
     go (x ∷ y ∷ m) e h = let q : oneWrapper (withId 6 l) ≡ false = rw e in let z : _≡_ {A = ℕ} 0 1 = cc in absurd (omega arith)
 
-controller-tests : (l : List (List ℕ)) → Tests (hasId 2 l || hasId 21 l) (Has 2 l ⊎ Has 21 l)
+controller-tests : (l : List (List ℕ)) → Tests (hasId 2 l || hasId 21 l) (HasEntry 2 l ⊎ HasEntry 21 l)
 controller-tests l = either-tests (has-tests 2 l) (has-tests 21 l)
 
 -- ---- what is missing
@@ -133,17 +133,17 @@ module _ (c : Content) where
     ),
   )
 
-  listed-lacks : (part id : ℕ) (ns : List Need) → Every (λ n. n .there c ≡ false → Lacks c (n .part) (n .id)) ns → Listed part id (flat (lacking c) ns) → Lacks c part id
+  listed-lacks : (part id : ℕ) (ns : List Need) → Every (λ n. n .there c ≡ false → Lacks c (n .part) (n .id)) ns → PairIn part id (flat (lacking c) ns) → Lacks c part id
   listed-lacks part id [] m h = absurd h
   listed-lacks part id (n ∷ ns) m h = go (n .there c) refl h (listed-lacks part id ns (m .1))
     where
-      go : (b : Bool) → n .there c ≡ b → Listed part id (cond b [] (nameIn n ∷ []) ++ flat (lacking c) ns) → (Listed part id (flat (lacking c) ns) → Lacks c part id) → Lacks c part id
+      go : (b : Bool) → n .there c ≡ b → PairIn part id (cond b [] (nameIn n ∷ []) ++ flat (lacking c) ns) → (PairIn part id (flat (lacking c) ns) → Lacks c part id) → Lacks c part id
       go true e h r = r h
       go false e (inl (p, q)) r = rw (← p, ← q) (m .0 e)
       go false e (inr h) r = r h
 
   -- the need with a number, if it is not met, is listed
-  listed-in : (ns : List Need) (i : ℕ) → i < length ns → getD ns i (wantedDevice 0) .there c ≡ false → Listed (getD ns i (wantedDevice 0) .part) (getD ns i (wantedDevice 0) .id) (flat (lacking c) ns)
+  listed-in : (ns : List Need) (i : ℕ) → i < length ns → getD ns i (wantedDevice 0) .there c ≡ false → PairIn (getD ns i (wantedDevice 0) .part) (getD ns i (wantedDevice 0) .id) (flat (lacking c) ns)
   listed-in [] i h e = absurd (omega arith)
   listed-in (n ∷ ns) zero h e = rw e (inl (refl, refl))
   listed-in (n ∷ ns) (suc i) h e = go (n .there c) (listed-in ns i (omega arith) e)
@@ -151,11 +151,11 @@ module _ (c : Content) where
       m : Need
       m = getD ns i (wantedDevice 0)
 
-      go : (b : Bool) → Listed (m .part) (m .id) (flat (lacking c) ns) → Listed (m .part) (m .id) (cond b [] (nameIn n ∷ []) ++ flat (lacking c) ns)
+      go : (b : Bool) → PairIn (m .part) (m .id) (flat (lacking c) ns) → PairIn (m .part) (m .id) (cond b [] (nameIn n ∷ []) ++ flat (lacking c) ns)
       go true h = h
       go false h = inr h
 
-  lacks-listed : (part id : ℕ) → Lacks c part id → Listed part id (missing c)
+  lacks-listed : (part id : ℕ) → Lacks c part id → PairIn part id (missing c)
   lacks-listed part id (pit h) = listed-in wanted 0 (omega arith) (not-held (has-tests 3 (c .devices)) h)
   lacks-listed part id (rtc h) = listed-in wanted 1 (omega arith) (not-held (has-tests 4 (c .devices)) h)
   lacks-listed part id (wrapper h) = listed-in wanted 2 (omega arith) (not-held (wrapper-tests (c .devices)) h)
@@ -259,7 +259,7 @@ data Ends (s old : List ℕ) (r : Readiness) (new : List ℕ) : Type 0 where
   short : (c : Content) → contentAt s ≡ taken c → length old < length (pairsBytes (missing c)) → r .number ≡ ROOM → r .place ≡ length (pairsBytes (missing c)) → r .ready ≡ 0 → new ≡ old → Ends s old r new
   told : (c : Content) → contentAt s ≡ taken c → Given (pairsBytes (missing c)) r → new ≡ pairsBytes (missing c) ++ drop (length (pairsBytes (missing c))) old → Ends s old r new
 
-ends : (s old new : List ℕ) (r : Readiness) → Says s old r new → Ends s old r new
+ends : (s old new : List ℕ) (r : Readiness) → SaysReady s old r new → Ends s old r new
 unfolding readyCall
 ends s old new r v = go (contentAt s) refl
   where
@@ -355,7 +355,7 @@ any-order have l m f g p q =
     ∙ ap (λ (z : List (ℕ × ℕ)). fitting have (pairsBytes z)) (same-missing (contentOf l) (contentOf m) (sort-unique (devices .key) p (entries-apart l f .0)) (sort-unique (disks .key) q (entries-apart l f .1)))
     ∙ sym (call m g)
 
-pub ready : Ready
+pub ready : ReadyToRestore
 ready = record {
   yes-exactly = λ s old new r v. yes-exactly s old new r (ends s old new r v);
   yes-or-no = λ s old new r v. yes-or-no s old new r (ends s old new r v);

@@ -29,7 +29,7 @@ use Rattle.cards.specs.declared.Edited.{Edited}
 use Rattle.cards.specs.Cards.{openAnswer, answerBeside, editCard}
 use Rattle.cards.specs.Calls.{openCall}
 use Rattle.fields.specs.declared.State.{State}
-use Rattle.fields.specs.Fields.{setCall, stored, Changes}
+use Rattle.fields.specs.Fields.{setCall, storedAnswer, Changes}
 use Rattle.demands.proofs.Rings.{rings}
 use Rattle.demands.proofs.Ready.{ready}
 use Rattle.demands.proofs.Sheet.{sheet}
@@ -56,7 +56,7 @@ verdict-not : {A : Type 0} (o : Outcome A) → Faulty o → (r : Answer) → r �
 verdict-not (taken a) h r e k = zero-not (r .number) (ap (λ (x : Answer). x .number) e) k
 verdict-not (refused n p) h r e k = number-not n (fault-number n h) (sym (ap (λ (x : Answer). x .number) e) ∙ k)
 
-reading-not : (o : Outcome messages.Content) → Faulty o → (r : Reading) → r ≡ messages.reading o → r .number ≢ withdrawn
+reading-not : (o : Outcome messages.MessageAndData) → Faulty o → (r : Reading) → r ≡ messages.reading o → r .number ≢ withdrawn
 reading-not (taken a) h r e k = zero-not (r .number) (ap (λ (x : Reading). x .number) e) k
 reading-not (refused n p) h r e k = number-not n (fault-number n h) (sym (ap (λ (x : Reading). x .number) e) ∙ k)
 
@@ -89,7 +89,7 @@ meta-not file r e = go (checkCall file) refl (demand1 .check file .faults)
 set-not : (k : State) (s : List ℕ) (n i : ℕ) (v new : List ℕ) (r : Answer) → Changes (length v) (setCall k s n i v) s r new → r .number ≢ withdrawn
 set-not k s n i v new r w = go (setCall k s n i v) refl (w .answers)
   where
-    go : (o : Outcome (List ℕ)) → setCall k s n i v ≡ o → r ≡ stored (length v) o → r .number ≢ withdrawn
+    go : (o : Outcome (List ℕ)) → setCall k s n i v ≡ o → r ≡ storedAnswer (length v) o → r .number ≢ withdrawn
     go (taken b) q e = zero-not (r .number) (ap (λ (x : Answer). x .number) e)
     go (refused m p) q e = λ z.
         let j : m ≡ withdrawn = sym (ap (λ (x : Answer). x .number) e) ∙ z in

@@ -27,7 +27,7 @@ use Rattle.region.specs.declared.Cursors.{Cursors}
 use Rattle.region.specs.Report.{asCursors, reportCall}
 use Rattle.region.specs.Valid.{Valid}
 use Rattle.region.proofs.Taken.{region-taken, pass-queues, queue-pass}
-use Rattle.rings.specs.Records.{moved, size, need}
+use Rattle.rings.specs.Records.{advanced, recordSize, need}
 use Rattle.rings.specs.Calls.{Stores, stored, count, asAnswer, asPair, asRecord, Leaves, reserveChecks, reserveCall, fillChecks, fillStores, fillCall, commitChecks, commitCall, skipAt, takeChecks, takeIn, takeCall}
 use Rattle.rings.specs.Use as use-of
 use Rattle.rings.specs.Use.{OpenPairs, Used, Course, Next}
@@ -39,7 +39,7 @@ use Rattle.kinds.specs.Kinds.{paper, cells}
 use Rattle.messages.specs.Reading as messages
 use Rattle.messages.specs.Writing.{writeChecks, written, writeMessage}
 use Rattle.demands.specs.Demand2.{Within, dataOf, Says}
-use Rattle.demands.specs.Rings.{Changes, Looks, RegionCalls, Exactly, ring, RegionRules, takenBytes, Rings}
+use Rattle.demands.specs.Rings.{RingCall, Looks, RegionCalls, Exactly, ring, RegionRules, takenBytes, Rings}
 use Rattle.demands.proofs.Demand1.{demand1}
 use Rattle.demands.proofs.Demand2.{demand2}
 
@@ -131,7 +131,7 @@ module _ {A R : Type 0} (f : Outcome (Stores × A) → R) (number place : R → 
       let h = k .0 in
       absurd (omega arith)
 
-  changes : (call : List ℕ → Outcome (Stores × A)) → ((b : List ℕ) → Refuses (Own (REGION ∷ own)) (call b)) → Changes f number place own call
+  changes : (call : List ℕ → Outcome (Stores × A)) → ((b : List ℕ) → Refuses (Own (REGION ∷ own)) (call b)) → RingCall f number place own call
   changes call k = record {
     stays = λ b. stays-so (call b) (k b) b;
     stores = λ b. stores-so (call b) (k b) b;
@@ -205,7 +205,7 @@ exactly {A} b q rows a = record {
   );
 }
 
-reserve-exactly : (b : List ℕ) (q n : ℕ) → let r = ring b q in let end = moved (r .reserve) (need (r .capacity) (r .reserve) n) in
+reserve-exactly : (b : List ℕ) (q n : ℕ) → let r = ring b q in let end = advanced (r .reserve) (need (r .capacity) (r .reserve) n) in
     Exactly (reserveCall b q n) b q (reserveChecks r n) ((offsetOf b q + 4, bytesOf 4 end) ∷ [], (r .reserve, end))
 unfolding reserveCall
 reserve-exactly b q n = exactly b q (reserveChecks (ring b q) n) _
@@ -219,7 +219,7 @@ unfolding commitCall
 commit-exactly b q start end = exactly b q (commitChecks (ring b q) start end) _
 
 take-exactly : (b : List ℕ) (q : ℕ) → let r = ring b q in let s = skipAt b (offsetOf b q) (r .capacity) (r .head) in let at = offsetOf b q + 16 + (r .head + s) % r .capacity in
-    Exactly (takeCall b q) b q (takeChecks r s (leAt 4 b at)) ((offsetOf b q, bytesOf 4 (moved (r .head) (s + size (leAt 4 b at)))) ∷ [], (at + 4, leAt 4 b at))
+    Exactly (takeCall b q) b q (takeChecks r s (leAt 4 b at)) ((offsetOf b q, bytesOf 4 (advanced (r .head) (s + recordSize (leAt 4 b at)))) ∷ [], (at + 4, leAt 4 b at))
 unfolding takeCall takeIn
 take-exactly b q = exactly b q (takeChecks (ring b q) _ _) _
 
@@ -246,9 +246,9 @@ wrote k d old new r typed w z =
     record { typed = typed; passes = append-pass (writeChecks (paper k) d) _ (y .0) .0; bytes = taken-is (y .1) ∙ sym e }
 
 sent : (k : Message) (d old new : List ℕ) (r : Answer) → Within (cells (paper k)) → Writes (writeMessage k d (length old)) old r new → r .number ≡ 0
-    → {q : ℕ} {b c : List ℕ} (before behind : use-of.Messages) {ns : use-of.Messages} {ps qs : OpenPairs}
+    → {q : ℕ} {b c : List ℕ} (before behind : use-of.MessageList) {ns : use-of.MessageList} {ps qs : OpenPairs}
     → Used q b (before ++ take (r .place) new ∷ behind) ps → Course q b (before ++ take (r .place) new ∷ behind) ps c ns qs (length before)
-    → (n : Next q c (take (r .place) new)) × (x : messages.Content)
+    → (n : Next q c (take (r .place) new)) × (x : messages.MessageAndData)
     × (messages.readMessage (takenBytes n) ≡ taken x) × (x .message ≡ k) × (dataOf x (takenBytes n) ≡ d)
 sent k d old new r typed w z before behind u course =
     let n = in-turn before behind u course in

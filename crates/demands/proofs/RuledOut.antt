@@ -38,7 +38,7 @@ use Rattle.messages.specs.declared.Reading.{Reading}
 use Rattle.messages.specs.Writing.{fieldBytes, formBytes, valueChecks, writeChecks, written, writeMessage}
 use Rattle.numbers.specs.declared.Numbers.{Numbers}
 use Rattle.numbers.specs.Numbers.{messageOf, writeNumbers}
-use Rattle.demands.specs.Examples.{empty, u32, withDevices, oneByte, twoBytes, fourteenThree, threeFourteen, noDevices}
+use Rattle.demands.specs.Examples.{empty, u32Bytes, withDevices, oneByte, twoBytes, fourteenThree, threeFourteen, noDevices}
 use Rattle.demands.specs.RuledOut.{Program, Takes, output, Useful, RuledOut, EditProgram, TakesEdit, editOutput, RunsBeside, RuledOutBeside}
 use Rattle.demands.proofs.Examples.{examples}
 use Rattle.demands.proofs.Beside.{bare-call}
@@ -95,7 +95,7 @@ file-useful =
     (longs (λ (z : _≡_ {A = ℕ} 16 71). omega arith)) (longs (λ (z : _≡_ {A = ℕ} 16 36). omega arith))
 
 abbrev noControllers : List ℕ
-noControllers = wrapped.header ++ (0 ∷ 0 ∷ 0 ∷ 0 ∷ [])
+noControllers = wrapped.wrapperHeader ++ (0 ∷ 0 ∷ 0 ∷ 0 ∷ [])
 
 -- bus 1 before bus 0, and in address order
 abbrev far : List ℕ
@@ -105,11 +105,11 @@ abbrev near : List ℕ
 near = 250 ∷ 0 ∷ 0 ∷ 0 ∷ 65 ∷ 72 ∷ 67 ∷ 73 ∷ 2 ∷ 0 ∷ 0 ∷ 0 ∷ 171 ∷ 205 ∷ []
 
 abbrev two : List ℕ → List ℕ → List ℕ
-two e f = wrapped.header ++ (2 ∷ 0 ∷ 0 ∷ 0 ∷ (e ++ f))
+two e f = wrapped.wrapperHeader ++ (2 ∷ 0 ∷ 0 ∷ 0 ∷ (e ++ f))
 
-wrapper-useful : Useful wrapped.canonicalCall (λ wrapper. wrapper)
+wrapper-useful : Useful wrapped.wrapperCanonicalCall (λ wrapper. wrapper)
 wrapper-useful =
-    useful wrapped.canonicalCall (λ w. w) 47 (two far near) (two near far) (wrapper.examples .canonical) 20 noControllers noControllers (wrapper.examples .none)
+    useful wrapped.wrapperCanonicalCall (λ w. w) 47 (two far near) (two near far) (wrapper.examples .canonical) 20 noControllers noControllers (wrapper.examples .none)
     (longs (λ (z : _≡_ {A = ℕ} 47 20). omega arith)) (λ e. let z : _≡_ {A = ℕ} 250 0 = ap (λ (l : List ℕ). getD l 20 0) e in omega arith)
 
 abbrev value15 : List ℕ
@@ -209,22 +209,22 @@ three = add (device 3 1 0 (0xAB ∷ 0xCD ∷ []))
 abbrev fourteen : Edit
 fourteen = add (device 14 1 0 (0x11 ∷ []))
 
-three-added : editCard 54 nothingYet empty three ≡ taken (withDevices 22 (u32 1 ++ twoBytes 3), record { length = 54; sections = 1; devices = 1; payloads = 2 })
+three-added : editCard 54 nothingYet empty three ≡ taken (withDevices 22 (u32Bytes 1 ++ twoBytes 3), record { length = 54; sections = 1; devices = 1; payloads = 2 })
 unfolding leAt le bytesOf insert has read split entryAt walk listAt payload ruled sectionOf sections fileOf editTo editCard editCardTo
 three-added = refl
 
-fourteen-added : editCard 53 nothingYet empty fourteen ≡ taken (withDevices 21 (u32 1 ++ oneByte 14), record { length = 53; sections = 1; devices = 1; payloads = 1 })
+fourteen-added : editCard 53 nothingYet empty fourteen ≡ taken (withDevices 21 (u32Bytes 1 ++ oneByte 14), record { length = 53; sections = 1; devices = 1; payloads = 1 })
 unfolding leAt le bytesOf insert has read split entryAt walk listAt payload ruled sectionOf sections fileOf editTo editCard editCardTo
 fourteen-added = refl
 
 module _ (P : EditProgram) where
-  one-edit : TakesEdit P nothingYet empty three (lent 54) × (P .answers nothingYet empty three (lent 54) .place ≡ 54) × (editOutput P nothingYet empty three (lent 54) ≡ withDevices 22 (u32 1 ++ twoBytes 3))
+  one-edit : TakesEdit P nothingYet empty three (lent 54) × (P .answers nothingYet empty three (lent 54) .place ≡ 54) × (editOutput P nothingYet empty three (lent 54) ≡ withDevices 22 (u32Bytes 1 ++ twoBytes 3))
       × (P .answers nothingYet empty three (lent 54) .card ≡ record { length = 54; sections = 1; devices = 1; payloads = 2 })
-  one-edit = edit-made P nothingYet empty three (lent 54) (withDevices 22 (u32 1 ++ twoBytes 3)) (record { length = 54; sections = 1; devices = 1; payloads = 2 }) (ap (λ (n : ℕ). editCard n nothingYet empty three) (length-replicate {A = ℕ} 54 0) ∙ three-added)
+  one-edit = edit-made P nothingYet empty three (lent 54) (withDevices 22 (u32Bytes 1 ++ twoBytes 3)) (record { length = 54; sections = 1; devices = 1; payloads = 2 }) (ap (λ (n : ℕ). editCard n nothingYet empty three) (length-replicate {A = ℕ} 54 0) ∙ three-added)
 
-  other-edit : TakesEdit P nothingYet empty fourteen (lent 53) × (P .answers nothingYet empty fourteen (lent 53) .place ≡ 53) × (editOutput P nothingYet empty fourteen (lent 53) ≡ withDevices 21 (u32 1 ++ oneByte 14))
+  other-edit : TakesEdit P nothingYet empty fourteen (lent 53) × (P .answers nothingYet empty fourteen (lent 53) .place ≡ 53) × (editOutput P nothingYet empty fourteen (lent 53) ≡ withDevices 21 (u32Bytes 1 ++ oneByte 14))
       × (P .answers nothingYet empty fourteen (lent 53) .card ≡ record { length = 53; sections = 1; devices = 1; payloads = 1 })
-  other-edit = edit-made P nothingYet empty fourteen (lent 53) (withDevices 21 (u32 1 ++ oneByte 14)) (record { length = 53; sections = 1; devices = 1; payloads = 1 }) (ap (λ (n : ℕ). editCard n nothingYet empty fourteen) (length-replicate {A = ℕ} 53 0) ∙ fourteen-added)
+  other-edit = edit-made P nothingYet empty fourteen (lent 53) (withDevices 21 (u32Bytes 1 ++ oneByte 14)) (record { length = 53; sections = 1; devices = 1; payloads = 1 }) (ap (λ (n : ℕ). editCard n nothingYet empty fourteen) (length-replicate {A = ℕ} 53 0) ∙ fourteen-added)
 
 pub ruled-out-beside : RuledOutBeside
 ruled-out-beside = record {

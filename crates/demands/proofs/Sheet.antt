@@ -30,7 +30,7 @@ use Rattle.fields.specs.declared.State.{State}
 use Rattle.fields.specs.declared.State.the-variants.{Cpu, Mmu}
 use Rattle.fields.specs.declared.Row.{Row}
 use Rattle.fields.specs.Layout.{rowAt}
-use Rattle.fields.specs.Fields.{rightLength, listed, valueChecks, stateChecks, placeOf, hasIn, bytesAt, fieldChecks, fieldCall, setTo, setChecks, setCall, stored, changed, Changes}
+use Rattle.fields.specs.Fields.{rightLength, listedNumbers, rangeChecks, stateChecks, fieldPlace, hasIn, bytesAt, fieldChecks, fieldCall, setTo, setChecks, setCall, storedAnswer, memoryAfter, Changes}
 use Rattle.fields.proofs.Bytes.{before, behind, read-back}
 use Rattle.fields.proofs.Splices.{splice-back}
 use Rattle.fields.proofs.Outcomes.{set-tried, set-right}
@@ -49,7 +49,7 @@ use Rattle.mmu_sheet.proofs.Back.{mmu-over}
 use Rattle.sheet.proofs.Ties.{cpu-ties}
 use Rattle.mmu_sheet.proofs.Ties.{mmu-ties}
 use Rattle.demands.specs.Sheet as stated
-use Rattle.demands.specs.Sheet.{Accepted, Has}
+use Rattle.demands.specs.Sheet.{Accepted, HasField}
 use Rattle.aerosnap.proofs.Refusals.{checked-refuses}
 use Rattle.demands.proofs.Demand1.{Plain, plain, Rows, Core, fills}
 
@@ -66,18 +66,18 @@ unfolding stateChecks
 right k s e = accept-pass k s e .0
 
 -- a field that a state has lies within it
-within : (r : Row) (i len : ℕ) → hasIn r i len ≡ true → placeOf r i + r .width ≤ len
-within r i len h = leb-true (placeOf r i + r .width) len (and-true (ltb i (r .count)) (leb (placeOf r i + r .width) len) h .1)
+within : (r : Row) (i len : ℕ) → hasIn r i len ≡ true → fieldPlace r i + r .width ≤ len
+within r i len h = leb-true (fieldPlace r i + r .width) len (and-true (ltb i (r .count)) (leb (fieldPlace r i + r .width) len) h .1)
 
 wide : (r : Row) (i : ℕ) (s : List ℕ) → hasIn r i (length s) ≡ true → length (bytesAt r i s) ≡ r .width
 wide r i s h =
     let g = within r i (length s) h in
-    length-take-le (r .width) (drop (placeOf r i) s) (rw (length-drop) (omega (arith, g)))
+    length-take-le (r .width) (drop (fieldPlace r i) s) (rw (length-drop) (omega (arith, g)))
 
 -- ---- reading
 
 module _ (k : State) (n i : ℕ) (s : List ℕ) where
-  has-of : Pass (fieldChecks k (rowAt k n) i s) → Has k n i s
+  has-of : Pass (fieldChecks k (rowAt k n) i s) → HasField k n i s
   unfolding fieldChecks
   has-of h = h .1 .0
 
@@ -85,16 +85,16 @@ module _ (k : State) (n i : ℕ) (s : List ℕ) where
   unfolding fieldChecks stateChecks
   accepted-of h = pass-accept k s (h .0, h .1 .1)
 
-  checks-of : Accepted k s → Has k n i s → Pass (fieldChecks k (rowAt k n) i s)
+  checks-of : Accepted k s → HasField k n i s → Pass (fieldChecks k (rowAt k n) i s)
   unfolding fieldChecks stateChecks
   checks-of a h = let p = accept-pass k s a in (p .0, (h, p .1))
 
   -- what is read of an accepted state that has the field
-  reads : (have : ℕ) → Accepted k s → Has k n i s → fieldCall k have s n i ≡ fitting have (bytesAt (rowAt k n) i s)
+  reads : (have : ℕ) → Accepted k s → HasField k n i s → fieldCall k have s n i ≡ fitting have (bytesAt (rowAt k n) i s)
   unfolding fieldCall
   reads have a h = pass-checked (fieldChecks k (rowAt k n) i s) (fitting have (bytesAt (rowAt k n) i s)) (checks-of a h)
 
-  read-to : (have : ℕ) (x : List ℕ) → fieldCall k have s n i ≡ taken x → Accepted k s × Has k n i s × (length x ≤ have) × (x ≡ bytesAt (rowAt k n) i s)
+  read-to : (have : ℕ) (x : List ℕ) → fieldCall k have s n i ≡ taken x → Accepted k s × HasField k n i s × (length x ≤ have) × (x ≡ bytesAt (rowAt k n) i s)
   unfolding fieldCall
   read-to have x e =
       let b = bytesAt (rowAt k n) i s in
@@ -103,7 +103,7 @@ module _ (k : State) (n i : ℕ) (s : List ℕ) where
       let same : b ≡ x = taken-is (q .1) in
       (accepted-of (p .0), has-of (p .0), subst (λ (l : List ℕ). length l ≤ have) same (leb-true (length b) have (q .0 .0)), sym same)
 
-  read-from : (have : ℕ) (x : List ℕ) → Accepted k s × Has k n i s × (length x ≤ have) × (x ≡ bytesAt (rowAt k n) i s) → fieldCall k have s n i ≡ taken x
+  read-from : (have : ℕ) (x : List ℕ) → Accepted k s × HasField k n i s × (length x ≤ have) × (x ≡ bytesAt (rowAt k n) i s) → fieldCall k have s n i ≡ taken x
   read-from have x h =
       let b = bytesAt (rowAt k n) i s in
       let g : length b ≤ have = subst (λ (l : List ℕ). length l ≤ have) (h .3) (h .2) in
@@ -123,10 +123,10 @@ module _ (k : State) (n i : ℕ) (v s : List ℕ) where
   abbrev r : Row
   r = rowAt k n
 
-  set-length : Has k n i s → length v ≡ r .width → length (setTo r i v s) ≡ length s
-  set-length h w = let g = within r i (length s) h in length-splice (placeOf r i) v s (omega (arith, g, w))
+  set-length : HasField k n i s → length v ≡ r .width → length (setTo r i v s) ≡ length s
+  set-length h w = let g = within r i (length s) h in length-splice (fieldPlace r i) v s (omega (arith, g, w))
 
-  set-to : (t : List ℕ) → setCall k s n i v ≡ taken t → Has k n i s × (length v ≡ r .width) × Accepted k t × (t ≡ setTo r i v s)
+  set-to : (t : List ℕ) → setCall k s n i v ≡ taken t → HasField k n i s × (length v ≡ r .width) × Accepted k t × (t ≡ setTo r i v s)
   unfolding setCall setChecks
   set-to t e =
       let q = checked-pass (setChecks k r i v s) (taken (setTo r i v s)) t e in
@@ -136,7 +136,7 @@ module _ (k : State) (n i : ℕ) (v s : List ℕ) where
       let a : Accepted k (setTo r i v s) = sym (set-tried k r i v s (taken tt) (p .0) (p .1 .0) (p .1 .1 .0)) ∙ pass-checked (setChecks k r i v s) (taken tt) p in
       (p .1 .0, w, subst (λ (l : List ℕ). Accepted k l) same a, sym same)
 
-  set-from : (t : List ℕ) → Has k n i s × (length v ≡ r .width) × Accepted k t × (t ≡ setTo r i v s) → setCall k s n i v ≡ taken t
+  set-from : (t : List ℕ) → HasField k n i s × (length v ≡ r .width) × Accepted k t × (t ≡ setTo r i v s) → setCall k s n i v ≡ taken t
   unfolding setCall
   set-from t h =
       let new = setTo r i v s in
@@ -149,30 +149,30 @@ module _ (k : State) (n i : ℕ) (v s : List ℕ) where
   set-refuses m p = checked-first (setChecks k r i v s) (setTo r i v s) m p
 
   set-only : (new : List ℕ) (a : Answer) → Changes (length v) (setCall k s n i v) s a new
-      → (length new ≡ length s) × ((j : ℕ) → (j < placeOf r i) ⊎ (placeOf r i + r .width ≤ j) → getD new j 0 ≡ getD s j 0)
+      → (length new ≡ length s) × ((j : ℕ) → (j < fieldPlace r i) ⊎ (fieldPlace r i + r .width ≤ j) → getD new j 0 ≡ getD s j 0)
   set-only new a c = go (setCall k s n i v) refl (c .leaves)
     where
-      go : (o : Outcome (List ℕ)) → setCall k s n i v ≡ o → new ≡ changed o s → (length new ≡ length s) × ((j : ℕ) → (j < placeOf r i) ⊎ (placeOf r i + r .width ≤ j) → getD new j 0 ≡ getD s j 0)
+      go : (o : Outcome (List ℕ)) → setCall k s n i v ≡ o → new ≡ memoryAfter o s → (length new ≡ length s) × ((j : ℕ) → (j < fieldPlace r i) ⊎ (fieldPlace r i + r .width ≤ j) → getD new j 0 ≡ getD s j 0)
       go (taken t) e f =
           let q = set-to t e in
           let is : new ≡ setTo r i v s = f ∙ q .3 in
           let g = within r i (length s) (q .0) in
-          let fits : placeOf r i + length v ≤ length s = omega (arith, g, q .1) in
+          let fits : fieldPlace r i + length v ≤ length s = omega (arith, g, q .1) in
           (ap length is ∙ set-length (q .0) (q .1), λ j side. ap (λ (l : List ℕ). getD l j 0) is ∙ outside fits (q .1) j side)
         where
-          outside : placeOf r i + length v ≤ length s → length v ≡ r .width → (j : ℕ) → (j < placeOf r i) ⊎ (placeOf r i + r .width ≤ j) → getD (setTo r i v s) j 0 ≡ getD s j 0
-          outside fits w j (inl h) = before (placeOf r i) v s fits j h
-          outside fits w j (inr h) = behind (placeOf r i) v s fits j (omega (arith, w))
+          outside : fieldPlace r i + length v ≤ length s → length v ≡ r .width → (j : ℕ) → (j < fieldPlace r i) ⊎ (fieldPlace r i + r .width ≤ j) → getD (setTo r i v s) j 0 ≡ getD s j 0
+          outside fits w j (inl h) = before (fieldPlace r i) v s fits j h
+          outside fits w j (inr h) = behind (fieldPlace r i) v s fits j (omega (arith, w))
       go (refused m p) e f = (ap length f, λ j side. ap (λ (l : List ℕ). getD l j 0) f)
 
   set-back : (have : ℕ) (t : List ℕ) → setCall k s n i v ≡ taken t → fieldCall k have t n i ≡ fitting have v
   set-back have t e =
       let q = set-to t e in
       let g = within r i (length s) (q .0) in
-      let fits : placeOf r i + length v ≤ length s = omega (arith, g, q .1) in
+      let fits : fieldPlace r i + length v ≤ length s = omega (arith, g, q .1) in
       let long : length t ≡ length s = ap length (q .3) ∙ set-length (q .0) (q .1) in
-      let h : Has k n i t = subst (λ (m : ℕ). hasIn r i m ≡ true) (sym long) (q .0) in
-      let b : bytesAt r i t ≡ v = ap (λ (l : List ℕ). take (r .width) (drop (placeOf r i) l)) (q .3) ∙ ap (λ (w : ℕ). take w (drop (placeOf r i) (setTo r i v s))) (sym (q .1)) ∙ read-back (placeOf r i) v s fits in
+      let h : HasField k n i t = subst (λ (m : ℕ). hasIn r i m ≡ true) (sym long) (q .0) in
+      let b : bytesAt r i t ≡ v = ap (λ (l : List ℕ). take (r .width) (drop (fieldPlace r i) l)) (q .3) ∙ ap (λ (w : ℕ). take w (drop (fieldPlace r i) (setTo r i v s))) (sym (q .1)) ∙ read-back (fieldPlace r i) v s fits in
       reads k n i t have (q .2) h ∙ ap (fitting have) b
 
 set-same : (k : State) (n i have : ℕ) (v s : List ℕ) → fieldCall k have s n i ≡ taken v → setCall k s n i v ≡ taken s
@@ -181,7 +181,7 @@ set-same k n i have v s e =
     let q = read-to k n i s have v e in
     let g = within r i (length s) (q .1) in
     let w : length v ≡ r .width = ap length (q .3) ∙ wide r i s (q .1) in
-    let is : s ≡ setTo r i v s = sym (ap (λ (l : List ℕ). setTo r i l s) (q .3) ∙ splice-back (placeOf r i) (r .width) s g) in
+    let is : s ≡ setTo r i v s = sym (ap (λ (l : List ℕ). setTo r i l s) (q .3) ∙ splice-back (fieldPlace r i) (r .width) s g) in
     set-from k n i v s s (q .1, w, q .0, is)
 
 -- ---- the numbers of a refused set
@@ -193,7 +193,7 @@ abbrev All : Checks → Type 0
 All [] = Unit {0}
 All (c ∷ l) = OfSets (c .1) × All l
 
-all-values : (l : List (ℕ × ℕ × ℕ × ℕ)) (s : List ℕ) → All (valueChecks l s)
+all-values : (l : List (ℕ × ℕ × ℕ × ℕ)) (s : List ℕ) → All (rangeChecks l s)
 all-values [] s = tt
 all-values (x ∷ l) s = (refl, all-values l s)
 
@@ -207,7 +207,7 @@ number-of {A} (c ∷ l) a m p h e = go (c .0) e (number-of l a m p (h .1))
 
 set-numbers : (k : State) (n i : ℕ) (v s : List ℕ) (m p : ℕ) → setCall k s n i v ≡ refused m p → OfSets m
 unfolding setCall setChecks stateChecks
-set-numbers k n i v s m p e = number-of (setChecks k (rowAt k n) i v s) (setTo (rowAt k n) i v s) m p (refl, (refl, (refl, (refl, all-values (listed k (length (setTo (rowAt k n) i v s))) (setTo (rowAt k n) i v s))))) e
+set-numbers k n i v s m p e = number-of (setChecks k (rowAt k n) i v s) (setTo (rowAt k n) i v s) m p (refl, (refl, (refl, (refl, all-values (listedNumbers k (length (setTo (rowAt k n) i v s))) (setTo (rowAt k n) i v s))))) e
 
 -- ---- sheets
 
@@ -223,7 +223,7 @@ cpu-refuses : (s : List ℕ) (m p : ℕ) → (cpuCall s ≡ refused m p) ↔ Fir
 unfolding cpuCall
 cpu-refuses s m p = checked-first (stateChecks Cpu s) (cpuOf s) m p
 
-cpu-members : (s : List ℕ) (c : CpuSheet) → Bytes s → cpuCall s ≡ taken c → (have n i : ℕ) → Has Cpu n i s → fieldCall Cpu have s n i ≡ fitting have (cpuMember c n i)
+cpu-members : (s : List ℕ) (c : CpuSheet) → Bytes s → cpuCall s ≡ taken c → (have n i : ℕ) → HasField Cpu n i s → fieldCall Cpu have s n i ≡ fitting have (cpuMember c n i)
 cpu-members s c b e have n i h =
     let q = cpu-to s c e in
     reads Cpu n i s have (q .0) h ∙ ap (fitting have) (sym (cpu-ties s b n i h) ∙ ap (λ (x : CpuSheet). cpuMember x n i) (sym (q .1)))
@@ -242,7 +242,7 @@ says s a h = go (eqb (length s) 1191) refl
 
     go : (x : Bool) → eqb (length s) 1191 ≡ x → leAt 4 s 1183 ≡ length s - 1187
     go true e =
-        let p = subst (λ (k : ℕ). Pass (valueChecks (listed Cpu k) s)) (eqb-true (length s) 1191 e) (accept-pass Cpu s a .1) in
+        let p = subst (λ (k : ℕ). Pass (rangeChecks (listedNumbers Cpu k) s)) (eqb-true (length s) 1191 e) (accept-pass Cpu s a .1) in
         let q = and-true (leb 4 (leAt 4 s 1183)) (leb (leAt 4 s 1183) 4) (p .1 .1 .1 .0) in
         omega (arith, eqb-true (length s) 1191 e, leb-true 4 (leAt 4 s 1183) (q .0), leb-true (leAt 4 s 1183) 4 (q .1))
     go false e = longer (omega (arith, eqb-false (length s) 1191 e)) (and-true (cpuLength 2 (length s)) (extends s) (right Cpu s a) .1)
@@ -279,7 +279,7 @@ abbrev Near : List (ℕ × ℕ × ℕ × ℕ) → Type 0
 Near [] = Unit {0}
 Near (x ∷ l) = (x .0 + x .1 ≤ 1191) × Near l
 
-near-listed : (n : ℕ) → Near (listed Cpu n)
+near-listed : (n : ℕ) → Near (listedNumbers Cpu n)
 near-listed n = go (leb 1191 n) (eqb n 1191)
   where
     go : (x y : Bool) → Near (elim x as (λ _. List (ℕ × ℕ × ℕ × ℕ)) [ true ↦ registers ++ (elim y as (λ _. List (ℕ × ℕ × ℕ × ℕ)) [ true ↦ (1183, 4, 4, 4) ∷ switches | false ↦ switches ]) | false ↦ registers ])
@@ -296,16 +296,16 @@ module _ (s u : List ℕ) (n : length u ≡ length s) (h : 1191 ≤ length s) (f
   agree : (w p : ℕ) → p + w ≤ 1191 → leAt w u p ≡ leAt w s p
   agree w p k = front u (omega arith) w p k ∙ ap (λ (y : List ℕ). leAt w y p) f ∙ sym (front s h w p k)
 
-  rows-agree : (l : List (ℕ × ℕ × ℕ × ℕ)) → Near l → valueChecks l u ≡ valueChecks l s
+  rows-agree : (l : List (ℕ × ℕ × ℕ × ℕ)) → Near l → rangeChecks l u ≡ rangeChecks l s
   rows-agree [] k = refl
   rows-agree (x ∷ l) k = cc (agree (x .1) (x .0) (k .0), rows-agree l (k .1))
 
   accepted-too : Accepted Cpu s → Accepted Cpu u
   unfolding stateChecks
   accepted-too a =
-      ap (λ (m : ℕ). asked ((cpuLength 2 m && (leb m 1191 || eqb m (1187 + leAt 4 u 1183)), SHAPE, 0) ∷ valueChecks (listed Cpu m) u)) n
-      ∙ ap (λ (x : ℕ). asked ((cpuLength 2 (length s) && (leb (length s) 1191 || eqb (length s) (1187 + x)), SHAPE, 0) ∷ valueChecks (listed Cpu (length s)) u)) (agree 4 1183 (omega arith))
-      ∙ ap (λ (r : Checks). asked ((cpuSized 2 s, SHAPE, 0) ∷ r)) (rows-agree (listed Cpu (length s)) (near-listed (length s)))
+      ap (λ (m : ℕ). asked ((cpuLength 2 m && (leb m 1191 || eqb m (1187 + leAt 4 u 1183)), SHAPE, 0) ∷ rangeChecks (listedNumbers Cpu m) u)) n
+      ∙ ap (λ (x : ℕ). asked ((cpuLength 2 (length s) && (leb (length s) 1191 || eqb (length s) (1187 + x)), SHAPE, 0) ∷ rangeChecks (listedNumbers Cpu (length s)) u)) (agree 4 1183 (omega arith))
+      ∙ ap (λ (r : Checks). asked ((cpuSized 2 s, SHAPE, 0) ∷ r)) (rows-agree (listedNumbers Cpu (length s)) (near-listed (length s)))
       ∙ a
 
 mixed-accepted : (s t : List ℕ) → length t ≡ length s → Accepted Cpu s → Accepted Cpu (take 1191 s ++ drop 1191 t)
@@ -333,7 +333,7 @@ cpu-over : (s t new : List ℕ) (x : CpuShown) (r : Answer) → Bytes s → Byte
 cpu-over s t new x r b d a c n e k =
     let shown : x .sheet ≡ cpuOf s = ap (λ (y : CpuShown). y .sheet) (e ∙ ap cpuShown (cpu-from s (cpuOf s) (a, refl))) in
     let o : cpuOverCall (x .sheet) t ≡ taken (take 1191 s ++ drop 1191 t) = ap (λ (y : CpuSheet). cpuOverCall y t) shown ∙ cpu-over-is s t b d a c n in
-    (ap (λ (y : Answer). y .number) (k .answers) ∙ rw o, k .leaves ∙ ap (λ (y : Outcome (List ℕ)). changed y t) o)
+    (ap (λ (y : Answer). y .number) (k .answers) ∙ rw o, k .leaves ∙ ap (λ (y : Outcome (List ℕ)). memoryAfter y t) o)
 
 over-to : (c : CpuSheet) (s t : List ℕ) → cpuOverCall c s ≡ taken t → Pass (cpuOverChecks c s) × (t ≡ cpuOver c s)
 unfolding cpuOverCall
@@ -355,7 +355,7 @@ mmu-from : (s : List ℕ) (c : MmuSheet) → Accepted Mmu s × (c ≡ mmuOf s) �
 unfolding mmuCall
 mmu-from s c h = pass-checked (stateChecks Mmu s) (taken (mmuOf s)) (accept-pass Mmu s (h .0)) ∙ ap taken (sym (h .1))
 
-mmu-members : (s : List ℕ) (c : MmuSheet) → Bytes s → mmuCall s ≡ taken c → (have n i : ℕ) → Has Mmu n i s → fieldCall Mmu have s n i ≡ fitting have (mmuMember c n i)
+mmu-members : (s : List ℕ) (c : MmuSheet) → Bytes s → mmuCall s ≡ taken c → (have n i : ℕ) → HasField Mmu n i s → fieldCall Mmu have s n i ≡ fitting have (mmuMember c n i)
 mmu-members s c b e have n i h =
     let q = mmu-to s c e in
     reads Mmu n i s have (q .0) h ∙ ap (fitting have) (sym (mmu-ties s b n i h) ∙ ap (λ (x : MmuSheet). mmuMember x n i) (sym (q .1)))
@@ -372,11 +372,11 @@ mmu-over-back : (s t new : List ℕ) (x : MmuShown) (r : Answer) → Bytes s →
 mmu-over-back s t new x r b a c e k =
     let shown : x .sheet ≡ mmuOf s = ap (λ (y : MmuShown). y .sheet) (e ∙ ap mmuShown (mmu-from s (mmuOf s) (a, refl))) in
     let o : mmuOverCall (x .sheet) t ≡ taken s = ap (λ (y : MmuSheet). mmuOverCall y t) shown ∙ mmu-over-is s t b a c in
-    (ap (λ (y : Answer). y .number) (k .answers) ∙ rw o, k .leaves ∙ ap (λ (y : Outcome (List ℕ)). changed y t) o)
+    (ap (λ (y : Answer). y .number) (k .answers) ∙ rw o, k .leaves ∙ ap (λ (y : Outcome (List ℕ)). memoryAfter y t) o)
 
 -- ---- Demand 1 of them
 
-value-rows : (l : List (ℕ × ℕ × ℕ × ℕ)) (s : List ℕ) → Rows (valueChecks l s)
+value-rows : (l : List (ℕ × ℕ × ℕ × ℕ)) (s : List ℕ) → Rows (rangeChecks l s)
 value-rows [] s = tt
 value-rows (x ∷ l) s = (plain 15 refl, value-rows l s)
 
@@ -387,7 +387,7 @@ field-core k s n i =
     let rows : Checks = fieldChecks k (rowAt k n) i s in
     record {
       core = checked rows (taken b);
-      apart = checked-refuses Plain rows (taken b) (plain 11 refl, (plain 11 refl, value-rows (listed k (length s)) s)) tt;
+      apart = checked-refuses Plain rows (taken b) (plain 11 refl, (plain 11 refl, value-rows (listedNumbers k (length s)) s)) tt;
       same = λ have. sym (checked-after rows (taken b) (fitting have));
     }
 
@@ -397,13 +397,13 @@ place-stays count (refused m p) s new r c h = c .leaves
 
 place-refuses : (count : ℕ) (o : Outcome (List ℕ)) (s new : List ℕ) (r : Answer) (m p : ℕ) → Changes count o s r new → o ≡ refused m p → (r .number ≡ m) × (r .place ≡ p) × (new ≡ s)
 place-refuses count o s new r m p c e =
-    let q : r ≡ record { number = m; place = p } = c .answers ∙ ap (stored count) e in
-    (ap (λ (y : Answer). y .number) q, ap (λ (y : Answer). y .place) q, c .leaves ∙ ap (λ (y : Outcome (List ℕ)). changed y s) e)
+    let q : r ≡ record { number = m; place = p } = c .answers ∙ ap (storedAnswer count) e in
+    (ap (λ (y : Answer). y .number) q, ap (λ (y : Answer). y .place) q, c .leaves ∙ ap (λ (y : Outcome (List ℕ)). memoryAfter y s) e)
 
 place-takes : (count : ℕ) (o : Outcome (List ℕ)) (s new t : List ℕ) (r : Answer) → Changes count o s r new → o ≡ taken t → (r .number ≡ 0) × (r .place ≡ count) × (new ≡ t)
 place-takes count o s new t r c e =
-    let q : r ≡ record { number = 0; place = count } = c .answers ∙ ap (stored count) e in
-    (ap (λ (y : Answer). y .number) q, ap (λ (y : Answer). y .place) q, c .leaves ∙ ap (λ (y : Outcome (List ℕ)). changed y s) e)
+    let q : r ≡ record { number = 0; place = count } = c .answers ∙ ap (storedAnswer count) e in
+    (ap (λ (y : Answer). y .number) q, ap (λ (y : Answer). y .place) q, c .leaves ∙ ap (λ (y : Outcome (List ℕ)). memoryAfter y s) e)
 
 -- ---- all of it
 

@@ -30,7 +30,7 @@ use Rattle.kinds.specs.declared.Cell.{Cell}
 use Rattle.kinds.specs.declared.Form.{Form}
 use Rattle.kinds.specs.Kinds.{paper, cells, okOf}
 use Rattle.messages.specs.Fields.{fieldWidth, messageAt}
-use Rattle.messages.specs.Reading.{Content as MessageContent, most, messageContent, dataFits, dataLength, dataIn, fieldChecks, bodyChecks, numbersEnd, readChecks, readMessage}
+use Rattle.messages.specs.Reading.{MessageAndData, most, messageContent, dataFits, dataLength, dataIn, cellChecks, bodyChecks, numbersEnd, readChecks, readMessage}
 use Rattle.messages.specs.Writing.{valueChecks, dataChecks, formBytes, writeChecks, written, writeMessage}
 use Rattle.aerosnap.specs.Content.{Content, render, contentAt}
 use Rattle.aerosnap.specs.Adding.{Item, device, disk, ownChecks, addChecks, withItem}
@@ -121,8 +121,8 @@ field-points most s at p h =
     record { offset = r .offset; place = omega (arith, i, r .place); breaks = rw (leAt-here 4 s at, drop-drop) at (r .breaks) }
 
 -- ---- Log and Panic
-field-others : (ok : ℕ) (cs : List Cell) (at : ℕ) (m : List ℕ) → Others TEXT (fieldChecks ok cs at m)
-unfolding fieldChecks
+field-others : (ok : ℕ) (cs : List Cell) (at : ℕ) (m : List ℕ) → Others TEXT (cellChecks ok cs at m)
+unfolding cellChecks
 field-others ok [] at m = tt
 field-others ok (c ∷ cs) at m = ((λ e. omega arith) also (λ e. omega arith) also field-others ok cs (at + fieldWidth ok (c .0)) m)
 
@@ -143,9 +143,9 @@ message-points : (m : List ℕ) (p : ℕ) → readMessage m ≡ refused TEXT p �
 unfolding readMessage readChecks
 message-points m p h =
     let f = paper (messageAt m) in
-    let fields : Checks = fieldChecks (okOf f) (cells f) 2 m in
+    let fields : Checks = cellChecks (okOf f) (cells f) 2 m in
     let body : Checks = bodyChecks (f .body) (numbersEnd f) m in
-    let c : MessageContent = messageContent (messageAt m) (f .body) (numbersEnd f) m in
+    let c : MessageAndData = messageContent (messageAt m) (f .body) (numbersEnd f) m in
     let head : Checks = (leb (length m) most, LIMIT, 0) ∷ (leb 2 (length m), SHAPE, 0) ∷ (f .known, TAG, 0) ∷ [] in
     let g : checked (fields ++ body) (taken c) ≡ refused TEXT p = passed-on head (checked (fields ++ body) (taken c)) ((λ e. omega arith) also (λ e. omega arith) also (λ e. omega arith) also tt) h in
     body-points (f .body) (numbersEnd f) m c p

@@ -67,10 +67,10 @@ pub record Fills (o : ℕ → Outcome (List ℕ)) : Type 0 where
   pub once : (old new now : List ℕ) (r s : Answer) → Writes (o (length old)) old r new → Writes (o (length old)) old s now → (r ≡ s) × (new ≡ now)
 
 -- reading a message: the place is 0 if it is taken; a refused reading has no message, start 0 and length 0
-pub record ReadsMessage (o : Outcome messages.Content) : Type 0 where
+pub record ReadsMessage (o : Outcome messages.MessageAndData) : Type 0 where
   pub faults : Faulty o
   pub zero : (r : Reading) → r ≡ messages.reading o → (r .number ≡ 0) ↔ Taken o
-  pub takes : (r : Reading) (c : messages.Content) → r ≡ messages.reading o → o ≡ taken c
+  pub takes : (r : Reading) (c : messages.MessageAndData) → r ≡ messages.reading o → o ≡ taken c
       → (r .place ≡ 0) × (r .message ≡ c .message) × (r .start ≡ c .start) × (r .len ≡ c .len)
   pub refuses : (r : Reading) (n p : ℕ) → r ≡ messages.reading o → o ≡ refused n p
       → (r .number ≡ n) × (r .place ≡ p) × (r .message ≡ Nothing) × (r .start ≡ 0) × (r .len ≡ 0)
@@ -81,10 +81,10 @@ abbrev pub numbersIn : Told → Numbers
 numbersIn r = record { tag = r .tag; a = r .a; b = r .b; c = r .c; d = r .d }
 
 -- the same by tag and numbers, as at the C boundary: a refused reading has 0 for each
-pub record TellsMessage (o : Outcome messages.Content) : Type 0 where
+pub record TellsMessage (o : Outcome messages.MessageAndData) : Type 0 where
   pub faults : Faulty o
   pub zero : (r : Told) → r ≡ told (messages.reading o) → (r .number ≡ 0) ↔ Taken o
-  pub takes : (r : Told) (c : messages.Content) → r ≡ told (messages.reading o) → o ≡ taken c
+  pub takes : (r : Told) (c : messages.MessageAndData) → r ≡ told (messages.reading o) → o ≡ taken c
       → (r .place ≡ 0) × (numbersIn r ≡ numbersOf (c .message)) × (r .data_place ≡ c .start) × (r .data_length ≡ c .len)
   pub refuses : (r : Told) (n p : ℕ) → r ≡ told (messages.reading o) → o ≡ refused n p
       → (r .number ≡ n) × (r .place ≡ p) × (numbersIn r ≡ record { tag = 0; a = 0; b = 0; c = 0; d = 0 }) × (r .data_place ≡ 0) × (r .data_length ≡ 0)
@@ -156,7 +156,7 @@ pub record Demand1 : Type 0 where
   -- dskc::controllers, cimbrolau_controllers
   pub controllers : (wrapper : List ℕ) → Fills (λ have. wrapped.controllersCall have wrapper)
   -- dskc::canonical, cimbrolau_wrapper_canonical
-  pub wrapper-canonical : (wrapper : List ℕ) → Fills (λ have. wrapped.canonicalCall have wrapper)
+  pub wrapper-canonical : (wrapper : List ℕ) → Fills (λ have. wrapped.wrapperCanonicalCall have wrapper)
   -- aipc::read
   pub message-read : (message : List ℕ) → ReadsMessage (messages.readMessage message)
   -- aipc::write

@@ -145,7 +145,7 @@ pub record Wrappers : Type 0 where
   pub back : (l : List (List ℕ)) → wrapped.IsWrapper l → wrapped.controllersOf (wrapped.wrapperBytes l) ≡ l
   -- the table, and the canonical form: the controllers in address order
   pub table : (s : List ℕ) → Writing (wrapped.wrapperOf s) (rowsAt Controllers 16 (drop 16 s)) (λ have. wrapped.controllersCall have s)
-  pub canonical : (s : List ℕ) → Writing (wrapped.wrapperOf s) (λ _. wrapped.wrapperBytes (ordered (wrapped.controllersOf s))) (λ have. wrapped.canonicalCall have s)
+  pub canonical : (s : List ℕ) → Writing (wrapped.wrapperOf s) (λ _. wrapped.wrapperBytes (ordered (wrapped.controllersOf s))) (λ have. wrapped.wrapperCanonicalCall have s)
   -- in that order they are as long, follow the rules, and stay as they are
   pub long : (l : List (List ℕ)) → length (wrapped.wrapperBytes (ordered l)) ≡ length (wrapped.wrapperBytes l)
   pub valid : (l : List (List ℕ)) → wrapped.IsWrapper l → wrapped.IsWrapper (ordered l)
@@ -165,18 +165,18 @@ pub record Says (m : List ℕ) (k : Message) (d : List ℕ) : Type 0 where
   pub bytes : written k d ≡ m
 
 -- the data that a reading names
-abbrev pub dataOf : messages.Content → List ℕ → List ℕ
+abbrev pub dataOf : messages.MessageAndData → List ℕ → List ℕ
 dataOf c m = take (c .len) (drop (c .start) m)
 
 pub record Messages : Type 0 where
   pub exactly : (m : List ℕ) → Bytes m → Taken (messages.readMessage m) ↔ ((k : Message) × (d : List ℕ) × Says m k d)
   pub unique : (m : List ℕ) (k k′ : Message) (d d′ : List ℕ) → Says m k d → Says m k′ d′ → (k ≡ k′) × (d ≡ d′)
   -- what is read is what was written, and its data stands where the reading says
-  pub reads : (m : List ℕ) (k : Message) (d : List ℕ) → Says m k d → (c : messages.Content) × (messages.readMessage m ≡ taken c) × (c .message ≡ k) × (dataOf c m ≡ d)
+  pub reads : (m : List ℕ) (k : Message) (d : List ℕ) → Says m k d → (c : messages.MessageAndData) × (messages.readMessage m ≡ taken c) × (c .message ≡ k) × (dataOf c m ≡ d)
   -- writing a reading with its data gives the bytes back
-  pub writes : (m : List ℕ) (c : messages.Content) (have : ℕ) → Bytes m → length m ≤ have → messages.readMessage m ≡ taken c → writeMessage (c .message) (dataOf c m) have ≡ taken m
+  pub writes : (m : List ℕ) (c : messages.MessageAndData) (have : ℕ) → Bytes m → length m ≤ have → messages.readMessage m ≡ taken c → writeMessage (c .message) (dataOf c m) have ≡ taken m
   -- also where the message is handed over by its tag and its numbers, as at the C boundary
-  pub by-numbers : (m : List ℕ) (c : messages.Content) (have : ℕ) → Bytes m → length m ≤ have → messages.readMessage m ≡ taken c → writeNumbers (numbersOf (c .message)) (dataOf c m) have ≡ taken m
+  pub by-numbers : (m : List ℕ) (c : messages.MessageAndData) (have : ℕ) → Bytes m → length m ≤ have → messages.readMessage m ≡ taken c → writeNumbers (numbersOf (c .message)) (dataOf c m) have ≡ taken m
 
 -- ---- the fault that is named is the first in its order (`First`, `FirstOr`, `FaultAt`: crates/answer/specs/Outcome.antt)
 
@@ -203,7 +203,7 @@ pub record Faults : Type 0 where
   pub file : (s : List ℕ) (n p : ℕ) → (checkCall s ≡ refused n p)
       ↔ FirstOr (headerChecks s) n p ((l : List (List ℕ)) × (b : List ℕ) × (s ≡ header ++ (join l ++ b)) × (1 ≤ length b) × IsFile l × SectionFault l (16 + length (join l)) b n p)
   -- a wrapper: its header, then its list
-  pub wrapper : (s : List ℕ) (n p : ℕ) → (wrapped.wrapperOf s ≡ refused n p) ↔ FirstOr (wrapped.headerChecks s) n p (FaultAt 16 (listAt controllers (drop 16 s)) n p)
+  pub wrapper : (s : List ℕ) (n p : ℕ) → (wrapped.wrapperOf s ≡ refused n p) ↔ FirstOr (wrapped.wrapperHeaderChecks s) n p (FaultAt 16 (listAt controllers (drop 16 s)) n p)
   -- a list of any kind: its count, then the first entry at fault; those before it, l, are entries with distinct keys
   pub list : (k : Kind) (s : List ℕ) (n p : ℕ) → (listAt (describe k) s ≡ refused n p)
       ↔ FirstOr (countChecks (describe k) s) n p ((l : List (List ℕ)) × (b : List ℕ) × (drop 4 s ≡ join l ++ b) × Every (Is (describe k .form)) l × Apart (describe k .key) l × ListFault (describe k) s l b n p)

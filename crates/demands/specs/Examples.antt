@@ -22,35 +22,35 @@ abbrev pub empty : List ℕ
 empty = 0x41 ∷ 0x45 ∷ 0x52 ∷ 0x4F ∷ 0x53 ∷ 0x4E ∷ 0x41 ∷ 0x50 ∷ 0x01 ∷ 0x00 ∷ 0x01 ∷ 0x00 ∷ 0x00 ∷ 0x00 ∷ 0x00 ∷ 0x00 ∷ []
 
 -- a u32 and a u64 below 256
-abbrev pub u32 : ℕ → List ℕ
-u32 n = n ∷ 0x00 ∷ 0x00 ∷ 0x00 ∷ []
+abbrev pub u32Bytes : ℕ → List ℕ
+u32Bytes n = n ∷ 0x00 ∷ 0x00 ∷ 0x00 ∷ []
 
-abbrev pub u64 : ℕ → List ℕ
-u64 n = n ∷ 0x00 ∷ 0x00 ∷ 0x00 ∷ 0x00 ∷ 0x00 ∷ 0x00 ∷ 0x00 ∷ []
+abbrev pub u64Bytes : ℕ → List ℕ
+u64Bytes n = n ∷ 0x00 ∷ 0x00 ∷ 0x00 ∷ 0x00 ∷ 0x00 ∷ 0x00 ∷ 0x00 ∷ []
 
 -- u32 id, u16 version 1, u16 flags 0
 abbrev pub head : ℕ → List ℕ
-head id = u32 id ++ (0x01 ∷ 0x00 ∷ 0x00 ∷ 0x00 ∷ [])
+head id = u32Bytes id ++ (0x01 ∷ 0x00 ∷ 0x00 ∷ 0x00 ∷ [])
 
 -- that header, and a DEVICES section with a length and a payload
 abbrev pub withDevices : ℕ → List ℕ → List ℕ
-withDevices n p = empty ++ (head 4 ++ (u64 n ++ p))
+withDevices n p = empty ++ (head 4 ++ (u64Bytes n ++ p))
 
 -- the device (id,1,0) with one byte, and with two
 abbrev pub oneByte : ℕ → List ℕ
-oneByte id = head id ++ (u64 1 ++ (0x11 ∷ []))
+oneByte id = head id ++ (u64Bytes 1 ++ (0x11 ∷ []))
 
 abbrev pub twoBytes : ℕ → List ℕ
-twoBytes id = head id ++ (u64 2 ++ (0xAB ∷ 0xCD ∷ []))
+twoBytes id = head id ++ (u64Bytes 2 ++ (0xAB ∷ 0xCD ∷ []))
 
 abbrev pub fourteenThree : List ℕ
-fourteenThree = withDevices 39 (u32 2 ++ (oneByte 14 ++ twoBytes 3))
+fourteenThree = withDevices 39 (u32Bytes 2 ++ (oneByte 14 ++ twoBytes 3))
 
 abbrev pub threeFourteen : List ℕ
-threeFourteen = withDevices 39 (u32 2 ++ (twoBytes 3 ++ oneByte 14))
+threeFourteen = withDevices 39 (u32Bytes 2 ++ (twoBytes 3 ++ oneByte 14))
 
 abbrev pub noDevices : List ℕ
-noDevices = withDevices 4 (u32 0)
+noDevices = withDevices 4 (u32Bytes 0)
 
 -- DiskReadResp with a byte at 6
 abbrev pub diskReadResp : ℕ → List ℕ
@@ -72,13 +72,13 @@ pub record Examples : Type 0 where
   pub P3 : checkCall (set empty 10 2) ≡ refused ENDIAN 10
   -- 71 bytes, one section of 39 bytes at 32; its devices in key order, (3,1,0) at 69 and (14,1,0) at 52
   pub P4 : length fourteenThree ≡ 71
-  pub P4-sections : sectionsCall 32 fourteenThree ≡ taken (head 4 ++ (u64 32 ++ (u64 39 ++ (u32 0 ++ u32 0))))
-  pub P4-devices : devicesCall 64 fourteenThree ≡ taken (head 3 ++ (u64 69 ++ (u64 2 ++ (u32 1 ++ (u32 0 ++ (head 14 ++ (u64 52 ++ (u64 1 ++ (u32 0 ++ u32 0)))))))))
+  pub P4-sections : sectionsCall 32 fourteenThree ≡ taken (head 4 ++ (u64Bytes 32 ++ (u64Bytes 39 ++ (u32Bytes 0 ++ u32Bytes 0))))
+  pub P4-devices : devicesCall 64 fourteenThree ≡ taken (head 3 ++ (u64Bytes 69 ++ (u64Bytes 2 ++ (u32Bytes 1 ++ (u32Bytes 0 ++ (head 14 ++ (u64Bytes 52 ++ (u64Bytes 1 ++ (u32Bytes 0 ++ u32Bytes 0)))))))))
   -- canonical, (3,1,0) is first, its payload at 52 and the other's at 70
   pub P5 : canonicalCall 71 fourteenThree ≡ taken threeFourteen
-  pub P5-devices : devicesCall 64 threeFourteen ≡ taken (head 3 ++ (u64 52 ++ (u64 2 ++ (u32 0 ++ (u32 0 ++ (head 14 ++ (u64 70 ++ (u64 1 ++ (u32 1 ++ u32 0)))))))))
+  pub P5-devices : devicesCall 64 threeFourteen ≡ taken (head 3 ++ (u64Bytes 52 ++ (u64Bytes 2 ++ (u32Bytes 0 ++ (u32Bytes 0 ++ (head 14 ++ (u64Bytes 70 ++ (u64Bytes 1 ++ (u32Bytes 1 ++ u32Bytes 0)))))))))
   -- with both keys (3,1,0), KEY at 53
-  pub P6 : checkCall (withDevices 39 (u32 2 ++ (oneByte 3 ++ twoBytes 3))) ≡ refused KEY 53
+  pub P6 : checkCall (withDevices 39 (u32Bytes 2 ++ (oneByte 3 ++ twoBytes 3))) ≡ refused KEY 53
   -- adding (3,1,0) to P5 gives HAVE, beside every card
   pub P7 : (k : Card) → addDeviceCall 1000 k threeFourteen 3 1 0 (0xAB ∷ 0xCD ∷ []) ≡ (0, refused HAVE 0)
   -- with section length 40, CUT at 16

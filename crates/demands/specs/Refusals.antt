@@ -72,7 +72,7 @@ pub record Refusals : Type 0 where
   pub edit : (card : Card) (file : List ℕ) (e : Edit) (old new : List ℕ) (r : Edited) → WritesBeside card (editCall (length old) card file e) old r new → r .number ≢ withdrawn
   pub wrapper-check : (wrapper : List ℕ) (r : Answer) → r ≡ verdict (wrapped.wrapperOf wrapper) → r .number ≢ withdrawn
   pub controllers : (wrapper : List ℕ) → WritesNever (λ have. wrapped.controllersCall have wrapper)
-  pub wrapper-canonical : (wrapper : List ℕ) → WritesNever (λ have. wrapped.canonicalCall have wrapper)
+  pub wrapper-canonical : (wrapper : List ℕ) → WritesNever (λ have. wrapped.wrapperCanonicalCall have wrapper)
   pub message-read : (message : List ℕ) (r : Reading) → r ≡ messages.reading (messages.readMessage message) → r .number ≢ withdrawn
   pub message-write : (message : Message) (bytes : List ℕ) → WritesNever (writeMessage message bytes)
   pub numbers-write : (n : Numbers) (bytes : List ℕ) → WritesNever (writeNumbers n bytes)

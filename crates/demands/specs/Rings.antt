@@ -18,7 +18,7 @@ use Rattle.region.specs.declared.Cursors.{Cursors}
 use Rattle.region.specs.Region.{countOf, offsetOf, endOf, ringAt, regionChecks, queueChecks}
 use Rattle.region.specs.Valid.{Valid}
 use Rattle.region.specs.Report.{asCursors, reportCall}
-use Rattle.rings.specs.Records.{moved, size, need}
+use Rattle.rings.specs.Records.{advanced, recordSize, need}
 use Rattle.rings.specs.Calls.{Stores, stored, count, asAnswer, asPair, asRecord, Leaves, reserveChecks, reserveCall, fillChecks, fillStores, fillCall, commitChecks, commitCall, skipAt, takeChecks, takeCall}
 use Rattle.rings.specs.Use as use-of
 use Rattle.rings.specs.Use.{OpenPair, OpenPairs, full, lenOf, Stray, Called, firstly, Used, Course, Stopped, Next, Drains}
@@ -31,7 +31,7 @@ use Rattle.demands.specs.Demand2.{Within, dataOf}
 -- ---- demand 1: a call takes every region, and answers or refuses with one of its own numbers; a refusal leaves every byte of the region
 
 -- a call that changes its region: f shows its outcome in an answer, of which these are the number and the place; own are the numbers that it gives beside REGION
-pub record Changes {A R : Type 0} (f : Outcome (Stores × A) → R) (number place : R → ℕ) (own : List ℕ) (call : List ℕ → Outcome (Stores × A)) : Type 0 where
+pub record RingCall {A R : Type 0} (f : Outcome (Stores × A) → R) (number place : R → ℕ) (own : List ℕ) (call : List ℕ → Outcome (Stores × A)) : Type 0 where
   pub stays : (b new : List ℕ) (r : R) → Leaves f (call b) b r new → number r ≢ 0 → (isAmong (REGION ∷ own) (number r) ≡ true) × (new ≡ b)
   -- taken, its place counts the bytes stored, and the region holds these and else what it held
   pub stores : (b new : List ℕ) (r : R) → Leaves f (call b) b r new → number r ≡ 0
@@ -46,10 +46,10 @@ pub record Looks (number : ℕ) (P : Type 0) : Type 0 where
 pub record RegionCalls : Type 0 where
   pub check : (b : List ℕ) (r : Answer) → r ≡ verdict (asked (regionChecks b)) → Looks (r .number) (Valid b)
   pub report : (b : List ℕ) (q : ℕ) (r : Cursors) → r ≡ asCursors (reportCall b q) → Looks (r .number) (Valid b × (q < countOf b))
-  pub reserve : (q n : ℕ) → Changes asPair (λ r. r .number) (λ r. r .place) (BIG ∷ FULL ∷ []) (λ b. reserveCall b q n)
-  pub fill : (q start end : ℕ) (m : List ℕ) → Changes asAnswer (λ r. r .number) (λ r. r .place) (TURN ∷ []) (λ b. fillCall b q start end m)
-  pub commit : (q start end : ℕ) → Changes asAnswer (λ r. r .number) (λ r. r .place) (TURN ∷ []) (λ b. commitCall b q start end)
-  pub take : (q : ℕ) → Changes asRecord (λ r. r .number) (λ r. r .place) (EMPTY ∷ RECORD ∷ []) (λ b. takeCall b q)
+  pub reserve : (q n : ℕ) → RingCall asPair (λ r. r .number) (λ r. r .place) (BIG ∷ FULL ∷ []) (λ b. reserveCall b q n)
+  pub fill : (q start end : ℕ) (m : List ℕ) → RingCall asAnswer (λ r. r .number) (λ r. r .place) (TURN ∷ []) (λ b. fillCall b q start end m)
+  pub commit : (q start end : ℕ) → RingCall asAnswer (λ r. r .number) (λ r. r .place) (TURN ∷ []) (λ b. commitCall b q start end)
+  pub take : (q : ℕ) → RingCall asRecord (λ r. r .number) (λ r. r .place) (EMPTY ∷ RECORD ∷ []) (λ b. takeCall b q)
 
 -- ---- demand 2: a region is taken exactly if it follows the rules; a call refuses exactly if one of its checks fails, and names the first
 
@@ -66,39 +66,39 @@ pub record RegionRules : Type 0 where
   pub region-refuses : (b : List ℕ) (n p : ℕ) → (asked (regionChecks b) ≡ refused n p) ↔ First (regionChecks b) n p
   pub report : (b : List ℕ) (q : ℕ) → Exactly (reportCall b q) b q [] (ring b q)
   -- reserve stores the reserve cursor and answers it before and after
-  pub reserve : (b : List ℕ) (q n : ℕ) → let r = ring b q in let end = moved (r .reserve) (need (r .capacity) (r .reserve) n) in
+  pub reserve : (b : List ℕ) (q n : ℕ) → let r = ring b q in let end = advanced (r .reserve) (need (r .capacity) (r .reserve) n) in
       Exactly (reserveCall b q n) b q (reserveChecks r n) ((offsetOf b q + 4, bytesOf 4 end) ∷ [], (r .reserve, end))
   pub fill : (b : List ℕ) (q start end : ℕ) (m : List ℕ) → let r = ring b q in
       Exactly (fillCall b q start end m) b q (fillChecks r start end (length m)) (fillStores (offsetOf b q) (r .capacity) start m, tt)
   pub commit : (b : List ℕ) (q start end : ℕ) → Exactly (commitCall b q start end) b q (commitChecks (ring b q) start end) ((offsetOf b q + 8, bytesOf 4 end) ∷ [], tt)
   -- take stores head behind the record and any skip, and answers where the payload stands and its length
   pub take : (b : List ℕ) (q : ℕ) → let r = ring b q in let s = skipAt b (offsetOf b q) (r .capacity) (r .head) in let at = offsetOf b q + 16 + (r .head + s) % r .capacity in
-      Exactly (takeCall b q) b q (takeChecks r s (leAt 4 b at)) ((offsetOf b q, bytesOf 4 (moved (r .head) (s + size (leAt 4 b at)))) ∷ [], (at + 4, leAt 4 b at))
+      Exactly (takeCall b q) b q (takeChecks r s (leAt 4 b at)) ((offsetOf b q, bytesOf 4 (advanced (r .head) (s + recordSize (leAt 4 b at)))) ∷ [], (at + 4, leAt 4 b at))
 
 -- ---- a ring that is empty at first and used only by these calls, each pair handed on as answered and filled before its commit (`Used`)
 
 pub record NoneOrAll : Type 0 where
   -- the taker finds the committed messages, whole, in their order, and then nothing
-  pub comes : {q : ℕ} {b : List ℕ} {ms : use-of.Messages} {ps : OpenPairs} → Used q b ms ps → Drains q b ms
+  pub comes : {q : ℕ} {b : List ℕ} {ms : use-of.MessageList} {ps : OpenPairs} → Used q b ms ps → Drains q b ms
   -- a producer that stops after any store leaves the taker with a ring that has either none of its message or all of it
-  pub none-or-all : {q : ℕ} {m : use-of.Message} {b c : List ℕ} {ms : use-of.Messages} {ps : OpenPairs}
+  pub none-or-all : {q : ℕ} {m : use-of.Message} {b c : List ℕ} {ms : use-of.MessageList} {ps : OpenPairs}
       → Used q b ms ps → Stopped q m b ps c → Drains q c ms ⊎ Drains q c (ms ++ m ∷ [])
   -- and others go on as before
-  pub goes-on : {q : ℕ} {m : use-of.Message} {b c : List ℕ} {ms : use-of.Messages} {ps : OpenPairs}
+  pub goes-on : {q : ℕ} {m : use-of.Message} {b c : List ℕ} {ms : use-of.MessageList} {ps : OpenPairs}
       → Used q b ms ps → Stopped q m b ps c → (now : OpenPairs) × (Used q c ms now ⊎ Used q c (ms ++ m ∷ []) now)
   -- a committed message is taken after as many takes as records stand before it, whatever else happens in between
-  pub in-turn : {q : ℕ} {m : use-of.Message} {b c : List ℕ} (before behind : use-of.Messages) {ns : use-of.Messages} {ps qs : OpenPairs}
+  pub in-turn : {q : ℕ} {m : use-of.Message} {b c : List ℕ} (before behind : use-of.MessageList) {ns : use-of.MessageList} {ps qs : OpenPairs}
       → Used q b (before ++ m ∷ behind) ps → Course q b (before ++ m ∷ behind) ps c ns qs (length before) → Next q c m
 
 -- pairs that are handed on
 pub record Handing : Type 0 where
   -- fill takes a pair as it was answered, for as many bytes as were asked for
-  pub fill-takes : {q : ℕ} {b : List ℕ} {ms : use-of.Messages} (xs : OpenPairs) (p : OpenPair) (ys : OpenPairs) → Used q b ms (xs ++ p ∷ ys)
+  pub fill-takes : {q : ℕ} {b : List ℕ} {ms : use-of.MessageList} (xs : OpenPairs) (p : OpenPair) (ys : OpenPairs) → Used q b ms (xs ++ p ∷ ys)
       → (m : use-of.Message) → length m ≡ lenOf (p .slot) → (s : Stores) × (fillCall b q (p .start) (p .end) m ≡ taken (s, tt))
   -- commit takes the first open pair, once it is filled, and a later one waits for its turn
-  pub commit-takes : {q : ℕ} {m : use-of.Message} {b : List ℕ} {ms : use-of.Messages} {p : OpenPair} {ps : OpenPairs} → Used q b ms (p ∷ ps)
+  pub commit-takes : {q : ℕ} {m : use-of.Message} {b : List ℕ} {ms : use-of.MessageList} {p : OpenPair} {ps : OpenPairs} → Used q b ms (p ∷ ps)
       → p .slot ≡ full m → (s : Stores) × (commitCall b q (p .start) (p .end) ≡ taken (s, tt))
-  pub commit-waits : {q : ℕ} {b : List ℕ} {ms : use-of.Messages} (first : OpenPair) (xs : OpenPairs) (p : OpenPair) (ys : OpenPairs) → Used q b ms (first ∷ xs ++ p ∷ ys)
+  pub commit-waits : {q : ℕ} {b : List ℕ} {ms : use-of.MessageList} (first : OpenPair) (xs : OpenPairs) (p : OpenPair) (ys : OpenPairs) → Used q b ms (first ∷ xs ++ p ∷ ys)
       → commitCall b q (p .start) (p .end) ≡ refused TURN 0
   -- after any number of the bytes that a fill stores, those outside its pair are what they were: such as a stopped fill leaves
   pub fill-within : (b : List ℕ) (q start end : ℕ) (m : use-of.Message) {s : Stores} → fillCall b q start end m ≡ taken (s, tt) → (k : ℕ) → Stray q b (stored (firstly k s) b) start end
@@ -117,9 +117,9 @@ takenBytes {b = b} {w = w} n = take (length w) (drop (n .place) (stored (n .stor
 
 pub record Through : Type 0 where
   pub message : (k : Message) (d old new : List ℕ) (r : Answer) → Within (cells (paper k)) → Writes (writeMessage k d (length old)) old r new → r .number ≡ 0
-      → {q : ℕ} {b c : List ℕ} (before behind : use-of.Messages) {ns : use-of.Messages} {ps qs : OpenPairs}
+      → {q : ℕ} {b c : List ℕ} (before behind : use-of.MessageList) {ns : use-of.MessageList} {ps qs : OpenPairs}
       → Used q b (before ++ take (r .place) new ∷ behind) ps → Course q b (before ++ take (r .place) new ∷ behind) ps c ns qs (length before)
-      → (n : Next q c (take (r .place) new)) × (x : messages.Content)
+      → (n : Next q c (take (r .place) new)) × (x : messages.MessageAndData)
       × (messages.readMessage (takenBytes n) ≡ taken x) × (x .message ≡ k) × (dataOf x (takenBytes n) ≡ d)
 
 pub record Rings : Type 0 where

@@ -52,7 +52,7 @@ pub record RuledOut : Type 0 where
   pub message-reader : (read : List ℕ → Reading) → ((message : List ℕ) → read message ≡ reading (readMessage message)) → ((message : List ℕ) → read message .number ≢ 0) → ⊥
   -- a writer of files, of wrappers, of messages by their kind or by their numbers
   pub canonical : Useful canonicalCall (λ file. file)
-  pub wrapper-canonical : Useful wrapped.canonicalCall (λ wrapper. wrapper)
+  pub wrapper-canonical : Useful wrapped.wrapperCanonicalCall (λ wrapper. wrapper)
   pub message-write : Useful (λ have (i : Message × List ℕ). writeMessage (i .0) (i .1) have) (λ i. i .1)
   pub numbers-write : Useful (λ have (i : Numbers × List ℕ). writeNumbers (i .0) (i .1) have) (λ i. i .1)
 

@@ -19,7 +19,7 @@ use Rattle.access.specs.Access.{wordOf, accessOf, Shows}
 use Rattle.fields.specs.declared.State.{State}
 use Rattle.fields.specs.declared.State.the-variants.{Cpu, Mmu}
 use Rattle.fields.specs.Layout.{rowAt}
-use Rattle.fields.specs.Fields.{stateChecks, placeOf, hasIn, bytesAt, fieldChecks, fieldCall, setTo, setChecks, setCall, Changes}
+use Rattle.fields.specs.Fields.{stateChecks, fieldPlace, hasIn, bytesAt, fieldChecks, fieldCall, setTo, setChecks, setCall, Changes}
 use Rattle.sheet.specs.declared.CpuSheet.{CpuSheet}
 use Rattle.mmu_sheet.specs.declared.MmuSheet.{MmuSheet}
 use Rattle.sheet.specs.declared.CpuShown.{CpuShown}
@@ -37,29 +37,29 @@ abbrev pub Accepted : State → List ℕ → Type 0
 Accepted k s = asked (stateChecks k s) ≡ taken tt
 
 -- the state has field n with index i
-abbrev pub Has : State → ℕ → ℕ → List ℕ → Type 0
-Has k n i s = hasIn (rowAt k n) i (length s) ≡ true
+abbrev pub HasField : State → ℕ → ℕ → List ℕ → Type 0
+HasField k n i s = hasIn (rowAt k n) i (length s) ≡ true
 
 -- ---- one field, of either kind of state
 
-pub record Reading (k : State) : Type 0 where
+pub record FieldReading (k : State) : Type 0 where
   -- Demand 1: its numbers, every byte of lent memory, ROOM
   pub fills : (s : List ℕ) (n i : ℕ) → Fills (λ have. fieldCall k have s n i)
   -- the field's bytes exactly if the state is accepted and has it, and there is room
-  pub takes : (have n i : ℕ) (s x : List ℕ) → (fieldCall k have s n i ≡ taken x) ↔ (Accepted k s × Has k n i s × (length x ≤ have) × (x ≡ bytesAt (rowAt k n) i s))
+  pub takes : (have n i : ℕ) (s x : List ℕ) → (fieldCall k have s n i ≡ taken x) ↔ (Accepted k s × HasField k n i s × (length x ≤ have) × (x ≡ bytesAt (rowAt k n) i s))
   -- else the first check that fails, ROOM last
   pub refuses : (have n i : ℕ) (s : List ℕ) (m p : ℕ)
       → (fieldCall k have s n i ≡ refused m p) ↔ First (fieldChecks k (rowAt k n) i s ++ room have (length (bytesAt (rowAt k n) i s))) m p
 
 pub record Setting (k : State) : Type 0 where
   -- taken exactly if the state has the field, the value is as wide as it, and the state as it would be is accepted; it is that state then
-  pub takes : (n i : ℕ) (v s t : List ℕ) → (setCall k s n i v ≡ taken t) ↔ (Has k n i s × (length v ≡ rowAt k n .width) × Accepted k t × (t ≡ setTo (rowAt k n) i v s))
+  pub takes : (n i : ℕ) (v s t : List ℕ) → (setCall k s n i v ≡ taken t) ↔ (HasField k n i s × (length v ≡ rowAt k n .width) × Accepted k t × (t ≡ setTo (rowAt k n) i v s))
   -- else the first check that fails
   pub refuses : (n i : ℕ) (v s : List ℕ) (m p : ℕ) → (setCall k s n i v ≡ refused m p) ↔ First (setChecks k (rowAt k n) i v s) m p
   pub numbers : (n i : ℕ) (v s : List ℕ) (m p : ℕ) → setCall k s n i v ≡ refused m p → isAmong (SHAPE ∷ VALUE ∷ []) m ≡ true
   -- that field's bytes and no other: whatever a call that meets the promise leaves has the same length and the same bytes before the field and behind it
   pub only : (n i : ℕ) (v s new : List ℕ) (r : Answer) → Changes (length v) (setCall k s n i v) s r new
-      → (length new ≡ length s) × ((j : ℕ) → (j < placeOf (rowAt k n) i) ⊎ (placeOf (rowAt k n) i + rowAt k n .width ≤ j) → getD new j 0 ≡ getD s j 0)
+      → (length new ≡ length s) × ((j : ℕ) → (j < fieldPlace (rowAt k n) i) ⊎ (fieldPlace (rowAt k n) i + rowAt k n .width ≤ j) → getD new j 0 ≡ getD s j 0)
   -- what is set is what is then read
   pub back : (n i have : ℕ) (v s t : List ℕ) → setCall k s n i v ≡ taken t → fieldCall k have t n i ≡ fitting have v
   -- what is read, set again, changes nothing
@@ -78,7 +78,7 @@ pub record CpuSheets : Type 0 where
   pub takes : (s : List ℕ) (c : CpuSheet) → (cpuCall s ≡ taken c) ↔ (Accepted Cpu s × (c ≡ cpuOf s))
   pub refuses : (s : List ℕ) (m p : ℕ) → (cpuCall s ≡ refused m p) ↔ First (stateChecks Cpu s) m p
   -- each member is the field that `cpu_field` reads
-  pub members : (s : List ℕ) (c : CpuSheet) → Bytes s → cpuCall s ≡ taken c → (have n i : ℕ) → Has Cpu n i s → fieldCall Cpu have s n i ≡ fitting have (cpuMember c n i)
+  pub members : (s : List ℕ) (c : CpuSheet) → Bytes s → cpuCall s ≡ taken c → (have n i : ℕ) → HasField Cpu n i s → fieldCall Cpu have s n i ≡ fitting have (cpuMember c n i)
   pub extended : (s : List ℕ) (c : CpuSheet) → cpuCall s ≡ taken c → c .extension .there ≡ leb 1191 (length s)
   -- the sheet of one accepted state written over another of its length: every byte up to 1191 is the first's, and those behind stay
   pub over : (s t new : List ℕ) (x : CpuShown) (r : Answer) → Bytes s → Bytes t → Accepted Cpu s → Accepted Cpu t → length t ≡ length s → x ≡ cpuShown (cpuCall s)
@@ -93,7 +93,7 @@ pub record CpuSheets : Type 0 where
 
 pub record MmuSheets : Type 0 where
   pub takes : (s : List ℕ) (m : MmuSheet) → (mmuCall s ≡ taken m) ↔ (Accepted Mmu s × (m ≡ mmuOf s))
-  pub members : (s : List ℕ) (m : MmuSheet) → Bytes s → mmuCall s ≡ taken m → (have n i : ℕ) → Has Mmu n i s → fieldCall Mmu have s n i ≡ fitting have (mmuMember m n i)
+  pub members : (s : List ℕ) (m : MmuSheet) → Bytes s → mmuCall s ≡ taken m → (have n i : ℕ) → HasField Mmu n i s → fieldCall Mmu have s n i ≡ fitting have (mmuMember m n i)
   pub over : (s t new : List ℕ) (x : MmuShown) (r : Answer) → Bytes s → Accepted Mmu s → Accepted Mmu t → x ≡ mmuShown (mmuCall s)
       → Changes 264 (mmuOverCall (x .sheet) t) t r new → (r .number ≡ 0) × (new ≡ s)
   pub back : (s new : List ℕ) (x : MmuShown) (r : Answer) → Bytes s → Accepted Mmu s → x ≡ mmuShown (mmuCall s) → Changes 264 (mmuOverCall (x .sheet) s) s r new
@@ -108,7 +108,7 @@ pub record AccessWords : Type 0 where
   pub determined : (w v : ℕ) → accessOf w ≡ accessOf v → w ≡ v
 
 pub record Sheet : Type 0 where
-  pub reading : (k : State) → Reading k
+  pub reading : (k : State) → FieldReading k
   pub setting : (k : State) → Setting k
   pub in-place : InPlace
   pub cpu : CpuSheets

@@ -11,7 +11,7 @@ use Rattle.format.specs.Format.{read}
 use Rattle.order.specs.Keyed.{insert, has}
 use Rattle.order.specs.Entries.{split}
 use Rattle.lists.specs.Lists.{entryAt, walk, listAt}
-use Rattle.dskc.specs.Wrapper.{header, wrapperOf, controllersCall, canonicalCall}
+use Rattle.dskc.specs.Wrapper.{wrapperHeader, wrapperOf, controllersCall, wrapperCanonicalCall}
 
 -- bus 1, device 0, function 0: stored `00 01`, with one byte
 abbrev far : List ℕ
@@ -22,28 +22,28 @@ abbrev near : List ℕ
 near = 250 ∷ 0 ∷ 0 ∷ 0 ∷ 65 ∷ 72 ∷ 67 ∷ 73 ∷ 2 ∷ 0 ∷ 0 ∷ 0 ∷ 171 ∷ 205 ∷ []
 
 abbrev two : List ℕ
-two = header ++ (2 ∷ 0 ∷ 0 ∷ 0 ∷ (far ++ near))
+two = wrapperHeader ++ (2 ∷ 0 ∷ 0 ∷ 0 ∷ (far ++ near))
 
 abbrev sorted : List ℕ
-sorted = header ++ (2 ∷ 0 ∷ 0 ∷ 0 ∷ (near ++ far))
+sorted = wrapperHeader ++ (2 ∷ 0 ∷ 0 ∷ 0 ∷ (near ++ far))
 
 -- 250 comes before 256, whatever the tags say; a count of 0 is kept
 pub record Examples : Type 0 where
   pub taken-so : wrapperOf two ≡ taken (17 ∷ 4 ∷ [])
-  pub canonical : canonicalCall 47 two ≡ taken sorted
-  pub again : canonicalCall 47 sorted ≡ taken sorted
-  pub no-room : canonicalCall 46 two ≡ refused ROOM 47
+  pub canonical : wrapperCanonicalCall 47 two ≡ taken sorted
+  pub again : wrapperCanonicalCall 47 sorted ≡ taken sorted
+  pub no-room : wrapperCanonicalCall 46 two ≡ refused ROOM 47
   pub table : controllersCall 64 two ≡ taken (
       (250 ∷ 0 ∷ 0 ∷ 0 ∷ 65 ∷ 72 ∷ 67 ∷ 73 ∷ 45 ∷ 0 ∷ 0 ∷ 0 ∷ 0 ∷ 0 ∷ 0 ∷ 0 ∷ 2 ∷ 0 ∷ 0 ∷ 0 ∷ 0 ∷ 0 ∷ 0 ∷ 0 ∷ 1 ∷ 0 ∷ 0 ∷ 0 ∷ 0 ∷ 0 ∷ 0 ∷ 0 ∷ [])
       ++ (0 ∷ 1 ∷ 0 ∷ 0 ∷ 73 ∷ 68 ∷ 69 ∷ 48 ∷ 32 ∷ 0 ∷ 0 ∷ 0 ∷ 0 ∷ 0 ∷ 0 ∷ 0 ∷ 1 ∷ 0 ∷ 0 ∷ 0 ∷ 0 ∷ 0 ∷ 0 ∷ 0 ∷ 0 ∷ 0 ∷ 0 ∷ 0 ∷ 0 ∷ 0 ∷ 0 ∷ 0 ∷ [])
       )
-  pub none : canonicalCall 20 (header ++ (0 ∷ 0 ∷ 0 ∷ 0 ∷ [])) ≡ taken (header ++ (0 ∷ 0 ∷ 0 ∷ 0 ∷ []))
+  pub none : wrapperCanonicalCall 20 (wrapperHeader ++ (0 ∷ 0 ∷ 0 ∷ 0 ∷ [])) ≡ taken (wrapperHeader ++ (0 ∷ 0 ∷ 0 ∷ 0 ∷ []))
   pub short : wrapperOf (take 15 two) ≡ refused SHORT 0
   pub no-count : wrapperOf (take 19 two) ≡ refused SHAPE 16
   pub letters : wrapperOf (set two 9 0) ≡ refused MAGIC 8
   pub pairs : wrapperOf (set two 14 1) ≡ refused VERSION 12
   pub reserved : wrapperOf (set two 22 1) ≡ refused RESERVED 22
-  pub key-again : wrapperOf (header ++ (2 ∷ 0 ∷ 0 ∷ 0 ∷ (far ++ far))) ≡ refused KEY 33
+  pub key-again : wrapperOf (wrapperHeader ++ (2 ∷ 0 ∷ 0 ∷ 0 ∷ (far ++ far))) ≡ refused KEY 33
   pub left-over : wrapperOf (two ++ (0 ∷ [])) ≡ refused SHAPE 47
 
 pub examples : Examples

@@ -6,7 +6,7 @@ use Prim.Native.Nat.{ℕ}
 use Rattle.answer.specs.declared.Answer.{Answer}
 use Rattle.answer.specs.Calls.{verdict, Writes}
 use Rattle.answer.proofs.Once.{equal-once, writes-once}
-use Rattle.dskc.specs.Wrapper.{wrapperOf, controllersCall, canonicalCall}
+use Rattle.dskc.specs.Wrapper.{wrapperOf, controllersCall, wrapperCanonicalCall}
 
 pub check-once : (s : List ℕ) {r p : Answer} → r ≡ verdict (wrapperOf s) → p ≡ verdict (wrapperOf s) → r ≡ p
 check-once s e f = equal-once e f
@@ -16,5 +16,5 @@ pub controllers-once : (have : ℕ) (s : List ℕ) {old new now : List ℕ} {r p
 controllers-once have s a b = writes-once a b
 
 pub canonical-once : (have : ℕ) (s : List ℕ) {old new now : List ℕ} {r p : Answer}
-    → Writes (canonicalCall have s) old r new → Writes (canonicalCall have s) old p now → (r ≡ p) × (new ≡ now)
+    → Writes (wrapperCanonicalCall have s) old r new → Writes (wrapperCanonicalCall have s) old p now → (r ≡ p) × (new ≡ now)
 canonical-once have s a b = writes-once a b

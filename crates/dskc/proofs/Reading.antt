@@ -27,7 +27,7 @@ use Rattle.tables.specs.declared.Table.the-variants.{Controllers}
 use Rattle.tables.specs.Tables.{ROW, rowsIn, rowsAt}
 use Rattle.tables.proofs.Rows.{length-rows, rows-all}
 use Rattle.writer.specs.Steps.{Listed}
-use Rattle.dskc.specs.Wrapper.{wrapperMost, headerChecks, wrapperOf, controllersCall}
+use Rattle.dskc.specs.Wrapper.{wrapperMost, wrapperHeaderChecks, wrapperOf, controllersCall}
 
 -- a refusal, with the places as they were
 stopped : {o : Outcome (List ℕ)} {old new : List ℕ} {n p : ℕ} → o ≡ refused n p → new ≡ old → Indexed o old (Stop n p) new
@@ -36,15 +36,15 @@ stopped {o} {old} e k = record { answers = sym (ap (λ (x : Outcome (List ℕ)).
 -- ---- the wrapper, by the index of the list behind its header
 
 module _ (s : List ℕ) where
-  pub header-stop : {n p : ℕ} (old : List ℕ) → refused n p ≡ asked (headerChecks s) → Indexed (wrapperOf s) old (Stop n p) old
+  pub header-stop : {n p : ℕ} (old : List ℕ) → refused n p ≡ asked (wrapperHeaderChecks s) → Indexed (wrapperOf s) old (Stop n p) old
   unfolding wrapperOf
-  header-stop old h = stopped (asked-stop (headerChecks s) (moved 16 (listAt controllers (drop 16 s))) h) refl
+  header-stop old h = stopped (asked-stop (wrapperHeaderChecks s) (moved 16 (listAt controllers (drop 16 s))) h) refl
 
   -- a header that passes
-  module _ (g : Pass (headerChecks s)) where
+  module _ (g : Pass (wrapperHeaderChecks s)) where
     behind : wrapperOf s ≡ moved 16 (listAt controllers (drop 16 s))
     unfolding wrapperOf
-    behind = pass-checked (headerChecks s) (moved 16 (listAt controllers (drop 16 s))) g
+    behind = pass-checked (wrapperHeaderChecks s) (moved 16 (listAt controllers (drop 16 s))) g
 
     pub small : length (drop 16 s) ≤ 1073741824
     small = omega (arith, leb-true (length s) wrapperMost (g .0), length-drop 16 s)
@@ -71,10 +71,10 @@ module _ (s : List ℕ) where
           subst (λ (o : Outcome (List ℕ)). Indexed o old (Ends n) new) (f ∙ sym (behind ∙ ap (moved 16) (sym kept ∙ f))) i
 
 -- a wrapper that is taken has a header that passes, and a list that is taken
-pub whole : (s : List ℕ) {l : List ℕ} → wrapperOf s ≡ taken l → Pass (headerChecks s) × (listAt controllers (drop 16 s) ≡ taken l)
+pub whole : (s : List ℕ) {l : List ℕ} → wrapperOf s ≡ taken l → Pass (wrapperHeaderChecks s) × (listAt controllers (drop 16 s) ≡ taken l)
 unfolding wrapperOf
 whole s {l} h =
-    let p = checked-pass (headerChecks s) (moved 16 (listAt controllers (drop 16 s))) l h in
+    let p = checked-pass (wrapperHeaderChecks s) (moved 16 (listAt controllers (drop 16 s))) l h in
     (p .0, moved-taken 16 (listAt controllers (drop 16 s)) (p .1))
 
 -- ---- the calls that go on from the index

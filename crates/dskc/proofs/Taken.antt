@@ -24,7 +24,7 @@ use Rattle.entries.proofs.Lawful.{Lawful, lawful}
 use Rattle.lists.specs.Lists.{keyAt, listAt, listBytes}
 use Rattle.lists.proofs.Taken.{list-sound, closed-tail}
 use Rattle.lists.proofs.Written.{Good, good-sort, good-entries, length-list, bare-taken, entries-bare, list-bytes}
-use Rattle.dskc.specs.Wrapper.{wrapperMost, aero, dskc, header, headerChecks, wrapperOf, wrapperBytes, IsWrapper, controllersOf}
+use Rattle.dskc.specs.Wrapper.{wrapperMost, aero, dskc, wrapperHeader, wrapperHeaderChecks, wrapperOf, wrapperBytes, IsWrapper, controllersOf}
 use Rattle.dskc.proofs.Reading.{whole}
 
 abbrev K : Lawful controllers
@@ -34,7 +34,7 @@ K = lawful kind.Controllers
 fixed-at : (n : ℕ) (s : List ℕ) (at v : ℕ) → Bytes s → at + n ≤ length s → eqb (leAt n s at) v ≡ true → take n (drop at s) ≡ bytesOf n v
 fixed-at n s at v b h e = sym (bytesOf-leAt n s at b h) ∙ ap (bytesOf n) (eqb-true _ _ e)
 
-header-sound : (s : List ℕ) → Bytes s → Pass (headerChecks s) → s ≡ header ++ drop 16 s
+header-sound : (s : List ℕ) → Bytes s → Pass (wrapperHeaderChecks s) → s ≡ wrapperHeader ++ drop 16 s
 unfolding bytesOf
 header-sound s b (z, (l, (a, (p, (d, (q, u)))))) =
     let h : 16 ≤ length s = leb-true 16 (length s) l in
@@ -47,9 +47,9 @@ header-sound s b (z, (l, (a, (p, (d, (q, u)))))) =
     peeled 2 12 s (1 ∷ 0 ∷ []) (fixed-at 2 s 12 1 b (omega arith) (q′ .0)) ∙ ap (λ (t : List ℕ). 1 ∷ 0 ∷ t) (
     peeled 2 14 s (0 ∷ 0 ∷ []) (fixed-at 2 s 14 0 b (omega arith) (q′ .1)))))))
 
-header-complete : (t : List ℕ) → length (header ++ t) ≤ wrapperMost → Pass (headerChecks (header ++ t))
+header-complete : (t : List ℕ) → length (wrapperHeader ++ t) ≤ wrapperMost → Pass (wrapperHeaderChecks (wrapperHeader ++ t))
 unfolding leAt le
-header-complete t h = (le-leb _ _ h, (le-leb 16 (length (header ++ t)) (omega arith), (refl, (refl, (refl, (refl, tt))))))
+header-complete t h = (le-leb _ _ h, (le-leb 16 (length (wrapperHeader ++ t)) (omega arith), (refl, (refl, (refl, (refl, tt))))))
 
 -- ---- taken exactly
 
@@ -58,7 +58,7 @@ wrapper-sound s b h =
     let w = whole s h in
     let g = good-entries controllers (drop 16 s) (list-sound K (drop 16 s) (w .1)) in
     let part : Bytes (drop 16 s) = λ i. rw (getD-drop 16 s i 0) (b (16 + i)) in
-    let e : s ≡ wrapperBytes (controllersOf s) = header-sound s b (w .0) ∙ ap (λ (t : List ℕ). header ++ t) (
+    let e : s ≡ wrapperBytes (controllersOf s) = header-sound s b (w .0) ∙ ap (λ (t : List ℕ). wrapperHeader ++ t) (
     list-bytes K (drop 16 s) (w .1) part
     ∙ ap (λ (t : List ℕ). listBytes (controllersOf s) ++ t) (closed-tail controllers (drop 16 s) refl (list-sound K (drop 16 s) (w .1)))
     ∙ append-nil (listBytes (controllersOf s))
@@ -71,7 +71,7 @@ good l v = record { are = v .are; apart = v .apart; few = v .few }
 pub wrapper-complete : (l : List (List ℕ)) → IsWrapper l → wrapperOf (wrapperBytes l) ≡ taken (sort (keyAt controllers (listBytes l)) (startsFrom 4 l))
 unfolding wrapperOf
 wrapper-complete l v =
-    pass-checked (headerChecks (wrapperBytes l)) (moved 16 (listAt controllers (listBytes l))) (header-complete (listBytes l) (v .short))
+    pass-checked (wrapperHeaderChecks (wrapperBytes l)) (moved 16 (listAt controllers (listBytes l))) (header-complete (listBytes l) (v .short))
     ∙ ap (moved 16) (bare-taken K l (good l v))
 
 -- the controllers of a rendering are those that were rendered, so two renderings are equal only of the same

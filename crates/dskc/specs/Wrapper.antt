@@ -32,12 +32,12 @@ abbrev pub pair : List ℕ
 pair = 1 ∷ 0 ∷ 0 ∷ 0 ∷ []
 
 -- `AERO`, u16 1, u16 0, `DSKC`, u16 1, u16 0
-abbrev pub header : List ℕ
-header = aero ++ (pair ++ (dskc ++ pair))
+abbrev pub wrapperHeader : List ℕ
+wrapperHeader = aero ++ (pair ++ (dskc ++ pair))
 
 -- what is asked of a wrapper before its list
-abbrev pub headerChecks : List ℕ → Checks
-headerChecks s =
+abbrev pub wrapperHeaderChecks : List ℕ → Checks
+wrapperHeaderChecks s =
     (leb (length s) wrapperMost, SIZE, 0)
     ∷ (leb 16 (length s), SHORT, 0)
     ∷ (same (take 4 s) aero, MAGIC, 0)
@@ -48,11 +48,11 @@ headerChecks s =
 
 -- the wrapper that s is: where its controllers start behind the header, in address order, or its first fault
 unfoldable pub wrapperOf : List ℕ → Outcome (List ℕ)
-wrapperOf s = checked (headerChecks s) (moved 16 (listAt controllers (drop 16 s)))
+wrapperOf s = checked (wrapperHeaderChecks s) (moved 16 (listAt controllers (drop 16 s)))
 
 -- controllers as a wrapper; a count of 0 is kept
 abbrev pub wrapperBytes : List (List ℕ) → List ℕ
-wrapperBytes l = header ++ listBytes l
+wrapperBytes l = wrapperHeader ++ listBytes l
 
 -- what the controllers of a wrapper are, with no word of how they are read
 pub record IsWrapper (l : List (List ℕ)) : Type 0 where
@@ -72,5 +72,5 @@ abbrev pub controllersCall : ℕ → List ℕ → Outcome (List ℕ)
 controllersCall have s = after (wrapperOf s) (λ l. fitting have (rowsAt Controllers 16 (drop 16 s) l))
 
 -- the canonical wrapper: in address order
-abbrev pub canonicalCall : ℕ → List ℕ → Outcome (List ℕ)
-canonicalCall have s = after (wrapperOf s) (λ _. fitting have (wrapperBytes (sort (controllers .key) (controllersOf s))))
+abbrev pub wrapperCanonicalCall : ℕ → List ℕ → Outcome (List ℕ)
+wrapperCanonicalCall have s = after (wrapperOf s) (λ _. fitting have (wrapperBytes (sort (controllers .key) (controllersOf s))))

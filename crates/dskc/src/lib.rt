@@ -25,7 +25,7 @@ ghost use Rattle.wire.specs.Parts.{Wrote};
 ghost use Rattle.entries.specs.Kinds.{controllers};
 ghost use Rattle.lists.specs.Promises.{Indexed};
 ghost use Rattle.writer.specs.Steps.{Listed, sortedBytes};
-ghost use Rattle.dskc.specs.Wrapper.{headerChecks, wrapperOf, controllersCall, canonicalCall};
+ghost use Rattle.dskc.specs.Wrapper.{wrapperHeaderChecks, wrapperOf, controllersCall, wrapperCanonicalCall};
 ghost use Rattle.dskc.specs.Wrapper as wrapper;
 
 // The bound of a wrapper.
@@ -51,7 +51,7 @@ fn pair_at(s: &[u8], at: usize) -> bool
 }
 
 fn header(s: &[u8]) -> Test
-    ensures { λ r. ⌜ testOf r ≡ asked (headerChecks (now (s .entry))) ⌝ }
+    ensures { λ r. ⌜ testOf r ≡ asked (wrapperHeaderChecks (now (s .entry))) ⌝ }
 {
     if WRAPPER_MOST < s.len() {
         return Test::Fault(SIZE, 0);
@@ -143,7 +143,7 @@ pub fn controllers(wrapper: &[u8], table: &mut [u8]) -> Answer
 // The header: the fixed letters and pairs.
 fn put_header(out: &mut [u8])
     requires { ⌜ 16 ≤ length (now out) ⌝ }
-    ensures { λ _. ⌜ Wrote wrapper.header (now (out .entry)) (now (out .exit)) 16 ⌝ }
+    ensures { λ _. ⌜ Wrote wrapper.wrapperHeader (now (out .entry)) (now (out .exit)) 16 ⌝ }
 {
     wire::put_u32(out, 0, AERO);
     wire::put_u32(out, 4, 1);
@@ -165,7 +165,7 @@ fn put_list(s: &[u8], starts: &[u32], out: &mut [u8])
 
 // The canonical wrapper: the header, and the controllers in address order, a count of 0 kept.
 pub fn canonical(wrapper: &[u8], out: &mut [u8]) -> Answer
-    ensures { λ r. ⌜ Writes (canonicalCall (length (now (out .entry))) (now (wrapper .entry))) (now (out .entry)) r (now (out .exit)) ⌝ }
+    ensures { λ r. ⌜ Writes (wrapperCanonicalCall (length (now (out .entry))) (now (wrapper .entry))) (now (out .entry)) r (now (out .exit)) ⌝ }
 {
     let mut starts = [0u32; CONTROLLERS_MOST];
     match index(wrapper, &mut starts) {

@@ -4,15 +4,15 @@ use mathlib.Core.Path.{_≡_, refl}
 use mathlib.Core.List.{_++_}
 use Prim.Native.Nat.{ℕ}
 use Rattle.entries.specs.States.{registers, extension, mmuLength}
-use Rattle.fields.specs.Layout.{cpuLayout, cpuExtension, mmuLayout, size, ranges}
+use Rattle.fields.specs.Layout.{cpuLayout, cpuExtension, mmuLayout, layoutSize, ranges}
 
-pub cpu-size : size cpuLayout ≡ 1183
+pub cpu-size : layoutSize cpuLayout ≡ 1183
 cpu-size = refl
 
-pub cpu-size-extended : size (cpuLayout ++ cpuExtension) ≡ 1191
+pub cpu-size-extended : layoutSize (cpuLayout ++ cpuExtension) ≡ 1191
 cpu-size-extended = refl
 
-pub mmu-size : size mmuLayout ≡ mmuLength 2
+pub mmu-size : layoutSize mmuLayout ≡ mmuLength 2
 mmu-size = refl
 
 pub cpu-ranges : ranges 0 cpuLayout ≡ registers

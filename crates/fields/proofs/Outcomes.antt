@@ -27,12 +27,12 @@ use Rattle.fields.specs.declared.Spot.the-variants.{At, Lacks}
 use Rattle.fields.specs.declared.State.{State}
 use Rattle.fields.specs.declared.State.the-variants.{Cpu, Mmu}
 use Rattle.fields.specs.Layout.{rowAt}
-use Rattle.fields.specs.Fields.{rightLength, listed, valueChecks, stateChecks, placeOf, hasIn, findIn, spotOf, bytesAt, fieldChecks, fieldCall, setTo, setChecks, setCall, Changes}
+use Rattle.fields.specs.Fields.{rightLength, listedNumbers, rangeChecks, stateChecks, fieldPlace, hasIn, fieldSpot, spotOutcome, bytesAt, fieldChecks, fieldCall, setTo, setChecks, setCall, Changes}
 use Rattle.fields.proofs.Table.{Small, small-row, apart}
 
 -- ---- what is asked of a state
 
-values-rows : (l : List (ℕ × ℕ × ℕ × ℕ)) (s : List ℕ) → values l s ≡ asked (valueChecks l s)
+values-rows : (l : List (ℕ × ℕ × ℕ × ℕ)) (s : List ℕ) → values l s ≡ asked (rangeChecks l s)
 unfolding values
 values-rows [] s = refl
 values-rows (r ∷ l) s = ap (λ (o : Outcome (Unit {0})). checked ((leb (r .2) (leAt (r .1) s (r .0)) && leb (leAt (r .1) s (r .0)) (r .3), VALUE, r .0) ∷ []) o) (values-rows l s)
@@ -48,56 +48,56 @@ judge-mmu s b e = ap (λ (t : Bool). asked ((t, SHAPE, 0) ∷ [])) (sym e)
 -- ---- where a field stands
 
 module _ (r : Row) (i : ℕ) where
-  split : (b : Bool) {at w : ℕ} → _≡_ {A = Outcome (ℕ × ℕ)} (taken (at, w)) (checked ((b, SHAPE, 0) ∷ []) (taken (placeOf r i, r .width))) → (b ≡ true) × (at ≡ placeOf r i) × (w ≡ r .width)
+  split : (b : Bool) {at w : ℕ} → _≡_ {A = Outcome (ℕ × ℕ)} (taken (at, w)) (checked ((b, SHAPE, 0) ∷ []) (taken (fieldPlace r i, r .width))) → (b ≡ true) × (at ≡ fieldPlace r i) × (w ≡ r .width)
   split true e = let q = taken-is e in (refl, ap (λ (p : ℕ × ℕ). p .0) q, ap (λ (p : ℕ × ℕ). p .1) q)
   split false e = absurd (taken-refused e)
 
-  split-not : (b : Bool) → _≡_ {A = Outcome (ℕ × ℕ)} (refused SHAPE 0) (checked ((b, SHAPE, 0) ∷ []) (taken (placeOf r i, r .width))) → b ≡ false
+  split-not : (b : Bool) → _≡_ {A = Outcome (ℕ × ℕ)} (refused SHAPE 0) (checked ((b, SHAPE, 0) ∷ []) (taken (fieldPlace r i, r .width))) → b ≡ false
   split-not true e = absurd (taken-refused (sym e))
   split-not false e = refl
 
 -- the answer `At` of the code, or `Lacks`
 pub record Found (r : Row) (i len at w : ℕ) : Type 0 where
   pub has : hasIn r i len ≡ true
-  pub place : at ≡ placeOf r i
+  pub place : at ≡ fieldPlace r i
   pub width : w ≡ r .width
   pub ends : at + w ≤ len
   pub short : w ≤ 512
 
-pub found : (k : State) (n i len : ℕ) {x : Spot} {at w : ℕ} → spotOf x ≡ findIn (rowAt k n) i len → x ≡ At at w → Found (rowAt k n) i len at w
+pub found : (k : State) (n i len : ℕ) {x : Spot} {at w : ℕ} → spotOutcome x ≡ fieldSpot (rowAt k n) i len → x ≡ At at w → Found (rowAt k n) i len at w
 found k n i len {x} {at} {w} e f =
     let r = rowAt k n in
-    let q = split r i (hasIn r i len) (sym (ap spotOf f) ∙ e) in
-    let h : placeOf r i + r .width ≤ len = leb-true (placeOf r i + r .width) len (and-true (ltb i (r .count)) (leb (placeOf r i + r .width) len) (q .0) .1) in
+    let q = split r i (hasIn r i len) (sym (ap spotOutcome f) ∙ e) in
+    let h : fieldPlace r i + r .width ≤ len = leb-true (fieldPlace r i + r .width) len (and-true (ltb i (r .count)) (leb (fieldPlace r i + r .width) len) (q .0) .1) in
     record { has = q .0; place = q .1; width = q .2; ends = rw (q .1, q .2) h; short = rw (q .2) (small-row k n .width) }
 
-pub found-not : (k : State) (n i len : ℕ) {x : Spot} → spotOf x ≡ findIn (rowAt k n) i len → x ≡ Lacks → hasIn (rowAt k n) i len ≡ false
-found-not k n i len e f = split-not (rowAt k n) i (hasIn (rowAt k n) i len) (sym (ap spotOf f) ∙ e)
+pub found-not : (k : State) (n i len : ℕ) {x : Spot} → spotOutcome x ≡ fieldSpot (rowAt k n) i len → x ≡ Lacks → hasIn (rowAt k n) i len ≡ false
+found-not k n i len e f = split-not (rowAt k n) i (hasIn (rowAt k n) i len) (sym (ap spotOutcome f) ∙ e)
 
 -- a field that is set leaves the length, and what the state says of it
 pub set-right : (k : State) (n i : ℕ) (v s : List ℕ) → hasIn (rowAt k n) i (length s) ≡ true → length v ≡ rowAt k n .width → rightLength k (setTo (rowAt k n) i v s) ≡ rightLength k s
 set-right Mmu n i v s h w =
     let r = rowAt Mmu n in
-    let b = and-true (ltb i (r .count)) (leb (placeOf r i + r .width) (length s)) h in
-    ap (λ (m : ℕ). eqb m (mmuLength 2)) (length-splice (placeOf r i) v s (omega (arith, w, leb-true (placeOf r i + r .width) (length s) (b .1))))
+    let b = and-true (ltb i (r .count)) (leb (fieldPlace r i + r .width) (length s)) h in
+    ap (λ (m : ℕ). eqb m (mmuLength 2)) (length-splice (fieldPlace r i) v s (omega (arith, w, leb-true (fieldPlace r i + r .width) (length s) (b .1))))
 set-right Cpu n i v s h w =
     ap (λ (m : ℕ). cpuLength 2 m && extends (setTo r i v s)) long ∙ ap (λ (t : Bool). cpuLength 2 (length s) && t) (extends-same (leb (length s) 1191) refl)
   where
     r : Row
     r = rowAt Cpu n
 
-    fits : placeOf r i + length v ≤ length s
-    fits = let b = and-true (ltb i (r .count)) (leb (placeOf r i + r .width) (length s)) h in omega (arith, w, leb-true (placeOf r i + r .width) (length s) (b .1))
+    fits : fieldPlace r i + length v ≤ length s
+    fits = let b = and-true (ltb i (r .count)) (leb (fieldPlace r i + r .width) (length s)) h in omega (arith, w, leb-true (fieldPlace r i + r .width) (length s) (b .1))
 
     long : length (setTo r i v s) ≡ length s
-    long = length-splice (placeOf r i) v s fits
+    long = length-splice (fieldPlace r i) v s fits
 
     word : 1191 < length s → leAt 4 (setTo r i v s) 1183 ≡ leAt 4 s 1183
-    word g = go (apart n i (ltb-true i (r .count) (and-true (ltb i (r .count)) (leb (placeOf r i + r .width) (length s)) h .0)))
+    word g = go (apart n i (ltb-true i (r .count) (and-true (ltb i (r .count)) (leb (fieldPlace r i + r .width) (length s)) h .0)))
       where
-        go : (placeOf r i + r .width ≤ 1183) ⊎ (1187 ≤ placeOf r i) → leAt 4 (setTo r i v s) 1183 ≡ leAt 4 s 1183
-        go (inl e) = leAt-above (placeOf r i) v s fits 4 1183 (omega (arith, w)) (omega arith)
-        go (inr e) = leAt-below (placeOf r i) v s fits 4 1183 (omega arith)
+        go : (fieldPlace r i + r .width ≤ 1183) ⊎ (1187 ≤ fieldPlace r i) → leAt 4 (setTo r i v s) 1183 ≡ leAt 4 s 1183
+        go (inl e) = leAt-above (fieldPlace r i) v s fits 4 1183 (omega (arith, w)) (omega arith)
+        go (inr e) = leAt-below (fieldPlace r i) v s fits 4 1183 (omega arith)
 
     extends-same : (b : Bool) → leb (length s) 1191 ≡ b → extends (setTo r i v s) ≡ extends s
     extends-same true e = ap (λ (m : ℕ). leb m 1191 || eqb m (1187 + leAt 4 (setTo r i v s) 1183)) long ∙ rw e
@@ -125,13 +125,13 @@ module _ {A : Type 0} (k : State) (r : Row) (i : ℕ) (s : List ℕ) (next : Out
   unfolding fieldChecks
   field-lacks e = go (rightLength k s)
     where
-      go : (b : Bool) → checked ((b, SHAPE, 0) ∷ (hasIn r i (length s), SHAPE, 0) ∷ valueChecks (listed k (length s)) s) next ≡ refused SHAPE 0
+      go : (b : Bool) → checked ((b, SHAPE, 0) ∷ (hasIn r i (length s), SHAPE, 0) ∷ rangeChecks (listedNumbers k (length s)) s) next ≡ refused SHAPE 0
       go true = rw e
       go false = refl
 
   field-there : hasIn r i (length s) ≡ true → checked (fieldChecks k r i s) next ≡ checked (stateChecks k s) next
   unfolding fieldChecks stateChecks
-  field-there e = ap (λ (b : Bool). checked ((rightLength k s, SHAPE, 0) ∷ (b, SHAPE, 0) ∷ valueChecks (listed k (length s)) s) next) e
+  field-there e = ap (λ (b : Bool). checked ((rightLength k s, SHAPE, 0) ∷ (b, SHAPE, 0) ∷ rangeChecks (listedNumbers k (length s)) s) next) e
 
 pub reads-lacks : (k : State) (s : List ℕ) (n i have : ℕ) {old : List ℕ} → hasIn (rowAt k n) i (length s) ≡ false → Writes (fieldCall k have s n i) old (record { number = SHAPE; place = 0 }) old
 unfolding fieldCall
@@ -175,7 +175,7 @@ module _ {A : Type 0} (k : State) (r : Row) (i : ℕ) (v s : List ℕ) (next : O
   unfolding setChecks
   set-lacks e f = rw (e, f)
 
-  pub set-wide : rightLength k s ≡ true → hasIn r i (length s) ≡ true → eqb (length v) (r .width) ≡ false → checked (setChecks k r i v s) next ≡ refused VALUE (placeOf r i)
+  pub set-wide : rightLength k s ≡ true → hasIn r i (length s) ≡ true → eqb (length v) (r .width) ≡ false → checked (setChecks k r i v s) next ≡ refused VALUE (fieldPlace r i)
   unfolding setChecks
   set-wide e f g = rw (e, f, g)
 

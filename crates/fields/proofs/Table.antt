@@ -16,8 +16,8 @@ use Rattle.answer.proofs.Checks.{and-true}
 use Rattle.fields.specs.declared.Row.{Row}
 use Rattle.fields.specs.declared.State.{State}
 use Rattle.fields.specs.declared.State.the-variants.{Cpu, Mmu}
-use Rattle.fields.specs.Layout.{row, noRow, table, rowAt}
-use Rattle.fields.specs.Fields.{findIn}
+use Rattle.fields.specs.Layout.{fieldRow, noRow, fieldTable, rowAt}
+use Rattle.fields.specs.Fields.{fieldSpot}
 
 -- ---- the code's table
 
@@ -25,7 +25,7 @@ use Rattle.fields.specs.Fields.{findIn}
 abbrev cells : Row → List ℕ
 cells r = r .at ∷ r .width ∷ r .count ∷ r .step ∷ []
 
-pub read-row : (l : List Row) (n : ℕ) → row (getD (getD (map cells l) n []) 0 0) (getD (getD (map cells l) n []) 1 0) (getD (getD (map cells l) n []) 2 0) (getD (getD (map cells l) n []) 3 0) ≡ getD l n noRow
+pub read-row : (l : List Row) (n : ℕ) → fieldRow (getD (getD (map cells l) n []) 0 0) (getD (getD (map cells l) n []) 1 0) (getD (getD (map cells l) n []) 2 0) (getD (getD (map cells l) n []) 3 0) ≡ getD l n noRow
 read-row [] n = refl
 read-row (r ∷ l) zero = refl
 read-row (r ∷ l) (suc n) = read-row l n
@@ -38,11 +38,11 @@ past (r ∷ l) (suc n) h = past l n (omega arith)
 
 pub no-cpu-row : (n : ℕ) → 26 ≤ n → noRow ≡ rowAt Cpu n
 unfolding rowAt
-no-cpu-row n h = sym (past (table Cpu) n h)
+no-cpu-row n h = sym (past (fieldTable Cpu) n h)
 
 pub no-mmu-row : (n : ℕ) → 11 ≤ n → noRow ≡ rowAt Mmu n
 unfolding rowAt
-no-mmu-row n h = sym (past (table Mmu) n h)
+no-mmu-row n h = sym (past (fieldTable Mmu) n h)
 
 -- ---- no field is long, or far from the start
 
@@ -73,8 +73,8 @@ each (r ∷ l) (suc n) e = each l n (and-true (small r) (all l) e .1)
 
 pub small-row : (k : State) (n : ℕ) → Small (rowAt k n)
 unfolding rowAt
-small-row Cpu n = decode (getD (table Cpu) n noRow) (each (table Cpu) n refl)
-small-row Mmu n = decode (getD (table Mmu) n noRow) (each (table Mmu) n refl)
+small-row Cpu n = decode (getD (fieldTable Cpu) n noRow) (each (fieldTable Cpu) n refl)
+small-row Mmu n = decode (getD (fieldTable Mmu) n noRow) (each (fieldTable Mmu) n refl)
 
 -- ---- no field meets the extension's length
 
@@ -92,7 +92,7 @@ each-clear (r ∷ l) (suc n) e = each-clear l n (and-true (clear r) (all-clear l
 
 cpu-clear : (n : ℕ) → clear (rowAt Cpu n) ≡ true
 unfolding rowAt
-cpu-clear n = each-clear (table Cpu) n refl
+cpu-clear n = each-clear (fieldTable Cpu) n refl
 
 pub apart : (n i : ℕ) → i < rowAt Cpu n .count → (rowAt Cpu n .at + i * rowAt Cpu n .step + rowAt Cpu n .width ≤ 1183) ⊎ (1187 ≤ rowAt Cpu n .at + i * rowAt Cpu n .step)
 apart n i h = go (rowAt Cpu n) h (leb (rowAt Cpu n .at + (rowAt Cpu n .count - 1) * rowAt Cpu n .step + rowAt Cpu n .width) 1183) refl (cpu-clear n)
@@ -116,11 +116,11 @@ module _ (k : State) (n : ℕ) {r : Row} (e : r ≡ rowAt k n) where
         let g : i ≤ 16 = omega (arith, h, s .count) in
         le-trans (mul-le-mul-right (r .step) g) (mul-le-mul-left 16 (s .step))
 
-    pub found-over : (len : ℕ) → r .count ≤ i → refused SHAPE 0 ≡ findIn (rowAt k n) i len
+    pub found-over : (len : ℕ) → r .count ≤ i → refused SHAPE 0 ≡ fieldSpot (rowAt k n) i len
     found-over len h = rw (← e, le-ltb _ _ h)
 
-    pub found-here : (len : ℕ) → i < r .count → leb (r .at + i * r .step + r .width) len ≡ true → taken (r .at + i * r .step, r .width) ≡ findIn (rowAt k n) i len
+    pub found-here : (len : ℕ) → i < r .count → leb (r .at + i * r .step + r .width) len ≡ true → taken (r .at + i * r .step, r .width) ≡ fieldSpot (rowAt k n) i len
     found-here len h t = rw (← e, lt-ltb _ _ h, t)
 
-    pub found-short : (len : ℕ) → i < r .count → leb (r .at + i * r .step + r .width) len ≡ false → refused SHAPE 0 ≡ findIn (rowAt k n) i len
+    pub found-short : (len : ℕ) → i < r .count → leb (r .at + i * r .step + r .width) len ≡ false → refused SHAPE 0 ≡ fieldSpot (rowAt k n) i len
     found-short len h t = rw (← e, lt-ltb _ _ h, t)

@@ -27,46 +27,46 @@ rightLength Cpu s = cpuSized 2 s
 rightLength Mmu s = eqb (length s) (mmuLength 2)
 
 -- the numbers that are listed of one of n bytes
-abbrev pub listed : State → ℕ → List (ℕ × ℕ × ℕ × ℕ)
-listed Cpu n = cpuValues 2 n
-listed Mmu n = []
+abbrev pub listedNumbers : State → ℕ → List (ℕ × ℕ × ℕ × ℕ)
+listedNumbers Cpu n = cpuValues 2 n
+listedNumbers Mmu n = []
 
-abbrev pub valueChecks : List (ℕ × ℕ × ℕ × ℕ) → List ℕ → Checks
-valueChecks [] s = []
-valueChecks (r ∷ l) s = (leb (r .2) (leAt (r .1) s (r .0)) && leb (leAt (r .1) s (r .0)) (r .3), VALUE, r .0) ∷ valueChecks l s
+abbrev pub rangeChecks : List (ℕ × ℕ × ℕ × ℕ) → List ℕ → Checks
+rangeChecks [] s = []
+rangeChecks (r ∷ l) s = (leb (r .2) (leAt (r .1) s (r .0)) && leb (leAt (r .1) s (r .0)) (r .3), VALUE, r .0) ∷ rangeChecks l s
 
 -- its length, then its values in document 01's order
 unfoldable pub stateChecks : State → List ℕ → Checks
-stateChecks k s = (rightLength k s, SHAPE, 0) ∷ valueChecks (listed k (length s)) s
+stateChecks k s = (rightLength k s, SHAPE, 0) ∷ rangeChecks (listedNumbers k (length s)) s
 
 -- ---- a field's place
 
-abbrev pub placeOf : Row → ℕ → ℕ
-placeOf r i = r .at + i * r .step
+abbrev pub fieldPlace : Row → ℕ → ℕ
+fieldPlace r i = r .at + i * r .step
 
 -- a state of so many bytes has the field with that index
 abbrev pub hasIn : Row → ℕ → ℕ → Bool
-hasIn r i len = ltb i (r .count) && leb (placeOf r i + r .width) len
+hasIn r i len = ltb i (r .count) && leb (fieldPlace r i + r .width) len
 
 -- its place and its bytes, or the refusal of one that the state lacks
-abbrev pub findIn : Row → ℕ → ℕ → Outcome (ℕ × ℕ)
-findIn r i len = checked ((hasIn r i len, SHAPE, 0) ∷ []) (taken (placeOf r i, r .width))
+abbrev pub fieldSpot : Row → ℕ → ℕ → Outcome (ℕ × ℕ)
+fieldSpot r i len = checked ((hasIn r i len, SHAPE, 0) ∷ []) (taken (fieldPlace r i, r .width))
 
 -- the outcome that the code's own answer stands for
-abbrev pub spotOf : Spot → Outcome (ℕ × ℕ)
-spotOf (At at w) = taken (at, w)
-spotOf Lacks = refused SHAPE 0
+abbrev pub spotOutcome : Spot → Outcome (ℕ × ℕ)
+spotOutcome (At at w) = taken (at, w)
+spotOutcome Lacks = refused SHAPE 0
 
 -- ---- reading: the length, the field, then the values; ROOM last
 
 abbrev pub bytesAt : Row → ℕ → List ℕ → List ℕ
-bytesAt r i s = take (r .width) (drop (placeOf r i) s)
+bytesAt r i s = take (r .width) (drop (fieldPlace r i) s)
 
 unfoldable pub fieldChecks : State → Row → ℕ → List ℕ → Checks
 fieldChecks k r i s =
     (rightLength k s, SHAPE, 0)
     ∷ (hasIn r i (length s), SHAPE, 0)
-    ∷ valueChecks (listed k (length s)) s
+    ∷ rangeChecks (listedNumbers k (length s)) s
 
 unfoldable pub fieldCall : State → ℕ → List ℕ → ℕ → ℕ → Outcome (List ℕ)
 fieldCall k have s n i = checked (fieldChecks k (rowAt k n) i s) (fitting have (bytesAt (rowAt k n) i s))
@@ -74,13 +74,13 @@ fieldCall k have s n i = checked (fieldChecks k (rowAt k n) i s) (fitting have (
 -- ---- setting: the length, the field, that the value is as wide as it, then the state as it would be
 
 abbrev pub setTo : Row → ℕ → List ℕ → List ℕ → List ℕ
-setTo r i v s = splice (placeOf r i) v s
+setTo r i v s = splice (fieldPlace r i) v s
 
 unfoldable pub setChecks : State → Row → ℕ → List ℕ → List ℕ → Checks
 setChecks k r i v s =
     (rightLength k s, SHAPE, 0)
     ∷ (hasIn r i (length s), SHAPE, 0)
-    ∷ (eqb (length v) (r .width), VALUE, placeOf r i)
+    ∷ (eqb (length v) (r .width), VALUE, fieldPlace r i)
     ∷ stateChecks k (setTo r i v s)
 
 unfoldable pub setCall : State → List ℕ → ℕ → ℕ → List ℕ → Outcome (List ℕ)
@@ -89,16 +89,16 @@ setCall k s n i v = checked (setChecks k (rowAt k n) i v s) (taken (setTo (rowAt
 -- ---- a call that changes lent memory in place
 
 -- the answer: the place of what is taken is the number of bytes stored
-abbrev pub stored : ℕ → Outcome (List ℕ) → Answer
-stored count (taken b) = record { number = 0; place = count }
-stored count (refused n p) = record { number = n; place = p }
+abbrev pub storedAnswer : ℕ → Outcome (List ℕ) → Answer
+storedAnswer count (taken b) = record { number = 0; place = count }
+storedAnswer count (refused n p) = record { number = n; place = p }
 
 -- the memory after it: a refusal leaves all as it was
-abbrev pub changed : Outcome (List ℕ) → List ℕ → List ℕ
-changed (taken b) old = b
-changed (refused n p) old = old
+abbrev pub memoryAfter : Outcome (List ℕ) → List ℕ → List ℕ
+memoryAfter (taken b) old = b
+memoryAfter (refused n p) old = old
 
 -- the promise: its answer r, and `new` in the lent memory that held `old`
 pub record Changes (count : ℕ) (o : Outcome (List ℕ)) (old : List ℕ) (r : Answer) (new : List ℕ) : Type 0 where
-  pub answers : r ≡ stored count o
-  pub leaves : new ≡ changed o old
+  pub answers : r ≡ storedAnswer count o
+  pub leaves : new ≡ memoryAfter o old

@@ -9,41 +9,41 @@ use Rattle.fields.specs.declared.State.the-variants.{Cpu, Mmu}
 
 -- ---- a layout: groups one behind another, each so many times the same parts
 
-pub data Part : Type 0 where
+pub data LayoutPart : Type 0 where
   -- bytes of any value
-  free : ℕ → Part
+  free : ℕ → LayoutPart
   -- a number of so many bytes, from the least to the greatest that it may be
-  ranged : ℕ → ℕ → ℕ → Part
+  ranged : ℕ → ℕ → ℕ → LayoutPart
   -- a number of so many bytes that can only be this one: no field
-  fixed : ℕ → ℕ → Part
+  fixed : ℕ → ℕ → LayoutPart
 
 abbrev pub Layout : Type 0
-Layout = List (ℕ × List Part)
+Layout = List (ℕ × List LayoutPart)
 
-abbrev pub u8 : Part
+abbrev pub u8 : LayoutPart
 u8 = free 1
 
-abbrev pub u16 : Part
+abbrev pub u16 : LayoutPart
 u16 = free 2
 
-abbrev pub u32 : Part
+abbrev pub u32 : LayoutPart
 u32 = free 4
 
-abbrev pub u64 : Part
+abbrev pub u64 : LayoutPart
 u64 = free 8
 
-abbrev pub u128 : Part
+abbrev pub u128 : LayoutPart
 u128 = free 16
 
 -- 0 or 1
-abbrev pub flag : Part
+abbrev pub flag : LayoutPart
 flag = ranged 1 0 1
 
-abbrev pub one : Part → ℕ × List Part
+abbrev pub one : LayoutPart → ℕ × List LayoutPart
 one p = (1, p ∷ [])
 
 -- selector, base, limit, access
-abbrev pub segment : List Part
+abbrev pub segment : List LayoutPart
 segment = u16 ∷ u64 ∷ u32 ∷ u32 ∷ []
 
 -- CPU section v2
@@ -95,38 +95,38 @@ mmuLayout =
 
 -- ---- what comes of it
 
-abbrev pub width : Part → ℕ
+abbrev pub width : LayoutPart → ℕ
 width (free w) = w
 width (ranged w a b) = w
 width (fixed w a) = w
 
 -- the bytes of parts one behind another, and of a layout
-abbrev pub breadth : List Part → ℕ
+abbrev pub breadth : List LayoutPart → ℕ
 breadth [] = 0
 breadth (p ∷ l) = width p + breadth l
 
-abbrev pub size : Layout → ℕ
-size [] = 0
-size (g ∷ l) = g .0 * breadth (g .1) + size l
+abbrev pub layoutSize : Layout → ℕ
+layoutSize [] = 0
+layoutSize (g ∷ l) = g .0 * breadth (g .1) + layoutSize l
 
 -- a field: where its first stands, its bytes, how many there are, and from one to the next
-abbrev pub row : ℕ → ℕ → ℕ → ℕ → Row
-row at width count step = record { at = at; width = width; count = count; step = step }
+abbrev pub fieldRow : ℕ → ℕ → ℕ → ℕ → Row
+fieldRow at width count step = record { at = at; width = width; count = count; step = step }
 
 -- the fields of a group that starts at a place
-abbrev pub rowsOf : ℕ → ℕ → ℕ → List Part → List Row
+abbrev pub rowsOf : ℕ → ℕ → ℕ → List LayoutPart → List Row
 rowsOf at count step [] = []
-rowsOf at count step (free w ∷ l) = row at w count step ∷ rowsOf (at + w) count step l
-rowsOf at count step (ranged w a b ∷ l) = row at w count step ∷ rowsOf (at + w) count step l
+rowsOf at count step (free w ∷ l) = fieldRow at w count step ∷ rowsOf (at + w) count step l
+rowsOf at count step (ranged w a b ∷ l) = fieldRow at w count step ∷ rowsOf (at + w) count step l
 rowsOf at count step (fixed w a ∷ l) = rowsOf (at + w) count step l
 
 -- the fields of a layout, in its order: a field's number is its place in this list
-abbrev pub fields : ℕ → Layout → List Row
-fields at [] = []
-fields at (g ∷ l) = rowsOf at (g .0) (breadth (g .1)) (g .1) ++ fields (at + g .0 * breadth (g .1)) l
+abbrev pub fieldRows : ℕ → Layout → List Row
+fieldRows at [] = []
+fieldRows at (g ∷ l) = rowsOf at (g .0) (breadth (g .1)) (g .1) ++ fieldRows (at + g .0 * breadth (g .1)) l
 
 -- the listed numbers: the offset, how many bytes, the least and the greatest
-abbrev pub rangesOf : ℕ → List Part → List (ℕ × ℕ × ℕ × ℕ)
+abbrev pub rangesOf : ℕ → List LayoutPart → List (ℕ × ℕ × ℕ × ℕ)
 rangesOf at [] = []
 rangesOf at (free w ∷ l) = rangesOf (at + w) l
 rangesOf at (ranged w a b ∷ l) = (at, w, a, b) ∷ rangesOf (at + w) l
@@ -138,13 +138,13 @@ ranges at [] = []
 ranges at (g ∷ l) = rangesOf at (g .1) ++ ranges (at + g .0 * breadth (g .1)) l
 
 -- the table of fields of a kind of state
-abbrev pub table : State → List Row
-table Cpu = fields 0 (cpuLayout ++ cpuExtension)
-table Mmu = fields 0 mmuLayout
+abbrev pub fieldTable : State → List Row
+fieldTable Cpu = fieldRows 0 (cpuLayout ++ cpuExtension)
+fieldTable Mmu = fieldRows 0 mmuLayout
 
 -- past the table there is none of it
 abbrev pub noRow : Row
-noRow = row 0 0 0 0
+noRow = fieldRow 0 0 0 0
 
 unfoldable pub rowAt : State → ℕ → Row
-rowAt k n = getD (table k) n noRow
+rowAt k n = getD (fieldTable k) n noRow

@@ -12,7 +12,7 @@ ghost use Rattle.answer.specs.Calls.{testOf, asked, Writes};
 ghost use Rattle.wire.specs.Parts.{splice};
 ghost use Rattle.fields.specs.declared.State.the-variants.{Cpu, Mmu};
 ghost use Rattle.fields.specs.Layout.{rowAt};
-ghost use Rattle.fields.specs.Fields.{rightLength, stateChecks, findIn, spotOf, fieldCall, setCall, Changes};
+ghost use Rattle.fields.specs.Fields.{rightLength, stateChecks, fieldSpot, spotOutcome, fieldCall, setCall, Changes};
 
 // The kinds of state.
 pub enum State {
@@ -135,7 +135,7 @@ pub enum Spot {
 
 // Where the field n with index i stands in a state of `len` bytes.
 fn find(kind: State, n: usize, i: usize, len: usize) -> Spot
-    ensures { λ r. ⌜ spotOf r ≡ findIn (rowAt kind n) i len ⌝ }
+    ensures { λ r. ⌜ spotOutcome r ≡ fieldSpot (rowAt kind n) i len ⌝ }
 {
     let r = row_of(kind, n);
     if r.count <= i {

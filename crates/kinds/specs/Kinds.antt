@@ -22,36 +22,36 @@ abbrev pub none : Cell
 none = cell Absent 0
 
 -- a message of up to four numbers
-abbrev pub row : ℕ → Cell → Cell → Cell → Cell → Body → Form
-row t a b c d z = record { known = true; tag = t; a = a; b = b; c = c; d = d; body = z }
+abbrev pub formRow : ℕ → Cell → Cell → Cell → Cell → Body → Form
+formRow t a b c d z = record { known = true; tag = t; a = a; b = b; c = c; d = d; body = z }
 
 -- each case of the enum in the paper's terms; the case for nothing has none
 unfoldable pub paper : Message → Form
 paper Nothing = record { known = false; tag = 0; a = none; b = none; c = none; d = none; body = Empty }
-paper (Nop seq) = row 0x0000 (cell U32 seq) none none none Empty
-paper Shutdown = row 0x0001 none none none none Empty
-paper (MmioRead id addr size) = row 0x0100 (cell U32 id) (cell U64 addr) (cell U32 size) none Empty
-paper (MmioWrite id addr) = row 0x0101 (cell U32 id) (cell U64 addr) none none Bytes
-paper (PortRead id port size) = row 0x0102 (cell U32 id) (cell U16 port) (cell U32 size) none Empty
-paper (PortWrite id port size value) = row 0x0103 (cell U32 id) (cell U16 port) (cell U32 size) (cell U32 value) Empty
-paper (DiskRead id diskOffset len guestOffset) = row 0x0104 (cell U32 id) (cell U64 diskOffset) (cell U32 len) (cell U64 guestOffset) Empty
-paper (DiskWrite id diskOffset len guestOffset) = row 0x0105 (cell U32 id) (cell U64 diskOffset) (cell U32 len) (cell U64 guestOffset) Empty
-paper (Ack seq) = row 0x1000 (cell U32 seq) none none none Empty
-paper (MmioReadResp id) = row 0x1100 (cell U32 id) none none none Bytes
-paper (PortReadResp id value) = row 0x1101 (cell U32 id) (cell U32 value) none none Empty
-paper (MmioWriteResp id) = row 0x1102 (cell U32 id) none none none Empty
-paper (PortWriteResp id) = row 0x1103 (cell U32 id) none none none Empty
-paper (DiskReadResp id ok bytes error) = row 0x1104 (cell U32 id) (cell Flag ok) (cell U32 bytes) (cell Error error) Empty
-paper (DiskWriteResp id ok bytes error) = row 0x1105 (cell U32 id) (cell Flag ok) (cell U32 bytes) (cell Error error) Empty
-paper (FrameReady frameId) = row 0x1200 (cell U64 frameId) none none none Empty
-paper (IrqRaise irq) = row 0x1300 (cell U8 irq) none none none Empty
-paper (IrqLower irq) = row 0x1301 (cell U8 irq) none none none Empty
-paper (A20Set enabled) = row 0x1302 (cell Flag enabled) none none none Empty
-paper ResetRequest = row 0x1303 none none none none Empty
-paper (Log level) = row 0x1400 (cell Level level) none none none Text
-paper (SerialOutput port) = row 0x1500 (cell U16 port) none none none Bytes
-paper Panic = row 0x1FFE none none none none Text
-paper TripleFault = row 0x1FFF none none none none Empty
+paper (Nop seq) = formRow 0x0000 (cell U32 seq) none none none Empty
+paper Shutdown = formRow 0x0001 none none none none Empty
+paper (MmioRead id addr size) = formRow 0x0100 (cell U32 id) (cell U64 addr) (cell U32 size) none Empty
+paper (MmioWrite id addr) = formRow 0x0101 (cell U32 id) (cell U64 addr) none none Bytes
+paper (PortRead id port size) = formRow 0x0102 (cell U32 id) (cell U16 port) (cell U32 size) none Empty
+paper (PortWrite id port size value) = formRow 0x0103 (cell U32 id) (cell U16 port) (cell U32 size) (cell U32 value) Empty
+paper (DiskRead id diskOffset len guestOffset) = formRow 0x0104 (cell U32 id) (cell U64 diskOffset) (cell U32 len) (cell U64 guestOffset) Empty
+paper (DiskWrite id diskOffset len guestOffset) = formRow 0x0105 (cell U32 id) (cell U64 diskOffset) (cell U32 len) (cell U64 guestOffset) Empty
+paper (Ack seq) = formRow 0x1000 (cell U32 seq) none none none Empty
+paper (MmioReadResp id) = formRow 0x1100 (cell U32 id) none none none Bytes
+paper (PortReadResp id value) = formRow 0x1101 (cell U32 id) (cell U32 value) none none Empty
+paper (MmioWriteResp id) = formRow 0x1102 (cell U32 id) none none none Empty
+paper (PortWriteResp id) = formRow 0x1103 (cell U32 id) none none none Empty
+paper (DiskReadResp id ok bytes error) = formRow 0x1104 (cell U32 id) (cell Flag ok) (cell U32 bytes) (cell Error error) Empty
+paper (DiskWriteResp id ok bytes error) = formRow 0x1105 (cell U32 id) (cell Flag ok) (cell U32 bytes) (cell Error error) Empty
+paper (FrameReady frameId) = formRow 0x1200 (cell U64 frameId) none none none Empty
+paper (IrqRaise irq) = formRow 0x1300 (cell U8 irq) none none none Empty
+paper (IrqLower irq) = formRow 0x1301 (cell U8 irq) none none none Empty
+paper (A20Set enabled) = formRow 0x1302 (cell Flag enabled) none none none Empty
+paper ResetRequest = formRow 0x1303 none none none none Empty
+paper (Log level) = formRow 0x1400 (cell Level level) none none none Text
+paper (SerialOutput port) = formRow 0x1500 (cell U16 port) none none none Bytes
+paper Panic = formRow 0x1FFE none none none none Text
+paper TripleFault = formRow 0x1FFF none none none none Empty
 
 -- a kind: what makes a message of its numbers
 abbrev pub Kind : Type 0
@@ -95,8 +95,8 @@ abbrev pub cells : Form → List Cell
 cells f = f .a ∷ f .b ∷ f .c ∷ f .d ∷ []
 
 -- the fields alone
-abbrev pub fields : Form → List Field
-fields f = f .a .0 ∷ f .b .0 ∷ f .c .0 ∷ f .d .0 ∷ []
+abbrev pub formFields : Form → List Field
+formFields f = f .a .0 ∷ f .b .0 ∷ f .c .0 ∷ f .d .0 ∷ []
 
 -- `ok` is the second number of the two kinds that have it
 abbrev pub okOf : Form → ℕ

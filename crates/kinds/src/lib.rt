@@ -1,6 +1,6 @@
 // The kinds of AIPC messages: the enum of commands and events with their numbers, and each kind's row of document 000's tables.
 ghost use mathlib.Core.Path.{_≡_};
-ghost use Rattle.kinds.specs.Kinds.{paper, row, none};
+ghost use Rattle.kinds.specs.Kinds.{paper, formRow, none};
 
 // A command or an event with its numbers, in the order of its fields. Nothing stands where there is no reading.
 pub enum Message {
@@ -119,7 +119,7 @@ pub const TRIPLE_FAULT: u16 = 0x1FFF;
 const NONE: Cell = Cell(Field::Absent, 0);
 
 fn row4(tag: u16, a: Cell, b: Cell, c: Cell, d: Cell, body: Body) -> Form
-    ensures { λ r. ⌜ r ≡ row tag a b c d body ⌝ }
+    ensures { λ r. ⌜ r ≡ formRow tag a b c d body ⌝ }
 {
     Form {
         known: true,
@@ -133,25 +133,25 @@ fn row4(tag: u16, a: Cell, b: Cell, c: Cell, d: Cell, body: Body) -> Form
 }
 
 fn row3(tag: u16, a: Cell, b: Cell, c: Cell, body: Body) -> Form
-    ensures { λ r. ⌜ r ≡ row tag a b c none body ⌝ }
+    ensures { λ r. ⌜ r ≡ formRow tag a b c none body ⌝ }
 {
     row4(tag, a, b, c, NONE, body)
 }
 
 fn row2(tag: u16, a: Cell, b: Cell, body: Body) -> Form
-    ensures { λ r. ⌜ r ≡ row tag a b none none body ⌝ }
+    ensures { λ r. ⌜ r ≡ formRow tag a b none none body ⌝ }
 {
     row3(tag, a, b, NONE, body)
 }
 
 fn row1(tag: u16, a: Cell, body: Body) -> Form
-    ensures { λ r. ⌜ r ≡ row tag a none none none body ⌝ }
+    ensures { λ r. ⌜ r ≡ formRow tag a none none none body ⌝ }
 {
     row2(tag, a, NONE, body)
 }
 
 fn row0(tag: u16, body: Body) -> Form
-    ensures { λ r. ⌜ r ≡ row tag none none none none body ⌝ }
+    ensures { λ r. ⌜ r ≡ formRow tag none none none none body ⌝ }
 {
     row1(tag, NONE, body)
 }

@@ -22,7 +22,7 @@ use Rattle.kinds.specs.declared.Body.the-variants.{Empty, Bytes, Text}
 use Rattle.kinds.specs.declared.Cell.{Cell}
 use Rattle.kinds.specs.Kinds.{paper, cells, okOf}
 use Rattle.messages.specs.Fields.{fieldWidth, sizeOf, numbersAt, messageAt}
-use Rattle.messages.specs.Reading.{most, fieldChecks, dataLength, dataFits, dataIn, leftOver, bodyChecks, numbersEnd, readChecks, Content, messageContent, readMessage}
+use Rattle.messages.specs.Reading.{most, cellChecks, dataLength, dataFits, dataIn, leftOver, bodyChecks, numbersEnd, readChecks, MessageAndData, messageContent, readMessage}
 use Rattle.messages.specs.Writing.{fieldBytes, withLength, bodyBytes, formBytes, valueChecks, dataChecks, writeChecks, written}
 use Rattle.messages.proofs.Cells.{fieldsIn, numbersIn, Fit, Typed, widths}
 use Rattle.messages.proofs.Table.{row}
@@ -43,8 +43,8 @@ pub record Stood (ok : ℕ) (cs : List Cell) (at : ℕ) (m : List ℕ) : Type 0 
   pub bytes : fieldBytes ok cs ≡ take (sizeOf ok cs) (drop at m)
   pub values : Pass (valueChecks ok cs)
 
-pub stood : (ok : ℕ) (cs : List Cell) (at : ℕ) (m : List ℕ) → AreBytes m → at ≤ length m → numbersIn cs ≡ numbersAt ok (fieldsIn cs) at m → Pass (fieldChecks ok cs at m) → Stood ok cs at m
-unfolding numbersAt fieldChecks fieldBytes sizeOf valueChecks
+pub stood : (ok : ℕ) (cs : List Cell) (at : ℕ) (m : List ℕ) → AreBytes m → at ≤ length m → numbersIn cs ≡ numbersAt ok (fieldsIn cs) at m → Pass (cellChecks ok cs at m) → Stood ok cs at m
+unfolding numbersAt cellChecks fieldBytes sizeOf valueChecks
 stood ok [] at m y h e p = record { within = omega arith; bytes = refl; values = tt }
 stood ok (c ∷ cs) at m y h e p =
     let n = fieldWidth ok (c .0) in
@@ -91,15 +91,15 @@ content-message k Bytes at m = refl
 content-message k Text at m = refl
 
 -- the data that a reading names
-abbrev pub dataOf : Content → List ℕ → List ℕ
+abbrev pub dataOf : MessageAndData → List ℕ → List ℕ
 dataOf c m = take (c .len) (drop (c .start) m)
 
-pub record Again (c : Content) (m : List ℕ) : Type 0 where
+pub record Again (c : MessageAndData) (m : List ℕ) : Type 0 where
   pub typed : Typed (c .message)
   pub passes : Pass (writeChecks (paper (c .message)) (dataOf c m))
   pub bytes : written (c .message) (dataOf c m) ≡ m
 
-pub written-read : (m : List ℕ) (c : Content) → AreBytes m → readMessage m ≡ taken c → Again c m
+pub written-read : (m : List ℕ) (c : MessageAndData) → AreBytes m → readMessage m ≡ taken c → Again c m
 unfolding readMessage readChecks writeChecks written formBytes
 written-read m c y e =
     let k = messageAt m in
@@ -111,7 +111,7 @@ written-read m c y e =
     let h = checked-pass (readChecks f m) (taken C) c e in
     let p = h .0 in
     let two = leb-true 2 (length m) (p .1 .0) in
-    let q = append-pass (fieldChecks ok (cells f) 2 m) (bodyChecks (f .body) at m) (p .1 .1 .1) in
+    let q = append-pass (cellChecks ok (cells f) 2 m) (bodyChecks (f .body) at m) (p .1 .1 .1) in
     let r = row m (p .1 .1 .0) in
     let s = stood ok (cells f) 2 m y two (r .stand) (q .0) in
     let g = kept (f .body) k at m y (q .1) in

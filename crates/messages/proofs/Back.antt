@@ -22,7 +22,7 @@ use Rattle.kinds.specs.declared.Cell.{Cell}
 use Rattle.kinds.specs.declared.Form.{Form}
 use Rattle.kinds.specs.Kinds.{paper, cells, okOf}
 use Rattle.messages.specs.Fields.{fieldWidth, numbersAt, messageAt}
-use Rattle.messages.specs.Reading.{most, fieldChecks, dataLength, dataFits, dataIn, leftOver, bodyChecks, numbersEnd, readChecks, Content, messageContent, readMessage}
+use Rattle.messages.specs.Reading.{most, cellChecks, dataLength, dataFits, dataIn, leftOver, bodyChecks, numbersEnd, readChecks, MessageAndData, messageContent, readMessage}
 use Rattle.messages.specs.Writing.{fieldBytes, withLength, bodyBytes, formBytes, valueChecks, dataChecks, writeChecks, written}
 use Rattle.messages.proofs.Cells.{fieldsIn, numbersIn, Fit, Allowed, Typed, widths}
 use Rattle.messages.proofs.Table.{found}
@@ -36,11 +36,11 @@ leAt-behind p q n v at a h =
 -- ---- the numbers
 
 pub record Back (ok : ℕ) (cs : List Cell) (at : ℕ) (m : List ℕ) : Type 0 where
-  pub passes : Pass (fieldChecks ok cs at m)
+  pub passes : Pass (cellChecks ok cs at m)
   pub numbers : numbersAt ok (fieldsIn cs) at m ≡ numbersIn cs
 
 pub back : (ok : ℕ) (cs : List Cell) (p q m : List ℕ) (at : ℕ) → Fit ok cs → Allowed ok cs → m ≡ p ++ (fieldBytes ok cs ++ q) → at ≡ length p → Back ok cs at m
-unfolding fieldChecks numbersAt fieldBytes
+unfolding cellChecks numbersAt fieldBytes
 back ok [] p q m at f h e a = record { passes = tt; numbers = refl }
 back ok (c ∷ cs) p q m at f h e a =
     let n = fieldWidth ok (c .0) in
@@ -132,7 +132,7 @@ data-short Empty d c h = omega (arith, leb-true (length d) 0 (c .0))
 data-short Bytes d c h = omega (arith, length-sized d)
 data-short Text d c h = omega (arith, length-sized d)
 
-abbrev pub told : Message → List ℕ → Content
+abbrev pub told : Message → List ℕ → MessageAndData
 told k d = record { message = k; start = startOf (paper k .body) (numbersEnd (paper k)); len = length d }
 
 pub record Round (k : Message) (d m : List ℕ) : Type 0 where
@@ -156,5 +156,5 @@ read-written k d y w =
     let s : messageAt m ≡ k = g .said m (h .known) (leAt-behind [] (q ++ bodyBytes (f .body) d) 2 (f .tag) 0 refl (g .tag)) (b .numbers) in
     let u : numbersEnd f ≡ length (t ++ q) = rw length-append (omega (arith, length-fields ok (cells f))) in
     let r = body-back (f .body) k d (t ++ q) m (numbersEnd f) (h .contents) (sym (append-assoc t q (bodyBytes (f .body) d))) u (data-short (f .body) d (h .contents) (omega (arith, h .short))) in
-    let v : Pass (readChecks f m) = (le-leb (length m) most (h .short), (le-leb 2 (length m) (omega arith), (h .known, pass-append (fieldChecks ok (cells f) 2 m) (bodyChecks (f .body) (numbersEnd f) m) (b .passes) (r .passes)))) in
+    let v : Pass (readChecks f m) = (le-leb (length m) most (h .short), (le-leb 2 (length m) (omega arith), (h .known, pass-append (cellChecks ok (cells f) 2 m) (bodyChecks (f .body) (numbersEnd f) m) (b .passes) (r .passes)))) in
     record { reads = rw s (pass-checked (readChecks f m) _ v ∙ ap taken (r .content)); bytes = r .bytes }

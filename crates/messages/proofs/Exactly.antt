@@ -14,7 +14,7 @@ use Rattle.wire.specs.Numbers.{Bytes, leAt}
 use Rattle.kinds.specs.declared.Message.{Message}
 use Rattle.kinds.specs.Kinds.{paper, kinds}
 use Rattle.messages.proofs.Tags.{Missing, unknown}
-use Rattle.messages.specs.Reading.{most, Content, readChecks, readMessage}
+use Rattle.messages.specs.Reading.{most, MessageAndData, readChecks, readMessage}
 use Rattle.messages.specs.Writing.{writeChecks, written, writeMessage}
 use Rattle.messages.proofs.Cells.{Typed}
 use Rattle.messages.proofs.Back.{told, read-written}
@@ -30,7 +30,7 @@ unknown-tag m h g t = rw (unknown (leAt 2 m 0) m refl t, le-leb (length m) most 
 -- ---- numbers
 
 -- bytes are below 256, so each number of a reading is within its type
-pub numbers-fit : (m : List ℕ) (c : Content) → Bytes m → readMessage m ≡ taken c → Typed (c .message)
+pub numbers-fit : (m : List ℕ) (c : MessageAndData) → Bytes m → readMessage m ≡ taken c → Typed (c .message)
 numbers-fit m c y e = written-read m c y e .typed
 
 -- ---- reading what was written, writing what was read
@@ -48,7 +48,7 @@ module _ (k : Message) (d b : List ℕ) (have : ℕ) where
   write-read y e = let h = writes e in let r = read-written k d y (h .0) in rw (h .1) (r .reads, r .bytes)
 
 -- writing a reading with its data gives the bytes back
-pub read-write : (m : List ℕ) (c : Content) (have : ℕ) → Bytes m → length m ≤ have → readMessage m ≡ taken c → writeMessage (c .message) (dataOf c m) have ≡ taken m
+pub read-write : (m : List ℕ) (c : MessageAndData) (have : ℕ) → Bytes m → length m ≤ have → readMessage m ≡ taken c → writeMessage (c .message) (dataOf c m) have ≡ taken m
 unfolding writeMessage
 read-write m c have y h e =
     let a = written-read m c y e in
@@ -66,7 +66,7 @@ pub record Writing (m : List ℕ) : Type 0 where
 
 -- bytes are taken
 pub record Taken (m : List ℕ) : Type 0 where
-  pub content : Content
+  pub content : MessageAndData
   pub reads : readMessage m ≡ taken content
 
 pub taken-writing : (m : List ℕ) → Bytes m → Taken m → Writing m
@@ -87,8 +87,8 @@ writing-unique m v w =
     let b = read-written (w .message) (w .content) (w .typed) (w .passes) in
     let s : written (v .message) (v .content) ≡ written (w .message) (w .content) = v .bytes ∙ sym (w .bytes) in
     let e : told (v .message) (v .content) ≡ told (w .message) (w .content) = taken-is (sym (a .reads) ∙ ap readMessage s ∙ b .reads) in (
-      ap (λ (c : Content). c .message) e,
-      sym (a .bytes) ∙ ap (dataOf (told (v .message) (v .content))) s ∙ ap (λ (c : Content). dataOf c (written (w .message) (w .content))) e ∙ b .bytes,
+      ap (λ (c : MessageAndData). c .message) e,
+      sym (a .bytes) ∙ ap (dataOf (told (v .message) (v .content))) s ∙ ap (λ (c : MessageAndData). dataOf c (written (w .message) (w .content))) e ∙ b .bytes,
     )
 
 pub injective : (k k′ : Message) (d d′ : List ℕ) → Typed k → Typed k′ → Pass (writeChecks (paper k) d) → Pass (writeChecks (paper k′) d′) → written k d ≡ written k′ d′ → (k ≡ k′) × (d ≡ d′)

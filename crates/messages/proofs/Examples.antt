@@ -12,7 +12,7 @@ use Rattle.kinds.specs.declared.Message.the-variants.{Nothing, PortReadResp, Di
 use Rattle.kinds.specs.Kinds.{paper}
 use Rattle.messages.specs.Fields.{sizeOf, numbersAt, messageAt}
 use Rattle.messages.specs.declared.Reading.{Reading}
-use Rattle.messages.specs.Reading.{fieldChecks, bodyChecks, readChecks, readMessage, reading}
+use Rattle.messages.specs.Reading.{cellChecks, bodyChecks, readChecks, readMessage, reading}
 use Rattle.messages.specs.Writing.{fieldBytes, formBytes, valueChecks, writeChecks, written, writeMessage}
 
 abbrev read : List ℕ → Reading
@@ -51,7 +51,7 @@ pub record Examples : Type 0 where
   pub error-beside : writeMessage (DiskReadResp 9 1 0 2) [] 99 ≡ refused VALUE 0
 
 pub examples : Examples
-unfolding readMessage readChecks fieldChecks bodyChecks messageAt numbersAt sizeOf paper leAt le isText breakAt scan scanFrom afterOf leadOf writeMessage writeChecks written formBytes fieldBytes valueChecks bytesOf
+unfolding readMessage readChecks cellChecks bodyChecks messageAt numbersAt sizeOf paper leAt le isText breakAt scan scanFrom afterOf leadOf writeMessage writeChecks written formBytes fieldBytes valueChecks bytesOf
 examples = record {
   p10 = refl;
   p11 = refl;

@@ -11,7 +11,7 @@ use lib.Dec.{eqb}
 use Rattle.wire.specs.Numbers.{le, leAt}
 use Rattle.kinds.specs.declared.Message.{Message}
 use Rattle.kinds.specs.declared.Message.the-variants.{Nothing, Nop, Shutdown, MmioRead, MmioWrite, PortRead, PortWrite, DiskRead, DiskWrite, Ack, MmioReadResp, PortReadResp, MmioWriteResp, PortWriteResp, DiskReadResp, DiskWriteResp, FrameReady, IrqRaise, IrqLower, A20Set, ResetRequest, Log, SerialOutput, Panic, TripleFault}
-use Rattle.kinds.specs.Kinds.{paper, Kind, kinds, blank, cells, fields, okOf, make}
+use Rattle.kinds.specs.Kinds.{paper, Kind, kinds, blank, cells, formFields, okOf, make}
 use Rattle.messages.specs.Fields.{numbersAt, messageIn, messageAt}
 use Rattle.messages.proofs.Cells.{numbersIn}
 
@@ -20,7 +20,7 @@ use Rattle.messages.proofs.Cells.{numbersIn}
 -- its tag is a u16, and bytes that have its tag and its numbers say it
 pub record Found (k : Message) : Type 0 where
   pub tag : paper k .tag < 256 ^ 2
-  pub said : (m : List ℕ) → paper k .known ≡ true → leAt 2 m 0 ≡ paper k .tag → numbersAt (okOf (paper k)) (fields (paper k)) 2 m ≡ numbersIn (cells (paper k)) → messageAt m ≡ k
+  pub said : (m : List ℕ) → paper k .known ≡ true → leAt 2 m 0 ≡ paper k .tag → numbersAt (okOf (paper k)) (formFields (paper k)) 2 m ≡ numbersIn (cells (paper k)) → messageAt m ≡ k
 
 pub found : (k : Message) → Found k
 unfolding paper messageAt numbersAt
@@ -54,14 +54,14 @@ found TripleFault = record { tag = omega arith; said = λ m h t e. rw t }
 
 -- what a kind makes of the numbers that stand in a message
 abbrev made : Kind → List ℕ → Message
-made k m = make k (numbersAt (leAt 1 m 6) (fields (blank k)) 2 m)
+made k m = make k (numbersAt (leAt 1 m 6) (formFields (blank k)) 2 m)
 
 -- what its row shows of it, and what is due: its kind is known, has its tag, and the numbers are those that stand in its fields
 abbrev shown : Kind → List ℕ → Bool × ℕ × List ℕ
 shown k m = (paper (made k m) .known, paper (made k m) .tag, numbersIn (cells (paper (made k m))))
 
 abbrev due : Kind → List ℕ → Bool × ℕ × List ℕ
-due k m = (true, blank k .tag, numbersAt (okOf (paper (made k m))) (fields (paper (made k m))) 2 m)
+due k m = (true, blank k .tag, numbersAt (okOf (paper (made k m))) (formFields (paper (made k m))) 2 m)
 
 abbrev mapped : (Kind → List ℕ → Bool × ℕ × List ℕ) → List Kind → List ℕ → List (Bool × ℕ × List ℕ)
 mapped f [] m = []
@@ -73,7 +73,7 @@ all-due m = refl
 
 pub record Row (t : ℕ) (k : Message) (m : List ℕ) : Type 0 where
   pub tag : paper k .tag ≡ t
-  pub stand : numbersIn (cells (paper k)) ≡ numbersAt (okOf (paper k)) (fields (paper k)) 2 m
+  pub stand : numbersIn (cells (paper k)) ≡ numbersAt (okOf (paper k)) (formFields (paper k)) 2 m
 
 row-in : (ks : List Kind) (t : ℕ) (m : List ℕ) → mapped shown ks m ≡ mapped due ks m → paper (messageIn ks t m) .known ≡ true → Row t (messageIn ks t m) m
 unfolding paper

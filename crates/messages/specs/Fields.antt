@@ -10,7 +10,7 @@ use Rattle.kinds.specs.declared.Message.the-variants.{Nothing}
 use Rattle.kinds.specs.declared.Field.{Field}
 use Rattle.kinds.specs.declared.Field.the-variants.{Absent, U8, U16, U32, U64, Flag, Level, Error}
 use Rattle.kinds.specs.declared.Cell.{Cell}
-use Rattle.kinds.specs.Kinds.{Kind, kinds, blank, fields, make}
+use Rattle.kinds.specs.Kinds.{Kind, kinds, blank, formFields, make}
 
 -- how many bytes a field has; the error code is there exactly if `ok` is 0
 abbrev pub fieldWidth : ℕ → Field → ℕ
@@ -47,7 +47,7 @@ numbersAt ok (f ∷ fs) at m = leAt (fieldWidth ok f) m at ∷ numbersAt ok fs (
 -- the kind that has the tag, with the numbers that stand behind it (`ok` at 6); nothing if none has it
 abbrev pub messageIn : List Kind → ℕ → List ℕ → Message
 messageIn [] t m = Nothing
-messageIn (k ∷ ks) t m = cond (eqb t (blank k .tag)) (make k (numbersAt (leAt 1 m 6) (fields (blank k)) 2 m)) (messageIn ks t m)
+messageIn (k ∷ ks) t m = cond (eqb t (blank k .tag)) (make k (numbersAt (leAt 1 m 6) (formFields (blank k)) 2 m)) (messageIn ks t m)
 
 -- what the bytes of a message say, be they right or not
 unfoldable pub messageAt : List ℕ → Message

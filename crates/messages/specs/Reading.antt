@@ -24,12 +24,12 @@ abbrev pub most : ℕ
 most = 65536
 
 -- each field in order: that it fits, then its value
-unfoldable pub fieldChecks : ℕ → List Cell → ℕ → List ℕ → Checks
-fieldChecks ok [] at m = []
-fieldChecks ok (c ∷ cs) at m =
+unfoldable pub cellChecks : ℕ → List Cell → ℕ → List ℕ → Checks
+cellChecks ok [] at m = []
+cellChecks ok (c ∷ cs) at m =
     (leb (at + fieldWidth ok (c .0)) (length m), SHAPE, at)
     ∷ (allowed ok (c .0) (c .1), VALUE, at)
-    ∷ fieldChecks ok cs (at + fieldWidth ok (c .0)) m
+    ∷ cellChecks ok cs (at + fieldWidth ok (c .0)) m
 
 -- data at a place is a u32 length and as many bytes; this is the length
 abbrev pub dataLength : ℕ → List ℕ → ℕ
@@ -59,28 +59,28 @@ readChecks f m =
     (leb (length m) most, LIMIT, 0)
     ∷ (leb 2 (length m), SHAPE, 0)
     ∷ (f .known, TAG, 0)
-    ∷ (fieldChecks (okOf f) (cells f) 2 m ++ bodyChecks (f .body) (numbersEnd f) m)
+    ∷ (cellChecks (okOf f) (cells f) 2 m ++ bodyChecks (f .body) (numbersEnd f) m)
 
 -- a message, and its data by place and length
-pub record Content : Type 0 where
+pub record MessageAndData : Type 0 where
   pub message : Message
   pub start : ℕ
   pub len : ℕ
 
 -- 0 and 0 for a kind that has no data; the real place for empty data
-abbrev pub messageContent : Message → Body → ℕ → List ℕ → Content
+abbrev pub messageContent : Message → Body → ℕ → List ℕ → MessageAndData
 messageContent k Empty at m = record { message = k; start = 0; len = 0 }
 messageContent k Bytes at m = record { message = k; start = at + 4; len = dataLength at m }
 messageContent k Text at m = record { message = k; start = at + 4; len = dataLength at m }
 
 -- a message as its kind with its numbers, or the first check that fails
-unfoldable pub readMessage : List ℕ → Outcome Content
+unfoldable pub readMessage : List ℕ → Outcome MessageAndData
 readMessage m =
     let k = messageAt m in
     let f = paper k in
     checked (readChecks f m) (taken (messageContent k (f .body) (numbersEnd f) m))
 
 -- the answer: a refusal reads as the case for nothing
-abbrev pub reading : Outcome Content → Reading
+abbrev pub reading : Outcome MessageAndData → Reading
 reading (taken c) = record { number = 0; place = 0; message = c .message; start = c .start; len = c .len }
 reading (refused n p) = record { number = n; place = p; message = Nothing; start = 0; len = 0 }

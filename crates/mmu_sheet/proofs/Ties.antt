@@ -7,7 +7,7 @@ use Prim.Native.Nat.{ℕ}
 use lib.ListN.{length}
 use Rattle.wire.specs.Numbers.{Bytes}
 use Rattle.fields.specs.declared.State.the-variants.{Mmu}
-use Rattle.fields.specs.Layout.{table, rowAt}
+use Rattle.fields.specs.Layout.{fieldTable, rowAt}
 use Rattle.fields.specs.Fields.{hasIn, bytesAt}
 use Rattle.registers.specs.Registers.{gather}
 use Rattle.registers.proofs.Tied.{Agree, tied, one, numbers, parts, selectors}
@@ -15,7 +15,7 @@ use Rattle.mmu_sheet.specs.Sheet.{mmuOf}
 use Rattle.mmu_sheet.specs.Members.{mmuMembers, mmuMember}
 
 module _ (s : List ℕ) (b : Bytes s) where
-  mmu-agree : Agree s (table Mmu) (mmuMembers (mmuOf s))
+  mmu-agree : Agree s (fieldTable Mmu) (mmuMembers (mmuOf s))
   unfolding gather
   mmu-agree = (
     numbers s b 5 0,
@@ -48,4 +48,4 @@ module _ (s : List ℕ) (b : Bytes s) where
 
   pub mmu-ties : (n i : ℕ) → hasIn (rowAt Mmu n) i (length s) ≡ true → mmuMember (mmuOf s) n i ≡ bytesAt (rowAt Mmu n) i s
   unfolding rowAt mmuMember
-  mmu-ties n i h = tied s (table Mmu) (mmuMembers (mmuOf s)) mmu-agree n i h
+  mmu-ties n i h = tied s (fieldTable Mmu) (mmuMembers (mmuOf s)) mmu-agree n i h

@@ -17,7 +17,7 @@ use Rattle.cards.specs.declared.Card.{Card}
 use Rattle.cards.specs.declared.Edited.{Edited}
 use Rattle.cards.specs.Cards.{WritesBeside}
 use Rattle.cards.specs.Calls.{addDevicesCall}
-use Rattle.newcomers.specs.Records.{lookedAt, recordOf, stored, storedIn}
+use Rattle.newcomers.specs.Records.{lookedAt, recordOf, recordPut, storedIn}
 
 pub length-record : (d : NewDevice) → length (recordOf d) ≡ 24
 length-record d = simp (length-append, length-bytesOf)
@@ -34,11 +34,11 @@ put-at at bs old n t so =
     put-tested at bs old n t (as-splice old bs _ at (at + 24) h (wrote-tail (whole at old h) so))
 
 -- a record of an entry that is looked at, and of one that is not
-pub near-stored : (i : ℕ) (d : NewDevice) (old : List ℕ) {new : List ℕ} {r : ℕ} → i < 4097 → (r ≡ i + 1) × (new ≡ stored i d old) → (r ≡ lookedAt (i + 1)) × (new ≡ storedIn i d old)
-near-stored i d old h e = (e .0 ∙ sym (ap (λ (t : Bool). cond t (i + 1) 4097) (le-leb (i + 1) 4097 (omega arith))), e .1 ∙ sym (ap (λ (t : Bool). cond t (stored i d old) old) (lt-ltb i 4097 h)))
+pub near-stored : (i : ℕ) (d : NewDevice) (old : List ℕ) {new : List ℕ} {r : ℕ} → i < 4097 → (r ≡ i + 1) × (new ≡ recordPut i d old) → (r ≡ lookedAt (i + 1)) × (new ≡ storedIn i d old)
+near-stored i d old h e = (e .0 ∙ sym (ap (λ (t : Bool). cond t (i + 1) 4097) (le-leb (i + 1) 4097 (omega arith))), e .1 ∙ sym (ap (λ (t : Bool). cond t (recordPut i d old) old) (lt-ltb i 4097 h)))
 
 pub far-stored : (i : ℕ) (d : NewDevice) (old : List ℕ) → 4097 ≤ i → (4097 ≡ lookedAt (i + 1)) × (old ≡ storedIn i d old)
-far-stored i d old h = (sym (ap (λ (t : Bool). cond t (i + 1) 4097) (lt-leb (i + 1) 4097 (omega arith))), sym (ap (λ (t : Bool). cond t (stored i d old) old) (le-ltb i 4097 h)))
+far-stored i d old h = (sym (ap (λ (t : Bool). cond t (i + 1) 4097) (lt-leb (i + 1) 4097 (omega arith))), sym (ap (λ (t : Bool). cond t (recordPut i d old) old) (le-ltb i 4097 h)))
 
 -- more records than there are: all of them
 pub all-records : (have : ℕ) (file store records : List ℕ) {k : Card} {old new : List ℕ} {r : Edited} (n : ℕ) → length records / 24 < n → WritesBeside k (addDevicesCall have k file records store) old r new

@@ -21,7 +21,7 @@ use Rattle.cards.specs.declared.Edited.{Edited}
 use Rattle.cards.specs.Cards.{WritesBeside}
 use Rattle.cards.specs.Calls.{addDevicesCall}
 use Rattle.cards.specs.Whole.{addAllCard}
-use Rattle.newcomers.specs.Records.{lookedAt, recordOf, stored, storedIn, recordsOf, WideEntry}
+use Rattle.newcomers.specs.Records.{lookedAt, recordOf, recordPut, storedIn, recordsOf, WideEntry}
 use Rattle.newcomers.proofs.Laws.{length-record}
 use Rattle.newcomers.proofs.First.{entries-back, first-entries, take-looked}
 
@@ -70,14 +70,14 @@ records-last [] d = append-nil (recordOf d)
 records-last (x ∷ l) d = ap (λ (s : List ℕ). recordOf x ++ s) (records-last l d) ∙ sym (append-assoc (recordOf x) (recordsOf l) (recordOf d))
 
 -- the start of what is stored
-stored-start : (i : ℕ) (d : NewDevice) (zs : List ℕ) → i * 24 + 24 ≤ length zs → take ((i + 1) * 24) (stored i d zs) ≡ take (i * 24) zs ++ recordOf d
-unfolding stored splice
+stored-start : (i : ℕ) (d : NewDevice) (zs : List ℕ) → i * 24 + 24 ≤ length zs → take ((i + 1) * 24) (recordPut i d zs) ≡ take (i * 24) zs ++ recordOf d
+unfolding recordPut splice
 stored-start i d zs h =
     let at : ℕ = i * 24 in
     let front : List ℕ = take at zs ++ recordOf d in
     let n : length (recordOf d) ≡ 24 = length-record d in
     let long : length front ≡ (i + 1) * 24 = length-append (take at zs) (recordOf d) ∙ omega (arith, n, length-take-le at zs (omega arith)) in
-    let e : stored i d zs ≡ front ++ drop (at + length (recordOf d)) zs = put-fits at (recordOf d) zs (omega arith) in
+    let e : recordPut i d zs ≡ front ++ drop (at + length (recordOf d)) zs = put-fits at (recordOf d) zs (omega arith) in
     ap (take ((i + 1) * 24)) e ∙ ap (λ (j : ℕ). take j (front ++ drop (at + length (recordOf d)) zs)) (sym long) ∙ take-append-seam front (drop (at + length (recordOf d)) zs)
 
 pub part-none : (ds : List NewDevice) (zs : List ℕ) → length zs ≡ 98328 → Part ds 0 zs
@@ -89,7 +89,7 @@ part-next {ds} {zs} {new} {i} {r} p h w e f l =
     let d = getD ds i none in
     let t : take (i + 1) ds ≡ take i ds ++ (d ∷ []) = take-next ds i (omega (arith, looked-within (length ds))) in
     let fits : i * 24 + 24 ≤ length zs = omega (arith, looked-most (length ds), p .long) in
-    let into : storedIn i d zs ≡ stored i d zs = ap (λ (t : Bool). cond t (stored i d zs) zs) (lt-ltb i 4097 (omega (arith, looked-most (length ds)))) in
+    let into : storedIn i d zs ≡ recordPut i d zs = ap (λ (t : Bool). cond t (recordPut i d zs) zs) (lt-ltb i 4097 (omega (arith, looked-most (length ds)))) in
     subst (λ (j : ℕ). Part ds j new) (sym (e ∙ looked-next i (length ds) h)) (record {
       within = omega arith;
       long = l ∙ p .long;

@@ -17,12 +17,12 @@ abbrev pub recordOf : NewDevice → List ℕ
 recordOf d = bytesOf 4 (d .id) ++ (bytesOf 2 (d .version) ++ (bytesOf 2 (d .flags) ++ (bytesOf 8 (d .place) ++ bytesOf 8 (d .length))))
 
 -- old with record i written where it fits
-unfoldable pub stored : ℕ → NewDevice → List ℕ → List ℕ
-stored i d old = put (i * 24) (recordOf d) old
+unfoldable pub recordPut : ℕ → NewDevice → List ℕ → List ℕ
+recordPut i d old = put (i * 24) (recordOf d) old
 
 -- the same for an entry that is looked at; no other is stored
 abbrev pub storedIn : ℕ → NewDevice → List ℕ → List ℕ
-storedIn i d old = cond (ltb i 4097) (stored i d old) old
+storedIn i d old = cond (ltb i 4097) (recordPut i d old) old
 
 -- the records of a table, one after another
 unfoldable pub recordsOf : List NewDevice → List ℕ

@@ -9,7 +9,7 @@ ghost use lib.ListN.{length, take};
 ghost use Rattle.wire.specs.Parts.{Wrote};
 ghost use Rattle.cards.specs.Cards.{WritesBeside};
 ghost use Rattle.cards.specs.Calls.{addDevicesCall};
-ghost use Rattle.newcomers.specs.Records.{lookedAt, recordOf, stored, storedIn};
+ghost use Rattle.newcomers.specs.Records.{lookedAt, recordOf, recordPut, storedIn};
 
 // How many entries of a table are looked at: a list holds 4,096 devices, so the next one is refused, and no entry behind it is met.
 pub fn looked_at(count: usize) -> usize
@@ -36,7 +36,7 @@ fn put_record(out: &mut [u8], d: NewDevice)
 // Record i of a table in bytes, and the next number; what does not fit is not written.
 fn put_at(records: &mut [u8], i: usize, d: NewDevice) -> usize
     requires { ⌜ i * 24 + 24 < 2 ^ 64 ⌝ }
-    ensures { λ r. ⌜ (r ≡ i + 1) × (now (records .exit) ≡ stored i d (now (records .entry))) ⌝ }
+    ensures { λ r. ⌜ (r ≡ i + 1) × (now (records .exit) ≡ recordPut i d (now (records .entry))) ⌝ }
 {
     let at = i * 24;
     if wire::fits(records.len(), at, 24) {

@@ -13,7 +13,7 @@ use Rattle.kinds.specs.declared.Message.{Message}
 use Rattle.kinds.specs.declared.Message.the-variants.{Nothing, Nop, Shutdown, MmioRead, MmioWrite, PortRead, PortWrite, DiskRead, DiskWrite, Ack, MmioReadResp, PortReadResp, MmioWriteResp, PortWriteResp, DiskReadResp, DiskWriteResp, FrameReady, IrqRaise, IrqLower, A20Set, ResetRequest, Log, SerialOutput, Panic, TripleFault}
 use Rattle.kinds.specs.declared.Form.{Form}
 use Rattle.kinds.specs.Kinds.{paper, cells}
-use Rattle.messages.specs.Reading.{Content, readMessage}
+use Rattle.messages.specs.Reading.{MessageAndData, readMessage}
 use Rattle.messages.specs.Writing.{writeMessage}
 use Rattle.messages.proofs.Cells.{Fit, Typed}
 use Rattle.messages.proofs.Again.{dataOf, written-read}
@@ -58,7 +58,7 @@ pub message-again : (m : Message) → paper m .known ≡ true → Typed m → me
 message-again m h t = again m h (fit-within (paper m) t)
 
 -- Reading a message and writing it again by its tag and its numbers, with its data, gives the bytes back.
-pub numbers-write : (m : List ℕ) (c : Content) (have : ℕ) → Bytes m → length m ≤ have → readMessage m ≡ taken c → writeNumbers (numbersOf (c .message)) (dataOf c m) have ≡ taken m
+pub numbers-write : (m : List ℕ) (c : MessageAndData) (have : ℕ) → Bytes m → length m ≤ have → readMessage m ≡ taken c → writeNumbers (numbersOf (c .message)) (dataOf c m) have ≡ taken m
 unfolding writeNumbers
 numbers-write m c have y h e =
     let a = written-read m c y e in

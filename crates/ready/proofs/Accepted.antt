@@ -12,7 +12,7 @@ use Rattle.answer.proofs.Table.{fault-some}
 use Rattle.entries.specs.Kinds.{controllers}
 use Rattle.lists.specs.Lists.{listAt}
 use Rattle.aerosnap.proofs.Named.{checked-faulty, checked-inside, moved-faulty, EntryFaults, list-faulty}
-use Rattle.dskc.specs.Wrapper.{headerChecks, wrapperOf}
+use Rattle.dskc.specs.Wrapper.{wrapperHeaderChecks, wrapperOf}
 use Rattle.ready.specs.Missing.{isTaken}
 
 controller-faults : EntryFaults controllers
@@ -25,7 +25,7 @@ controller-faults = record {
 pub wrapper-faulty : (s : List ℕ) → Faulty (wrapperOf s)
 unfolding wrapperOf
 wrapper-faulty s =
-    checked-faulty (headerChecks s) (moved 16 (listAt controllers (drop 16 s))) (refl, (refl, (refl, (refl, (refl, (refl, tt)))))) (moved-faulty 16 (listAt controllers (drop 16 s)) (list-faulty controller-faults (drop 16 s)))
+    checked-faulty (wrapperHeaderChecks s) (moved 16 (listAt controllers (drop 16 s))) (refl, (refl, (refl, (refl, (refl, (refl, tt)))))) (moved-faulty 16 (listAt controllers (drop 16 s)) (list-faulty controller-faults (drop 16 s)))
 
 module _ {A : Type 0} where
   pub number-taken : (o : Outcome A) → Faulty o → verdict o .number ≡ 0 → isTaken o ≡ true

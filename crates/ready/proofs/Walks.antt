@@ -28,7 +28,7 @@ use Rattle.entries.proofs.Lawful.{lawful}
 use Rattle.tables.specs.Named.{NamesFramed, Each}
 use Rattle.aerosnap.specs.File.{idOf}
 use Rattle.ready.specs.Missing.{pairBytes}
-use Rattle.ready.specs.Steps.{runIn, NamesSections, payloadIn, Stands, mark, noted, noteOf, Noted, names, nameOf, pairFor, pairsFor, PutAt}
+use Rattle.ready.specs.Steps.{runIn, NamesSections, payloadIn, Stands, mark, noted, noteOf, NotedAll, names, wantedName, pairFor, pairsFor, PutAt}
 
 -- ---- payload_of
 
@@ -138,7 +138,7 @@ pub passing-start : {d : Description} {s : List ℕ} {m : List (List ℕ)} (old 
 passing-start {m = m} old e v = record { left = m; rest = v .rest; cut = v .cut; are = v .are; number = omega (arith, v .number); same = λ k h. refl }
 
 module _ {d : Description} {s : List ℕ} {m : List (List ℕ)} {n : ℕ} {old new : List ℕ} {at i : ℕ} (v : Passing d s m n old new at i) where
-  pub passing-end : n ≤ i → Noted m old new
+  pub passing-end : n ≤ i → NotedAll m old new
   unfolding noteOf
   passing-end h k lt = go (v .left) (v .number) (v .same k lt)
     where
@@ -217,17 +217,17 @@ module _ {notes old new : List ℕ} {at i : ℕ} (v : Listing notes old new at i
       let q : pairsFor names notes ≡ v .part = v .split ∙ ap (λ (k : ℕ). v .part ++ pairsFor (drop k names) (drop k notes)) h ∙ append-nil (v .part) in
       rw q (v .wrote)
 
-  pub listing-next : i ≤ 8 → length notes ≡ 9 → {out : List ℕ} {r : ℕ} → PutAt (pairFor (nameOf i) (getD notes i 0)) at new out r → Listing notes old out r (i + 1)
+  pub listing-next : i ≤ 8 → length notes ≡ 9 → {out : List ℕ} {r : ℕ} → PutAt (pairFor (wantedName i) (getD notes i 0)) at new out r → Listing notes old out r (i + 1)
   unfolding pairsFor
   listing-next h long {out} {r} p =
-      let bs : List ℕ = pairFor (nameOf i) (getD notes i 0) in
+      let bs : List ℕ = pairFor (wantedName i) (getD notes i 0) in
       let w : Wrote (v .part ++ bs) old out (at + length bs) = wrote-splice (v .wrote) bs (p .bytes) in
       record {
         part = v .part ++ bs;
         split = v .split ∙ ap (λ (x : List ℕ). v .part ++ x) (step (omega arith)) ∙ sym (append-assoc (v .part) bs (pairsFor (drop (i + 1) names) (drop (i + 1) notes)));
         wrote = rw (p .ends) w;
-        most = omega (arith, p .ends, v .most, pair-most (nameOf i) (getD notes i 0));
+        most = omega (arith, p .ends, v .most, pair-most (wantedName i) (getD notes i 0));
       }
     where
-      step : i < length names → pairsFor (drop i names) (drop i notes) ≡ pairFor (nameOf i) (getD notes i 0) ++ pairsFor (drop (i + 1) names) (drop (i + 1) notes)
+      step : i < length names → pairsFor (drop i names) (drop i notes) ≡ pairFor (wantedName i) (getD notes i 0) ++ pairsFor (drop (i + 1) names) (drop (i + 1) notes)
       step k = rw (add-one i, drop-cons names i (0, 0) k, drop-cons notes i 0 (omega arith))

@@ -58,8 +58,8 @@ noteOf k v at [] = v
 noteOf k v at (e ∷ m) = noteOf k (cond (eqb (idKey e) k) (mark v at) v) (at + length e) m
 
 -- notes taken of all entries of a list; its first entry starts at 4
-abbrev pub Noted : List (List ℕ) → List ℕ → List ℕ → Type 0
-Noted m old new = (k : ℕ) → k < length old → getD new k 0 ≡ noteOf k (getD old k 0) 4 m
+abbrev pub NotedAll : List (List ℕ) → List ℕ → List ℕ → Type 0
+NotedAll m old new = (k : ℕ) → k < length old → getD new k 0 ≡ noteOf k (getD old k 0) 4 m
 
 -- ---- what is there
 
@@ -93,8 +93,8 @@ notes s m k =
 abbrev pub names : List (ℕ × ℕ)
 names = map nameIn wanted
 
-abbrev pub nameOf : ℕ → ℕ × ℕ
-nameOf i = getD names i (0, 0)
+abbrev pub wantedName : ℕ → ℕ × ℕ
+wantedName i = getD names i (0, 0)
 
 -- a pair where 0 is noted beside it
 abbrev pub pairFor : ℕ × ℕ → ℕ → List ℕ

@@ -107,7 +107,7 @@ fn length_in(kind: Kind, list: &[u8], at: usize) -> usize
 
 // The ids of a list's entries noted, one entry after another by their lengths.
 fn note_all(kind: Kind, list: &[u8], notes: &mut [usize])
-    ensures { λ _. ⌜ ((m : List (List ℕ)) → steps.Stands (describe kind) (now (list .entry)) m → steps.Noted m (now (notes .entry)) (now (notes .exit))) ⌝ }
+    ensures { λ _. ⌜ ((m : List (List ℕ)) → steps.Stands (describe kind) (now (list .entry)) m → steps.NotedAll m (now (notes .entry)) (now (notes .exit))) ⌝ }
 {
     let n = wire::u32_at(list, 0) as usize;
     let mut at = 4;
@@ -173,7 +173,7 @@ fn look(devices: &[u8], disks: &[u8]) -> [usize; 9]
 // The pair with the number i where 0 is noted beside it; and where the next one goes.
 fn put_noted(note: usize, i: usize, at: usize, out: &mut [u8]) -> usize
     requires { ⌜ (i ≤ 8) × (at + 8 ≤ length (now out)) ⌝ }
-    ensures { λ r. ⌜ steps.PutAt (steps.pairFor (steps.nameOf i) note) at (now (out .entry)) (now (out .exit)) r ⌝ }
+    ensures { λ r. ⌜ steps.PutAt (steps.pairFor (steps.wantedName i) note) at (now (out .entry)) (now (out .exit)) r ⌝ }
 {
     if note != 0 {
         return at;

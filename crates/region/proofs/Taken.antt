@@ -14,7 +14,7 @@ use Rattle.answer.specs.Calls.{asked}
 use Rattle.answer.proofs.Checks.{pass-checked, asked-pass, pass-append, append-pass}
 use Rattle.wire.specs.Numbers.{leAt}
 use Rattle.region.specs.declared.Ring.{Ring}
-use Rattle.region.specs.Region.{countOf, offsetOf, capacityOf, endOf, ringAt, isCapacity, headerChecks, apartCheck, descriptorChecks, cursorChecks, ringChecks, tableChecks, regionChecks, queueChecks}
+use Rattle.region.specs.Region.{countOf, offsetOf, capacityOf, endOf, ringAt, isCapacity, regionHeaderChecks, apartCheck, descriptorChecks, cursorChecks, ringChecks, tableChecks, regionChecks, queueChecks}
 use Rattle.region.specs.Valid.{Consistent, Power, Queue, Apart, Valid}
 use Rattle.region.specs.Inside.{Right}
 use Rattle.answer.proofs.Each.{each-pass, pass-each}
@@ -147,11 +147,11 @@ module _ (b : List ℕ) where
       (each-pass (descriptorChecks b) (countOf b) (λ i l. descriptor-pass b i (v .queues i l) (λ j k. v .apart i j k l)))
       (each-pass (ringChecks b) (countOf b) (λ i l. ring-pass b i (v .queues i l)))
 
-  header-pass : Valid b → Pass (headerChecks b)
+  header-pass : Valid b → Pass (regionHeaderChecks b)
   header-pass v = (le-leb _ _ (v .long), (eq-eqb _ _ (v .magic), (eq-eqb _ _ (v .version), (eq-eqb _ _ (v .total), (le-leb _ _ (v .few), (le-leb _ _ (v .table), tt))))))
 
   -- a header that is right, and queues that are
-  pub right-valid : Pass (headerChecks b) → Right b (countOf b) → Valid b
+  pub right-valid : Pass (regionHeaderChecks b) → Right b (countOf b) → Valid b
   right-valid h r =
       record {
         long = leb-true _ _ (h .0);
@@ -164,7 +164,7 @@ module _ (b : List ℕ) where
         apart = r .apart;
       }
 
-  pass-valid : Pass (headerChecks b) → Pass (tableChecks b) → Valid b
+  pass-valid : Pass (regionHeaderChecks b) → Pass (tableChecks b) → Valid b
   unfolding tableChecks
   pass-valid h t =
       let w = append-pass (each (descriptorChecks b) (countOf b)) (each (ringChecks b) (countOf b)) t in
@@ -178,18 +178,18 @@ module _ (b : List ℕ) where
   -- the call `check`
   pub region-taken : (asked (regionChecks b) ≡ taken tt) ↔ Valid b
   region-taken = (
-    (λ h. let w = append-pass (headerChecks b) (tableChecks b) (asked-pass (regionChecks b) (sym h)) in pass-valid (w .0) (w .1)),
-    (λ v. pass-checked (regionChecks b) (taken tt) (pass-append (headerChecks b) (tableChecks b) (header-pass v) (tables-pass v))),
+    (λ h. let w = append-pass (regionHeaderChecks b) (tableChecks b) (asked-pass (regionChecks b) (sym h)) in pass-valid (w .0) (w .1)),
+    (λ v. pass-checked (regionChecks b) (taken tt) (pass-append (regionHeaderChecks b) (tableChecks b) (header-pass v) (tables-pass v))),
   )
 
   -- and where a queue is asked for
   module _ (q : ℕ) where
     pub queue-pass : Valid b → q < countOf b → Pass (queueChecks b q)
-    queue-pass v l = pass-append (headerChecks b) ((ltb q (countOf b), REGION, 12) ∷ tableChecks b) (header-pass v) (lt-ltb _ _ l, tables-pass v)
+    queue-pass v l = pass-append (regionHeaderChecks b) ((ltb q (countOf b), REGION, 12) ∷ tableChecks b) (header-pass v) (lt-ltb _ _ l, tables-pass v)
 
     pub pass-queues : Pass (queueChecks b q) → Valid b × (q < countOf b)
     pass-queues h =
-        let w = append-pass (headerChecks b) ((ltb q (countOf b), REGION, 12) ∷ tableChecks b) h in
+        let w = append-pass (regionHeaderChecks b) ((ltb q (countOf b), REGION, 12) ∷ tableChecks b) h in
         (pass-valid (w .0) (w .1 .1), ltb-true _ _ (w .1 .0))
 
     pub queue-taken : (asked (queueChecks b q) ≡ taken tt) ↔ (Valid b × (q < countOf b))

@@ -14,7 +14,7 @@ use Rattle.answer.specs.Calls.{asked}
 use Rattle.answer.proofs.Checks.{asked-pass}
 use Rattle.wire.specs.Numbers.{leAt}
 use Rattle.region.specs.declared.Ring.{Ring}
-use Rattle.region.specs.Region.{countOf, offsetOf, capacityOf, ringAt, isCapacity, headerChecks, cursorChecks}
+use Rattle.region.specs.Region.{countOf, offsetOf, capacityOf, ringAt, isCapacity, regionHeaderChecks, cursorChecks}
 use Rattle.region.specs.Valid.{Queue, Apart}
 use Rattle.region.specs.Inside.{Below, Beside, Clear, Further, Right}
 use Rattle.region.proofs.Taken.{capacity-power, pass-cursors}
@@ -79,5 +79,5 @@ module _ (b : List ℕ) where
       apart j k l m (no h) = let e : j ≡ i = omega (arith, h) in rw e (s .clear k (omega arith))
 
   -- the descriptors are there
-  pub header-table : taken tt ≡ asked (headerChecks b) → 16 + 16 * countOf b ≤ length b
-  header-table h = leb-true _ _ (asked-pass (headerChecks b) h .1 .1 .1 .1 .1 .0)
+  pub header-table : taken tt ≡ asked (regionHeaderChecks b) → 16 + 16 * countOf b ≤ length b
+  header-table h = leb-true _ _ (asked-pass (regionHeaderChecks b) h .1 .1 .1 .1 .1 .0)

@@ -13,7 +13,7 @@ ghost use lib.ListN.{length};
 ghost use Rattle.answer.specs.Calls.{testOf, asked, verdict};
 ghost use Rattle.answer.specs.Outcome.{each};
 ghost use Rattle.wire.specs.Numbers.{leAt};
-ghost use Rattle.region.specs.Region.{countOf, offsetOf, capacityOf, endOf, ringAt, isCapacity, headerChecks, apartCheck, descriptorChecks, cursorChecks, ringChecks, tableChecks, regionChecks, queueChecks};
+ghost use Rattle.region.specs.Region.{countOf, offsetOf, capacityOf, endOf, ringAt, isCapacity, regionHeaderChecks, apartCheck, descriptorChecks, cursorChecks, ringChecks, tableChecks, regionChecks, queueChecks};
 ghost use Rattle.region.specs.Region as region;
 ghost use Rattle.region.specs.Valid.{Valid};
 ghost use Rattle.region.specs.Inside.{Below, Beside, Clear, Reached, Further, Right};
@@ -138,7 +138,7 @@ fn is_capacity(x: u32) -> bool
 }
 
 fn header(s: &[u8]) -> Test
-    ensures { λ r. ⌜ testOf r ≡ asked (headerChecks (now (s .entry))) ⌝ }
+    ensures { λ r. ⌜ testOf r ≡ asked (regionHeaderChecks (now (s .entry))) ⌝ }
 {
     if s.len() < 16 {
         return Test::Fault(REGION, 0);

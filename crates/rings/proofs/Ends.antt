@@ -15,17 +15,17 @@ use Rattle.region.specs.declared.Ring.{Ring}
 use Rattle.region.specs.Region.{countOf, offsetOf, ringAt, queueChecks}
 use Rattle.region.specs.Valid.{Valid, Queue, Consistent}
 use Rattle.region.proofs.Taken.{pass-queues, queue-pass}
-use Rattle.rings.specs.Records.{moved}
-use Rattle.rings.specs.Calls.{Stores, stored, count, changed, Leaves, reserveIn, reserveCall, fillIn, fillCall, commitIn, commitCall, skipAt, takeFrom, takeIn, takeCall}
+use Rattle.rings.specs.Records.{advanced}
+use Rattle.rings.specs.Calls.{Stores, stored, count, regionAfter, Leaves, reserveIn, reserveCall, fillIn, fillCall, commitIn, commitCall, skipAt, takeFrom, takeIn, takeCall}
 use Rattle.rings.proofs.Capacity.{Capacity, wraps}
 use Rattle.rings.specs.Sound.{Sound}
 
 module _ {A : Type 0} {R : Type 0} (f : Outcome (Stores × A) → R) (b : List ℕ) {o : Outcome (Stores × A)} {r : R} where
   pub end-refused : {n p : ℕ} → o ≡ refused n p → r ≡ f (refused n p) → Leaves f o b r b
-  end-refused e h = record { answers = h ∙ sym (ap f e); leaves = sym (ap (λ (x : Outcome (Stores × A)). changed x b) e) }
+  end-refused e h = record { answers = h ∙ sym (ap f e); leaves = sym (ap (λ (x : Outcome (Stores × A)). regionAfter x b) e) }
 
   pub end-taken : {s : Stores} {a : A} {new : List ℕ} → o ≡ taken (s, a) → r ≡ f (taken (s, a)) → new ≡ stored s b → Leaves f o b r new
-  end-taken e h k = record { answers = h ∙ sym (ap f e); leaves = k ∙ sym (ap (λ (x : Outcome (Stores × A)). changed x b) e) }
+  end-taken e h k = record { answers = h ∙ sym (ap f e); leaves = k ∙ sym (ap (λ (x : Outcome (Stores × A)). regionAfter x b) e) }
 
 -- a cursor is one store of 4 bytes
 pub cursor-count : (a x : ℕ) → count ((a, bytesOf 4 x) ∷ []) ≡ 4
@@ -48,7 +48,7 @@ pub asked-sound : (b : List ℕ) (q : ℕ) → taken tt ≡ asked (queueChecks b
 asked-sound b q h = let v = pass-queues b q (asked-pass (queueChecks b q) h) in queue-sound (v .0 .queues q (v .1))
 
 -- as the code comes by it: from a ring r that was read, the skip s and the cursor w behind it
-pub take-so : (b : List ℕ) (o : ℕ) (r : Ring) (s w : ℕ) → Capacity (ringAt b o .capacity) → r ≡ ringAt b o → s ≡ skipAt b o (r .capacity) (r .head) → w ≡ moved (r .head) s
+pub take-so : (b : List ℕ) (o : ℕ) (r : Ring) (s w : ℕ) → Capacity (ringAt b o .capacity) → r ≡ ringAt b o → s ≡ skipAt b o (r .capacity) (r .head) → w ≡ advanced (r .head) s
     → takeFrom b o s (o + 16 + w % r .capacity) ≡ takeIn b o
 unfolding takeIn
 take-so b o r s w k e q v =

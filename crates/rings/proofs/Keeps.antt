@@ -18,8 +18,8 @@ use Rattle.region.specs.declared.Ring.{Ring}
 use Rattle.region.specs.Region.{ahead, countOf, offsetOf, capacityOf, endOf, ringAt, queueChecks}
 use Rattle.region.specs.Valid.{Consistent, Queue, Valid}
 use Rattle.region.proofs.Taken.{pass-queues}
-use Rattle.rings.specs.Records.{moved, size, rest, need, marker}
-use Rattle.rings.specs.Calls.{Stores, stored, changed, reserveChecks, reserveIn, reserveCall, fillChecks, fillStores, fillIn, fillCall, commitChecks, commitIn, commitCall, takeChecks, takeIn, takeCall, skipAt}
+use Rattle.rings.specs.Records.{advanced, recordSize, rest, need, marker}
+use Rattle.rings.specs.Calls.{Stores, stored, regionAfter, reserveChecks, reserveIn, reserveCall, fillChecks, fillStores, fillIn, fillCall, commitChecks, commitIn, commitCall, takeChecks, takeIn, takeCall, skipAt}
 use Rattle.rings.specs.Use.{OnlyWithin, firstly, Called, by-reserve, by-fill, by-commit, by-take, by-stop}
 use Rattle.rings.proofs.Capacity.{Capacity, capacity-of, rest4}
 use Rattle.rings.proofs.Cases.{pass-reserve, pass-commit, pass-fill, pass-take}
@@ -43,7 +43,7 @@ ahead-add : (a b c : ℕ) → a < 4294967296 → b < 4294967296 → c < 42949672
 unfolding ahead
 ahead-add a b c ha hb hc h = omega arith
 
-ahead-moved : (a b n : ℕ) → a < 4294967296 → b < 4294967296 → ahead a b + n < 4294967296 → ahead a (moved b n) ≡ ahead a b + n
+ahead-moved : (a b n : ℕ) → a < 4294967296 → b < 4294967296 → ahead a b + n < 4294967296 → ahead a (advanced b n) ≡ ahead a b + n
 unfolding ahead
 ahead-moved a b n ha hb h = omega arith
 
@@ -53,7 +53,7 @@ unfolding ahead
 ahead-between a b c ha hb hc h = omega arith
 
 -- moved on towards another
-ahead-from : (a b n : ℕ) → a < 4294967296 → b < 4294967296 → n ≤ ahead a b → ahead (moved a n) b ≡ ahead a b - n
+ahead-from : (a b n : ℕ) → a < 4294967296 → b < 4294967296 → n ≤ ahead a b → ahead (advanced a n) b ≡ ahead a b - n
 unfolding ahead
 ahead-from a b n ha hb h = omega arith
 
@@ -67,7 +67,7 @@ record Small (r : Ring) : Type 0 where
 
 module _ (r : Ring) (cap : ℕ) (k : Capacity cap) (c : Consistent r cap) (s : Small r) where
   reserve-keeps : (n : ℕ) → Pass (reserveChecks r n)
-      → Consistent (record { head = r .head; reserve = moved (r .reserve) (need (r .capacity) (r .reserve) n); commit = r .commit; capacity = r .capacity }) cap
+      → Consistent (record { head = r .head; reserve = advanced (r .reserve) (need (r .capacity) (r .reserve) n); commit = r .commit; capacity = r .capacity }) cap
   reserve-keeps n h =
       let y = pass-reserve r n h in
       let e = c .same in
@@ -77,7 +77,7 @@ module _ (r : Ring) (cap : ℕ) (k : Capacity cap) (c : Consistent r cap) (s : S
       let a : ahead (r .head) (r .reserve) ≡ ahead (r .head) (r .commit) + ahead (r .commit) (r .reserve) =
       ahead-add (r .head) (r .commit) (r .reserve) (s .head) (s .commit) (s .reserve) (omega arith) in
       let y₁ : ahead (r .head) (r .reserve) + m ≤ r .capacity = y .1 in
-      let d : ahead (r .commit) (moved (r .reserve) m) ≡ ahead (r .commit) (r .reserve) + m = ahead-moved (r .commit) (r .reserve) m (s .commit) (s .reserve) (omega arith) in
+      let d : ahead (r .commit) (advanced (r .reserve) m) ≡ ahead (r .commit) (r .reserve) + m = ahead-moved (r .commit) (r .reserve) m (s .commit) (s .reserve) (omega arith) in
       let k₁ : Capacity (r .capacity) = rw e k in
       record {
         head4 = c .head4;
@@ -98,7 +98,7 @@ module _ (r : Ring) (cap : ℕ) (k : Capacity cap) (c : Consistent r cap) (s : S
       record { head4 = c .head4; reserve4 = c .reserve4; commit4 = y .1; near = rw (a, b) (omega arith); same = c .same }
 
   -- head moves on by some bytes up to commit, a multiple of 4
-  take-keeps : (n : ℕ) → n % 4 ≡ 0 → n ≤ ahead (r .head) (r .commit) → Consistent (record { head = moved (r .head) n; reserve = r .reserve; commit = r .commit; capacity = r .capacity }) cap
+  take-keeps : (n : ℕ) → n % 4 ≡ 0 → n ≤ ahead (r .head) (r .commit) → Consistent (record { head = advanced (r .head) n; reserve = r .reserve; commit = r .commit; capacity = r .capacity }) cap
   take-keeps n f h =
       let near = c .near in
       let h4 = c .head4 in
@@ -141,7 +141,7 @@ module _ {b : List ℕ} {i : ℕ} (bytes : Bytes b) (v : Valid b) (l : i < count
       let f = ring .inside in
       let r : Ring = ringAt b o in
       let z = checked-pass (reserveChecks r n) _ (s, p) (sym (reserve-called v l n) ∙ y) in
-      let x : ℕ = moved (r .reserve) (need (r .capacity) (r .reserve) n) in
+      let x : ℕ = advanced (r .reserve) (need (r .capacity) (r .reserve) n) in
       let e : s ≡ (o + 4, bytesOf 4 x) ∷ [] = sym (ap (λ (t : Stores × (ℕ × ℕ)). t .0) (taken-is (z .1))) in
       rw e
       (stored-in (o + 4) x (record { head = r .head; reserve = x; commit = r .commit; capacity = r .capacity }) (omega arith) (omega arith)
@@ -170,13 +170,13 @@ module _ {b : List ℕ} {i : ℕ} (bytes : Bytes b) (v : Valid b) (l : i < count
       let sk : ℕ = skipAt b o (r .capacity) (r .head) in
       let n : ℕ = leAt 4 b (o + 16 + (r .head + sk) % r .capacity) in
       let z = checked-pass (takeChecks r sk n) _ (s, p) (sym (take-called v l) ∙ y) in
-      let x : ℕ = moved (r .head) (sk + size n) in
+      let x : ℕ = advanced (r .head) (sk + recordSize n) in
       let e : s ≡ (o, bytesOf 4 x) ∷ [] = sym (ap (λ (t : Stores × (ℕ × ℕ)). t .0) (taken-is (z .1))) in
       let g = skipAt4 b o (r .head) k (ring .cursors .head4) in
       rw e
       (stored-in o x (record { head = x; reserve = r .reserve; commit = r .commit; capacity = r .capacity }) (omega arith) (omega arith)
       (rw (stored-here 4 x o b (omega arith) (omega arith), stored-above 4 x o b (omega arith) 4 (o + 4) (omega arith) (omega arith), stored-above 4 x o b (omega arith) 4 (o + 8) (omega arith) (omega arith), stored-above 4 x o b (omega arith) 4 (o + 12) (omega arith) (omega arith)))
-      (take-keeps r (capacityOf b i) (capacity-of (ring .capacity)) (ring .cursors) small (sk + size n) (omega arith) (pass-take r sk n (z .0) .1)))
+      (take-keeps r (capacityOf b i) (capacity-of (ring .capacity)) (ring .cursors) small (sk + recordSize n) (omega arith) (pass-take r sk n (z .0) .1)))
 
 -- bytes within a pair, whatever they are
 module _ {b : List ℕ} {i : ℕ} (v : Valid b) (l : i < countOf b) where
@@ -243,7 +243,7 @@ module _ {A : Type 0} (b : List ℕ) (i : ℕ) where
   asked-whole next {a} y = pass-queues b i (checked-pass (queueChecks b i) next a y .0)
 
   -- so what is left of the region is what the call kept in its ring, or the region as it was
-  either-way : (P : List ℕ → Type 0) (o : Outcome (Stores × A)) → P b → ((s : Stores) (a : A) → o ≡ taken (s, a) → P (stored s b)) → P (changed o b)
+  either-way : (P : List ℕ → Type 0) (o : Outcome (Stores × A)) → P b → ((s : Stores) (a : A) → o ≡ taken (s, a) → P (stored s b)) → P (regionAfter o b)
   either-way P (taken x) h f = f (x .0) (x .1) refl
   either-way P (refused n p) h f = h
 

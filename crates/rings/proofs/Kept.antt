@@ -14,7 +14,7 @@ use Rattle.answer.proofs.Outcomes.{taken-is, taken-refused}
 use Rattle.wire.specs.Numbers.{leAt, bytesOf, Bytes}
 use Rattle.wire.proofs.Numbers.{leAt-bound}
 use Rattle.region.specs.Region.{ahead, ringAt}
-use Rattle.rings.specs.Records.{moved, size, skip, need}
+use Rattle.rings.specs.Records.{advanced, recordSize, skip, need}
 use Rattle.rings.specs.Calls.{Stores, stored, reserveChecks, reserveIn, fillChecks, fillStores, fillIn, commitChecks, commitIn, takeIn}
 use Rattle.rings.specs.Use.{Slot, raw, full, lenOf, OpenPair, with, OnlyWithin}
 use Rattle.rings.proofs.Capacity.{Capacity, inside}
@@ -54,7 +54,7 @@ paired-tail : (cap p : ℕ) (xs ys : List OpenPair) → Paired cap p (xs ++ ys) 
 paired-tail cap p [] ys h = h
 paired-tail cap p (x ∷ xs) ys h = paired-tail cap (p + need cap p (lenOf (x .slot))) xs ys (h .2)
 
-paired-swap : (cap p : ℕ) (xs : List OpenPair) (q : OpenPair) (s : Slot) (ys : List OpenPair) → size (lenOf (q .slot)) ≡ size (lenOf s) → Paired cap p (xs ++ q ∷ ys) → Paired cap p (xs ++ with q s ∷ ys)
+paired-swap : (cap p : ℕ) (xs : List OpenPair) (q : OpenPair) (s : Slot) (ys : List OpenPair) → recordSize (lenOf (q .slot)) ≡ recordSize (lenOf s) → Paired cap p (xs ++ q ∷ ys) → Paired cap p (xs ++ with q s ∷ ys)
 paired-swap cap p [] q s ys e h = let z = size-need cap p (lenOf (q .slot)) (lenOf s) e in (h .0, rw (← z) (h .1), rw (← z) (h .2))
 paired-swap cap p (x ∷ xs) q s ys e h = (h .0, h .1, paired-swap cap (p + need cap p (lenOf (x .slot))) xs q s ys e (h .2))
 
@@ -91,13 +91,13 @@ kept-begin {o} {b} bytes fits k four e f =
 
 -- what reserve answers, in positions
 reserve-says : {b : List ℕ} {o cap p : ℕ} {ms : List (List ℕ)} {ss : List Slot} → Holds b o cap p ms ss → (n : ℕ) → Pass (reserveChecks (ringAt b o) n)
-    → (2 * size n ≤ cap) × (endFrom cap p (fulls ms ++ ss) + need cap (endFrom cap p (fulls ms ++ ss)) n ≤ p + cap)
-    × (moved (ringAt b o .reserve) (need (ringAt b o .capacity) (ringAt b o .reserve) n) ≡ (endFrom cap p (fulls ms ++ ss) + need cap (endFrom cap p (fulls ms ++ ss)) n) % 4294967296)
+    → (2 * recordSize n ≤ cap) × (endFrom cap p (fulls ms ++ ss) + need cap (endFrom cap p (fulls ms ++ ss)) n ≤ p + cap)
+    × (advanced (ringAt b o .reserve) (need (ringAt b o .capacity) (ringAt b o .reserve) n) ≡ (endFrom cap p (fulls ms ++ ss) + need cap (endFrom cap p (fulls ms ++ ss)) n) % 4294967296)
 reserve-says {b} {o} {cap} {p} {ms} {ss} h n y =
     let r : ℕ = endFrom cap p (fulls ms ++ ss) in
     let k = h .capacity in
     let z = pass-reserve (ringAt b o) n y in
-    let z₀ : 2 * size n ≤ cap = rw (h .capacity-there) at (z .0) in
+    let z₀ : 2 * recordSize n ≤ cap = rw (h .capacity-there) at (z .0) in
     let sw : skip (ringAt b o .capacity) (ringAt b o .reserve) n ≡ skip cap r n = rw (h .capacity-there, h .reserve-there) (skip-wraps k r n) in
     let z₁ : ahead (leAt 4 b o) (leAt 4 b (o + 4)) + need cap r n ≤ cap = rw (sw, h .capacity-there) at (z .1) in
     let u = used h in
@@ -146,7 +146,7 @@ module _ {o cap p : ℕ} {b : List ℕ} {ms : List (List ℕ)} (xs : List OpenPa
   ends : q .end ≡ (spot cap p ms xs + need cap (spot cap p ms xs) (lenOf (q .slot))) % 4294967296
   ends = rw (spot-so) at (paired-tail cap (endFrom cap p (fulls ms)) xs (q ∷ ys) g .1)
 
-  half : 2 * size (lenOf (q .slot)) ≤ cap
+  half : 2 * recordSize (lenOf (q .slot)) ≤ cap
   half =
       let a : fulls ms ++ (slots xs ++ q .slot ∷ slots ys) ≡ (fulls ms ++ slots xs) ++ q .slot ∷ slots ys = rw append-assoc in
       there-tail b o cap p (fulls ms ++ slots xs) (q .slot ∷ slots ys) (rw a at (h .there)) .0
@@ -173,7 +173,7 @@ module _ {o cap p : ℕ} {b : List ℕ} {ms : List (List ℕ)} (xs : List OpenPa
       let z : at + need cap at (lenOf (q .slot)) - at ≡ need cap at (lenOf (q .slot)) = omega arith in
       rw (starts, ends) (ahead-of at (at + need cap at (lenOf (q .slot))) (omega arith) (omega arith) ∙ z)
 
-  pub fill-taken : (n : ℕ) → size n ≡ size (lenOf (q .slot)) → Pass (fillChecks (ringAt b o) (q .start) (q .end) n)
+  pub fill-taken : (n : ℕ) → recordSize n ≡ recordSize (lenOf (q .slot)) → Pass (fillChecks (ringAt b o) (q .start) (q .end) n)
   fill-taken n e =
       let c = h .capacity in
       let most = c .most in
@@ -193,7 +193,7 @@ module _ {o cap p : ℕ} {b : List ℕ} {ms : List (List ℕ)} (xs : List OpenPa
       (apart-so ∙ sym (size-need cap at n (lenOf (q .slot)) e) ∙ rw (starts, h .capacity-there, skip-wraps c at n))
 
   -- a fill that is taken is one of the pair's size
-  same-size : (n : ℕ) → Pass (fillChecks (ringAt b o) (q .start) (q .end) n) → size (lenOf (q .slot)) ≡ size n
+  same-size : (n : ℕ) → Pass (fillChecks (ringAt b o) (q .start) (q .end) n) → recordSize (lenOf (q .slot)) ≡ recordSize n
   same-size n y =
       let c = h .capacity in
       let at : ℕ = spot cap p ms xs in
@@ -201,7 +201,7 @@ module _ {o cap p : ℕ} {b : List ℕ} {ms : List (List ℕ)} (xs : List OpenPa
       need-size c at (lenOf (q .slot)) n (sym apart-so ∙ pass-fill (ringAt b o) (q .start) (q .end) n y .3 ∙ z)
 
   -- its bytes change, and with them what is in it
-  kept-change : {c : List ℕ} (s : Slot) → size (lenOf (q .slot)) ≡ size (lenOf s) → Inner b c o cap (spot cap p ms xs) (need cap (spot cap p ms xs) (lenOf (q .slot)))
+  kept-change : {c : List ℕ} (s : Slot) → recordSize (lenOf (q .slot)) ≡ recordSize (lenOf s) → Inner b c o cap (spot cap p ms xs) (need cap (spot cap p ms xs) (lenOf (q .slot)))
       → Here c o cap (spot cap p ms xs) s → Kept o c ms (xs ++ with q s ∷ ys)
   unfolding spot
   kept-change s e w t = record {
@@ -220,7 +220,7 @@ module _ {o cap p : ℕ} {b : List ℕ} {ms : List (List ℕ)} (xs : List OpenPa
       let e = same-size (length m) (v .0) in
       let t : s ≡ fillStores o (ringAt b o .capacity) (q .start) m = sym (ap (λ (z : Stores × Unit {0}). z .0) (taken-is (v .1))) in
       let s₁ : s ≡ fillStores o cap at m = t ∙ rw (h .capacity-there, starts) (stores-wrap c o at m) in
-      let f : 2 * size (length m) ≤ cap = let hf = half in omega arith in
+      let f : 2 * recordSize (length m) ≤ cap = let hf = half in omega arith in
       let w = fill-whole c b o at m (h .fits) spot-four (need-fits c at (length m) f) in
       rw s₁ (w .0, kept-change (full m) e (rw (← size-need cap at (lenOf (q .slot)) (length m) e) at (w .0)) (w .1))
 
@@ -264,7 +264,7 @@ module _ {o : ℕ} {b : List ℕ} {ms : List (List ℕ)} (xs : List OpenPair) (q
 
   -- fill takes the pair that is handed on to it, for as many bytes as were asked for
   pub fill-passes : (m : List ℕ) → length m ≡ lenOf (q .slot) → Pass (fillChecks (ringAt b o) (q .start) (q .end) (length m))
-  fill-passes m e = fill-taken xs q ys whole (k .paired) (length m) (ap (λ (n : ℕ). size n) e)
+  fill-passes m e = fill-taken xs q ys whole (k .paired) (length m) (ap (λ (n : ℕ). recordSize n) e)
 
 -- a pair behind another starts behind the commit cursor, by less than a turn of the ring
 pub later-commit : {o : ℕ} {b : List ℕ} {ms : List (List ℕ)} (first : OpenPair) (xs : List OpenPair) (q : OpenPair) (ys : List OpenPair) → Kept o b ms (first ∷ xs ++ q ∷ ys)

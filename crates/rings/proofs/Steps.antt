@@ -16,7 +16,7 @@ use Rattle.wire.specs.Parts.{splice}
 use Rattle.region.specs.declared.Ring.{Ring}
 use Rattle.region.specs.Region.{ahead, ringAt}
 use Rattle.region.specs.Valid.{Consistent}
-use Rattle.rings.specs.Records.{size, rest, skip, need, marker}
+use Rattle.rings.specs.Records.{recordSize, rest, skip, need, marker}
 use Rattle.rings.specs.Calls.{Stores, stored, commitChecks, takeChecks, takeFrom, takeIn, skipAt}
 use Rattle.rings.specs.Use.{Slot, raw, full, lenOf}
 use Rattle.rings.proofs.Capacity.{Capacity, wraps, inside}
@@ -95,7 +95,7 @@ module _ (b : List ℕ) (o cap : ℕ) where
   there-tail p (x ∷ xs) ys h = there-tail (p + need cap p (lenOf x)) xs ys (h .2)
 
 module _ {b : List ℕ} {o cap p : ℕ} {ms : List (List ℕ)} {ss : List Slot} (h : Holds b o cap p ms ss) where
-  pub reserve-holds : (n : ℕ) → 2 * size n ≤ cap → endFrom cap p (fulls ms ++ ss) + need cap (endFrom cap p (fulls ms ++ ss)) n ≤ p + cap
+  pub reserve-holds : (n : ℕ) → 2 * recordSize n ≤ cap → endFrom cap p (fulls ms ++ ss) + need cap (endFrom cap p (fulls ms ++ ss)) n ≤ p + cap
       → Holds (splice (o + 4) (bytesOf 4 ((endFrom cap p (fulls ms ++ ss) + need cap (endFrom cap p (fulls ms ++ ss)) n) % 4294967296)) b) o cap p ms (ss ++ raw n ∷ [])
   reserve-holds n big room =
       let r : ℕ = endFrom cap p (fulls ms ++ ss) in
@@ -170,7 +170,7 @@ module _ {cap : ℕ} (k : Capacity cap) where
       sym (wraps k (p % 4294967296 + s)) ∙ ap (λ (i : ℕ). i % cap) e ∙ wraps k (p + s)
 
   -- the taker sees the skip that the producer made
-  seen-skip : (b : List ℕ) (o p : ℕ) (m : List ℕ) → 2 * size (length m) ≤ cap → Laid b o cap p m → skipAt b o cap (p % 4294967296) ≡ skip cap p (length m)
+  seen-skip : (b : List ℕ) (o p : ℕ) (m : List ℕ) → 2 * recordSize (length m) ≤ cap → Laid b o cap p m → skipAt b o cap (p % 4294967296) ≡ skip cap p (length m)
   unfolding skipAt
   seen-skip b o p m big h = rw (wraps k p) (go (skips k p (length m)))
     where
@@ -218,7 +218,7 @@ module _ {b : List ℕ} {o cap p : ℕ} {ss : List Slot} where
       (take-pass (ringAt b o) s n (rw w (omega arith)) (rw w (omega arith)) (rw w (omega arith))
       (rw (h .capacity-there, h .head-there, wraps-add k p s) (omega arith))) in
       take-at b o s at sk pl ∙ pass-checked (takeChecks (ringAt b o) s (leAt 4 b at)) _ pass
-      ∙ rw (laid .count, h .head-there, moved-of p (s + size n))
+      ∙ rw (laid .count, h .head-there, moved-of p (s + recordSize n))
 
   pub take-holds : {m : List ℕ} {ms : List (List ℕ)} → Holds b o cap p (m ∷ ms) ss
       → Holds (splice o (bytesOf 4 ((p + need cap p (length m)) % 4294967296)) b) o cap (p + need cap p (length m)) ms ss

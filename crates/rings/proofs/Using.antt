@@ -13,7 +13,7 @@ use Rattle.wire.specs.Numbers.{leAt}
 use Rattle.region.specs.Region.{countOf, offsetOf, capacityOf, ringAt}
 use Rattle.region.specs.Valid.{Consistent, Valid}
 use Rattle.rings.specs.Calls.{Stores, stored, fillChecks, fillCall, commitChecks, commitCall, takeCall}
-use Rattle.rings.specs.Use.{Message, Messages, OpenPairs, OpenPair, full, lenOf, Step, reserves, fills, stops, commits, takes, others, Used, begins, steps, Course, at-rest, step, Next, Drains, Stopped, unreserved, reserved, filling, filled, committed}
+use Rattle.rings.specs.Use.{Message, MessageList, OpenPairs, OpenPair, full, lenOf, Step, reserves, fills, stops, commits, takes, others, Used, begins, steps, Course, at-rest, step, Next, Drains, Stopped, unreserved, reserved, filling, filled, committed}
 use Rattle.rings.proofs.Capacity.{capacity-of}
 use Rattle.wire.proofs.Splices.{leAt-same}
 use Rattle.rings.proofs.Steps.{cursors-held, take-none, take-first, take-payload}
@@ -97,24 +97,24 @@ comes (m ∷ ms) u =
     let f = take-called (k .valid) (k .queue) ∙ take-first (k .kept .holds) in
     (record { stores = _; place = _; found = f; payload = take-payload (k .kept .holds) }, rw f (comes ms (steps u (takes f))))
 
-pub goes-on : {q : ℕ} {m : Message} {b c : List ℕ} {ms : Messages} {ps : OpenPairs} → Used q b ms ps → Stopped q m b ps c → (now : OpenPairs) × (Used q c ms now ⊎ Used q c (ms ++ m ∷ []) now)
+pub goes-on : {q : ℕ} {m : Message} {b c : List ℕ} {ms : MessageList} {ps : OpenPairs} → Used q b ms ps → Stopped q m b ps c → (now : OpenPairs) × (Used q c ms now ⊎ Used q c (ms ++ m ∷ []) now)
 goes-on {ps = ps} u unreserved = (ps, inl u)
 goes-on {m = m} u (reserved y) = (_, inl (steps u (reserves (length m) y)))
 goes-on u (filling xs p ys w) = (_, inl (steps u (stops xs p ys w)))
 goes-on {m = m} u (filled xs p ys y) = (_, inl (steps u (fills xs p ys m y)))
 goes-on u (committed e y) = (_, inr (steps u (commits e y)))
 
-pub none-or-all : {q : ℕ} {m : Message} {b c : List ℕ} (ms : Messages) {ps : OpenPairs} → Used q b ms ps → Stopped q m b ps c → Drains q c ms ⊎ Drains q c (ms ++ m ∷ [])
+pub none-or-all : {q : ℕ} {m : Message} {b c : List ℕ} (ms : MessageList) {ps : OpenPairs} → Used q b ms ps → Stopped q m b ps c → Drains q c ms ⊎ Drains q c (ms ++ m ∷ [])
 none-or-all {m = m} ms u s = ⊎-elim (λ v. inl (comes ms v)) (λ v. inr (comes (ms ++ m ∷ []) v)) (goes-on u s .1)
 
 -- ---- a message in its turn
 
 -- whatever happens, the messages that wait are those that waited, less those taken, and newer ones behind them
-pub course-used : {q : ℕ} {b c : List ℕ} {ms ns : Messages} {ps qs : OpenPairs} {k : ℕ} → Used q b ms ps → Course q b ms ps c ns qs k → Used q c ns qs
+pub course-used : {q : ℕ} {b c : List ℕ} {ms ns : MessageList} {ps qs : OpenPairs} {k : ℕ} → Used q b ms ps → Course q b ms ps c ns qs k → Used q c ns qs
 course-used u at-rest = u
 course-used u (step y r) = course-used (steps u y) r
 
-step-waits : {q : ℕ} {b c : List ℕ} {ms ns : Messages} {ps qs : OpenPairs} {j : ℕ} → Step q b ms ps c ns qs j → (more : Messages) × (ns ≡ drop j ms ++ more)
+step-waits : {q : ℕ} {b c : List ℕ} {ms ns : MessageList} {ps qs : OpenPairs} {j : ℕ} → Step q b ms ps c ns qs j → (more : MessageList) × (ns ≡ drop j ms ++ more)
 step-waits (reserves n y) = ([], rw append-nil)
 step-waits (fills xs p ys m y) = ([], rw append-nil)
 step-waits (stops xs p ys w) = ([], rw append-nil)
@@ -122,7 +122,7 @@ step-waits (commits {m = m} e y) = (m ∷ [], refl)
 step-waits (takes y) = ([], rw append-nil)
 step-waits (others i y ne h) = ([], rw append-nil)
 
-course-waits : {q : ℕ} {b c : List ℕ} {ms ns : Messages} {ps qs : OpenPairs} {k : ℕ} → Course q b ms ps c ns qs k → k ≤ length ms → (more : Messages) × (ns ≡ drop k ms ++ more)
+course-waits : {q : ℕ} {b c : List ℕ} {ms ns : MessageList} {ps qs : OpenPairs} {k : ℕ} → Course q b ms ps c ns qs k → k ≤ length ms → (more : MessageList) × (ns ≡ drop k ms ++ more)
 course-waits at-rest h = ([], rw append-nil)
 course-waits {ms = ms} (step {ns = ns} {os = os} {j = j} {k = k} y r) h =
     let w = step-waits y in
@@ -130,10 +130,10 @@ course-waits {ms = ms} (step {ns = ns} {os = os} {j = j} {k = k} y r) h =
     let z = length-append (drop j ms) (w .0) in
     let n : length ns ≡ length (drop j ms ++ w .0) = ap length (w .1) in
     let v = course-waits r (omega arith) in
-    let a : os ≡ drop k (drop j ms ++ w .0) ++ v .0 = v .1 ∙ ap (λ (x : Messages). drop k x ++ v .0) (w .1) in
+    let a : os ≡ drop k (drop j ms ++ w .0) ++ v .0 = v .1 ∙ ap (λ (x : MessageList). drop k x ++ v .0) (w .1) in
     (w .0 ++ v .0, a ∙ rw (drop-append-le k (drop j ms) (w .0) (omega arith), drop-drop k j ms, append-assoc))
 
-pub in-turn : {q : ℕ} {m : Message} {b c : List ℕ} (before behind : Messages) {ns : Messages} {ps qs : OpenPairs}
+pub in-turn : {q : ℕ} {m : Message} {b c : List ℕ} (before behind : MessageList) {ns : MessageList} {ps qs : OpenPairs}
     → Used q b (before ++ m ∷ behind) ps → Course q b (before ++ m ∷ behind) ps c ns qs (length before) → Next q c m
 in-turn {q} {m} {b} {c} before behind {ns} {ps} {qs} u r =
     let w = course-waits r (rw (length-append) (omega arith)) in
@@ -144,21 +144,21 @@ in-turn {q} {m} {b} {c} before behind {ns} {ps} {qs} u r =
 -- ---- pairs that are handed on
 
 -- fill takes a pair that is handed on to it as answered, for as many bytes as were asked for
-pub fill-takes : {q : ℕ} {b : List ℕ} {ms : Messages} (xs : OpenPairs) (p : OpenPair) (ys : OpenPairs) → Used q b ms (xs ++ p ∷ ys)
+pub fill-takes : {q : ℕ} {b : List ℕ} {ms : MessageList} (xs : OpenPairs) (p : OpenPair) (ys : OpenPairs) → Used q b ms (xs ++ p ∷ ys)
     → (m : Message) → length m ≡ lenOf (p .slot) → (s : Stores) × (fillCall b q (p .start) (p .end) m ≡ taken (s, tt))
 fill-takes {q} {b} xs p ys u m e =
     let k = up u in
     (_, fill-called (k .valid) (k .queue) (p .start) (p .end) m ∙ pass-checked (fillChecks (ringAt b (offsetOf b q)) (p .start) (p .end) (length m)) _ (fill-passes xs p ys (k .kept) m e))
 
 -- and commit the first one, once it is filled
-pub commit-takes : {q : ℕ} {m : Message} {b : List ℕ} {ms : Messages} {p : OpenPair} {ps : OpenPairs} → Used q b ms (p ∷ ps)
+pub commit-takes : {q : ℕ} {m : Message} {b : List ℕ} {ms : MessageList} {p : OpenPair} {ps : OpenPairs} → Used q b ms (p ∷ ps)
     → p .slot ≡ full m → (s : Stores) × (commitCall b q (p .start) (p .end) ≡ taken (s, tt))
 commit-takes {q} {m} {b} {p = p} u e =
     let k = up u in
     (_, commit-called (k .valid) (k .queue) (p .start) (p .end) ∙ pass-checked (commitChecks (ringAt b (offsetOf b q)) (p .start) (p .end)) _ (commit-passes p m e (k .kept)))
 
 -- a later one has to wait for its turn
-pub commit-waits : {q : ℕ} {b : List ℕ} {ms : Messages} (first : OpenPair) (xs : OpenPairs) (p : OpenPair) (ys : OpenPairs) → Used q b ms (first ∷ xs ++ p ∷ ys)
+pub commit-waits : {q : ℕ} {b : List ℕ} {ms : MessageList} (first : OpenPair) (xs : OpenPairs) (p : OpenPair) (ys : OpenPairs) → Used q b ms (first ∷ xs ++ p ∷ ys)
     → commitCall b q (p .start) (p .end) ≡ refused TURN 0
 commit-waits {q} {b} first xs p ys u =
     let k = up u in

@@ -16,7 +16,7 @@ use Rattle.region.specs.declared.Ring.{Ring}
 use Rattle.region.specs.Region.{ahead, offsetOf, ringAt, queueChecks}
 use Rattle.rings.specs.declared.Pair.{Pair}
 use Rattle.rings.specs.declared.Record.{Record}
-use Rattle.rings.specs.Records.{moved, size, rest, skip, need, marker, recordOf}
+use Rattle.rings.specs.Records.{advanced, recordSize, rest, skip, need, marker, ringRecord}
 
 -- ---- what a call does to its region
 
@@ -34,9 +34,9 @@ count [] = 0
 count (s ∷ l) = length (s .1) + count l
 
 -- the region after a call that answers an A beside: a refusal leaves all as it was
-abbrev pub changed : {A : Type 0} → Outcome (Stores × A) → List ℕ → List ℕ
-changed (taken x) b = stored (x .0) b
-changed (refused n p) b = b
+abbrev pub regionAfter : {A : Type 0} → Outcome (Stores × A) → List ℕ → List ℕ
+regionAfter (taken x) b = stored (x .0) b
+regionAfter (refused n p) b = b
 
 -- its number and place: the bytes stored, or the refusal's; and the numbers beside them, 0 in a refusal
 abbrev pub asAnswer : Outcome (Stores × Unit {0}) → Answer
@@ -54,7 +54,7 @@ asRecord (refused n p) = record { number = n; place = p; «payload_place» = 0; 
 -- the promise of a call: the answer r shows its outcome o, and the region that held `old` holds `new`
 pub record Leaves {A R : Type 0} (shows : Outcome (Stores × A) → R) (o : Outcome (Stores × A)) (old : List ℕ) (r : R) (new : List ℕ) : Type 0 where
   pub answers : r ≡ shows o
-  pub leaves : new ≡ changed o old
+  pub leaves : new ≡ regionAfter o old
 
 -- the region's own faults first, then the call on the ring of the queue that is asked for
 abbrev pub onQueue : {A : Type 0} → List ℕ → ℕ → (ℕ → Outcome A) → Outcome A
@@ -64,14 +64,14 @@ onQueue b q call = checked (queueChecks b q) (call (offsetOf b q))
 
 abbrev pub reserveChecks : Ring → ℕ → Checks
 reserveChecks r n =
-    (leb (2 * size n) (r .capacity), BIG, 0)
+    (leb (2 * recordSize n) (r .capacity), BIG, 0)
     ∷ (leb (ahead (r .head) (r .reserve) + need (r .capacity) (r .reserve) n) (r .capacity), FULL, 0)
     ∷ []
 
 abbrev pub reserveIn : List ℕ → ℕ → ℕ → Outcome (Stores × (ℕ × ℕ))
 reserveIn b o n =
     let r : Ring = ringAt b o in
-    let end : ℕ = moved (r .reserve) (need (r .capacity) (r .reserve) n) in
+    let end : ℕ = advanced (r .reserve) (need (r .capacity) (r .reserve) n) in
     checked (reserveChecks r n) (taken ((o + 4, bytesOf 4 end) ∷ [], (r .reserve, end)))
 
 unfoldable pub reserveCall : List ℕ → ℕ → ℕ → Outcome (Stores × (ℕ × ℕ))
@@ -91,7 +91,7 @@ fillChecks r start end n =
 unfoldable pub fillStores : ℕ → ℕ → ℕ → List ℕ → Stores
 fillStores o cap start m =
     let s : ℕ = skip cap start (length m) in
-    let it : ℕ × List ℕ = (o + 16 + (start + s) % cap, recordOf m) in
+    let it : ℕ × List ℕ = (o + 16 + (start + s) % cap, ringRecord m) in
     cond (eqb s 0) (it ∷ []) ((o + 16 + start % cap, bytesOf 4 marker) ∷ (it ∷ []))
 
 abbrev pub fillIn : List ℕ → ℕ → ℕ → ℕ → List ℕ → Outcome (Stores × Unit {0})
@@ -129,8 +129,8 @@ abbrev pub takeChecks : Ring → ℕ → ℕ → Checks
 takeChecks r s n =
     (ltb 0 (ahead (r .head) (r .commit)), EMPTY, 0)
     ∷ (ltb s (ahead (r .head) (r .commit)), RECORD, 0)
-    ∷ (leb (s + size n) (ahead (r .head) (r .commit)), RECORD, 0)
-    ∷ (leb (size n) (rest (r .capacity) (r .head + s)), RECORD, 0)
+    ∷ (leb (s + recordSize n) (ahead (r .head) (r .commit)), RECORD, 0)
+    ∷ (leb (recordSize n) (rest (r .capacity) (r .head + s)), RECORD, 0)
     ∷ []
 
 -- the record at place at, s skipped bytes behind head
@@ -138,7 +138,7 @@ abbrev pub takeFrom : List ℕ → ℕ → ℕ → ℕ → Outcome (Stores × (�
 takeFrom b o s at =
     let r : Ring = ringAt b o in
     let n : ℕ = leAt 4 b at in
-    checked (takeChecks r s n) (taken ((o, bytesOf 4 (moved (r .head) (s + size n))) ∷ [], (at + 4, n)))
+    checked (takeChecks r s n) (taken ((o, bytesOf 4 (advanced (r .head) (s + recordSize n))) ∷ [], (at + 4, n)))
 
 unfoldable pub takeIn : List ℕ → ℕ → Outcome (Stores × (ℕ × ℕ))
 takeIn b o =

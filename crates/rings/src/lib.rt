@@ -18,7 +18,7 @@ ghost use Rattle.wire.specs.Numbers.{leAt};
 ghost use Rattle.wire.specs.Parts.{splice};
 ghost use Rattle.region.specs.Region.{ringAt};
 ghost use Rattle.region.specs.Valid.{Consistent, Power};
-ghost use Rattle.rings.specs.Records.{size, skip, need, recordOf};
+ghost use Rattle.rings.specs.Records.{recordSize, skip, need, ringRecord};
 ghost use Rattle.rings.specs.Calls.{stored, count, asAnswer, asPair, asRecord, Leaves, reserveChecks, reserveIn, reserveCall, fillChecks, fillStores, fillIn, fillCall, commitChecks, commitIn, commitCall, skipAt, takeChecks, takeFrom, takeIn, takeCall};
 ghost use Rattle.rings.specs.Sound.{Sound, Fillable};
 
@@ -46,7 +46,7 @@ const MARKER: u32 = 0xFFFFFFFF;
 
 // A record's bytes, in numbers wide enough for any u32.
 fn size_of(n: u32) -> u64
-    ensures { λ r. ⌜ r ≡ size n ⌝ }
+    ensures { λ r. ⌜ r ≡ recordSize n ⌝ }
 {
     4 + ((n as u64) + 3) / 4 * 4
 }
@@ -202,8 +202,8 @@ fn may_fill(ring: Ring, start: u32, end: u32, len: usize) -> Test
 
 // A record: its length, its payload, zeros up to a multiple of 4. Answers its bytes. Its last word is stored first, as zeros, and the payload over it.
 fn put_record(out: &mut [u8], at: usize, payload: &[u8]) -> u64
-    requires { ⌜ (length (now payload) ≤ 65536) × (at + size (length (now payload)) ≤ length (now out)) ⌝ }
-    ensures { λ r. ⌜ (r ≡ size (length (now (payload .entry)))) × (now (out .exit) ≡ splice at (recordOf (now (payload .entry))) (now (out .entry))) ⌝ }
+    requires { ⌜ (length (now payload) ≤ 65536) × (at + recordSize (length (now payload)) ≤ length (now out)) ⌝ }
+    ensures { λ r. ⌜ (r ≡ recordSize (length (now (payload .entry)))) × (now (out .exit) ≡ splice at (ringRecord (now (payload .entry))) (now (out .entry))) ⌝ }
 {
     let n = payload.len();
     let padded = (n + 3) / 4 * 4;

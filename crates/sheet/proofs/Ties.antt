@@ -9,7 +9,7 @@ use lib.ListN.{length, take, drop, getD}
 use lib.Seq.{drop-drop}
 use Rattle.wire.specs.Numbers.{Bytes}
 use Rattle.fields.specs.declared.State.the-variants.{Cpu}
-use Rattle.fields.specs.Layout.{table, rowAt}
+use Rattle.fields.specs.Layout.{fieldTable, rowAt}
 use Rattle.fields.specs.Fields.{hasIn, bytesAt}
 use Rattle.registers.proofs.Tied.{Agree, tied, one, numbers, parts, selectors}
 use Rattle.sheet.specs.Vectors.{rows}
@@ -51,7 +51,7 @@ whole s at w i h =
 -- ---- the sheets
 
 module _ (s : List ℕ) (b : Bytes s) where
-  cpu-agree : Agree s (table Cpu) (cpuMembers (cpuOf s))
+  cpu-agree : Agree s (fieldTable Cpu) (cpuMembers (cpuOf s))
   cpu-agree = (
     numbers s b 16 0,
     (
@@ -119,4 +119,4 @@ module _ (s : List ℕ) (b : Bytes s) where
 
   pub cpu-ties : (n i : ℕ) → hasIn (rowAt Cpu n) i (length s) ≡ true → cpuMember (cpuOf s) n i ≡ bytesAt (rowAt Cpu n) i s
   unfolding rowAt cpuMember
-  cpu-ties n i h = tied s (table Cpu) (cpuMembers (cpuOf s)) cpu-agree n i h
+  cpu-ties n i h = tied s (fieldTable Cpu) (cpuMembers (cpuOf s)) cpu-agree n i h

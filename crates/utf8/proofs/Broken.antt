@@ -8,8 +8,8 @@ use lib.ListN.{length, take, drop, take-append-drop}
 use lib.Seq.{take-take}
 use Rattle.utf8.specs.declared.Found.{Found}
 use Rattle.utf8.specs.declared.Found.the-variants.{Whole, Broken}
-use Rattle.utf8.specs.Grammar.{Range, Alternative, UTF8-char, In, Fits, done, byte, Text, none, Begins, Longest, Breaks}
-use Rattle.utf8.specs.Scan.{Step, Next, Stop, lookup, leadOf, afterOf, onward, scanFrom, scan}
+use Rattle.utf8.specs.Grammar.{Range, Alternative, UTF8-char, InRange, Fits, done, byte, Text, none, Begins, Longest, Breaks}
+use Rattle.utf8.specs.Scan.{ToCome, Next, Stop, lookup, leadOf, afterOf, onward, scanFrom, scan}
 use Rattle.utf8.proofs.Table.{picked}
 use Rattle.utf8.proofs.Whole.{never, rest-whole, text-passed, whole-text, text-whole}
 
@@ -19,7 +19,7 @@ abbrev Filled : List Range → Type 0
 Filled [] = Unit {0}
 Filled (r ∷ rs) = (r .from ≤ r .to) × Filled rs
 
-abbrev Open : Step → Type 0
+abbrev Open : ToCome → Type 0
 Open (Next rs) = Filled rs
 Open Stop = Unit {0}
 
@@ -44,7 +44,7 @@ fill : (rs : List Range) → Filled rs → (u : List ℕ) × Fits rs u
 fill [] k = ([], done)
 fill (r ∷ rs) k =
     let f = fill rs (k .1) in
-    let i : In (r .from) (r .to) (r .from) = record { low = omega arith; high = k .0 } in
+    let i : InRange (r .from) (r .to) (r .from) = record { low = omega arith; high = k .0 } in
     (r .from ∷ f .0, byte i (f .1))
 
 -- the scan from place i on is broken at k, d bytes further: with some bytes for those from there on it is whole, and with none after the byte there
@@ -72,7 +72,7 @@ broke-here rs i k s ok e h =
 -- one byte more, by what the scan says after it
 module _ (rs : List Range) (i k b : ℕ) (s : List ℕ) (ok : Filled rs)
     (go : (l : List Range) → Filled l → scanFrom l (suc i) s ≡ Broken k → Broke l (suc i) s k) where
-  broke-onward : (st : Step) → afterOf rs b ≡ st → Open st
+  broke-onward : (st : ToCome) → afterOf rs b ≡ st → Open st
       → onward st i (λ l. scanFrom l (suc i) s) ≡ Broken k → Broke rs i (b ∷ s) k
   unfolding scanFrom
   broke-onward Stop q o e = broke-here rs i k (b ∷ s) ok e (λ h u. rw q e)

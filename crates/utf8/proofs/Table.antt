@@ -5,11 +5,11 @@ use mathlib.Core.List.{List, [], _∷_}
 use mathlib.Core.Bool.{Bool, true, false, cond, _&&_}
 use lib.Dec.{leb}
 use borrow.Author.Tests.{le-leb, lt-leb, leb-true}
-use Rattle.utf8.specs.Grammar.{In, Alternative, UTF8-char}
-use Rattle.utf8.specs.Scan.{Step, Next, Stop, among, lookup, leadOf}
+use Rattle.utf8.specs.Grammar.{InRange, Alternative, UTF8-char}
+use Rattle.utf8.specs.Scan.{ToCome, Next, Stop, among, lookup, leadOf}
 
 -- ---- the test of two bounds
-pub in-among : {lo hi b : ℕ} → In lo hi b → among lo hi b ≡ true
+pub in-among : {lo hi b : ℕ} → InRange lo hi b → among lo hi b ≡ true
 in-among {lo} {hi} {b} h = simp (le-leb lo b (h .low), le-leb b hi (h .high))
 
 pub out-among : (lo hi b : ℕ) → (lo ≤ b → hi < b) → among lo hi b ≡ false
@@ -20,7 +20,7 @@ out-among lo hi b h = go (leb lo b) refl
     go true e = lt-leb b hi (h (leb-true lo b e))
 
 -- what holds of x if b lies between the bounds, and of y anyway, holds of the one that the test picks
-pub picked : (lo hi b : ℕ) (P : Step → Type 0) {x y : Step} → (In lo hi b → P x) → P y → P (cond (among lo hi b) x y)
+pub picked : (lo hi b : ℕ) (P : ToCome → Type 0) {x y : ToCome} → (InRange lo hi b → P x) → P y → P (cond (among lo hi b) x y)
 picked lo hi b P {x} {y} f d = go (leb lo b) refl (leb b hi) refl
   where
     go : (t : Bool) → leb lo b ≡ t → (u : Bool) → leb b hi ≡ u → P (cond (t && u) x y)
@@ -32,7 +32,7 @@ picked lo hi b P {x} {y} f d = go (leb lo b) refl (leb b hi) refl
 -- b begins the k-th, and is above those before it
 abbrev pub Hit : ℕ → List Alternative → ℕ → Type 0
 Hit k [] b = ⊥
-Hit zero (a ∷ l) b = In (a .first .from) (a .first .to) b
+Hit zero (a ∷ l) b = InRange (a .first .from) (a .first .to) b
 Hit (suc k) (a ∷ l) b = (a .first .to < b) × (Hit k l b)
 
 -- b begins none
@@ -41,7 +41,7 @@ Miss [] b = Unit {0}
 Miss (a ∷ l) b = (a .first .from ≤ b → a .first .to < b) × (Miss l b)
 
 -- what the k-th lets follow
-abbrev pub nth : ℕ → List Alternative → Step
+abbrev pub nth : ℕ → List Alternative → ToCome
 nth k [] = Stop
 nth zero (a ∷ l) = Next (a .rest)
 nth (suc k) (a ∷ l) = nth k l

@@ -15,8 +15,8 @@ use Rattle.utf8.specs.declared.Found.{Found}
 use Rattle.utf8.specs.declared.Found.the-variants.{Whole, Broken}
 use Rattle.utf8.specs.declared.Reach.{Reach}
 use Rattle.utf8.specs.declared.Reach.the-variants.{Ends, Breaks}
-use Rattle.utf8.specs.Grammar.{Range, _⋯_, tails, In}
-use Rattle.utf8.specs.Scan.{Next, Stop, leadOf, afterOf, onward, ended, scanFrom, scan}
+use Rattle.utf8.specs.Grammar.{Range, _⋯_, tails, InRange}
+use Rattle.utf8.specs.Scan.{Next, Stop, leadOf, afterOf, onward, endedAt, scanFrom, scan}
 use Rattle.utf8.specs.Steps.{AtMost, scanAt, Passes, Reaches, ends, breaks}
 use Rattle.utf8.proofs.Table.{in-among, out-among, hit}
 use Rattle.utf8.proofs.Whole.{never}
@@ -49,7 +49,7 @@ module _ (s : List ℕ) (i : ℕ) (rs : List Range) where
   unfolding scanFrom
   turn h = simp (add-one, drop-cons s i 0 h)
 
-  at-end : length s ≤ i → scanAt s i rs ≡ ended rs i
+  at-end : length s ≤ i → scanAt s i rs ≡ endedAt rs i
   unfolding scanFrom
   at-end h = rw (drop-of-length-le s h)
 
@@ -69,7 +69,7 @@ module _ (s : List ℕ) (i : ℕ) (r : Range) (rs : List Range) where
   next-missing h = at-end s i (r ∷ rs) h
 
   module _ (h : i < length s) where
-    pub next-in : In (r .from) (r .to) (getD s i 0) → scanAt s i (r ∷ rs) ≡ scanAt s (i + 1) rs
+    pub next-in : InRange (r .from) (r .to) (getD s i 0) → scanAt s i (r ∷ rs) ≡ scanAt s (i + 1) rs
     unfolding afterOf
     next-in k = rw (turn s i (r ∷ rs) h, in-among k)
 
@@ -97,7 +97,7 @@ module _ {s : List ℕ} {i n at : ℕ} where
   came-out {left = zero} c e h o = absurd (omega arith)
   came-out {left = suc m} c e h o = breaks (c .same ∙ next-out s at (0x80 ⋯ 0xBF) (tails m) h o)
 
-  pub came-in : {left : ℕ} → Came s i n at left → 0 < left → at < length s → In 0x80 0xBF (getD s at 0) → Came s i n (at + 1) (left - 1)
+  pub came-in : {left : ℕ} → Came s i n at left → 0 < left → at < length s → InRange 0x80 0xBF (getD s at 0) → Came s i n (at + 1) (left - 1)
   came-in {left = zero} c e h o = absurd (omega arith)
   came-in {left = suc m} c e h o =
       let q : m ≡ suc m - 1 = omega arith in

@@ -5,13 +5,13 @@ use mathlib.Core.Logic.{_⊎_, inl, inr}
 use mathlib.Core.List.{List, [], _∷_, _++_}
 use native.Mathlib.Omega.{arith}
 use Rattle.utf8.specs.declared.Found.the-variants.{Whole, Broken}
-use Rattle.utf8.specs.Grammar.{Range, Alternative, UTF8-char, In, Fits, done, byte, OneOf, Char, Text, none, more}
-use Rattle.utf8.specs.Scan.{Step, Next, Stop, lookup, leadOf, afterOf, onward, scanFrom, scan}
+use Rattle.utf8.specs.Grammar.{Range, Alternative, UTF8-char, InRange, Fits, done, byte, OneOf, Char, Text, none, more}
+use Rattle.utf8.specs.Scan.{ToCome, Next, Stop, lookup, leadOf, afterOf, onward, scanFrom, scan}
 use Rattle.utf8.proofs.Table.{in-among, out-among, picked}
 
 -- ---- a character is a first byte of the table with what that lets follow
 -- b with what it lets follow is of one of the alternatives
-abbrev Makes : List Alternative → ℕ → Step → Type 0
+abbrev Makes : List Alternative → ℕ → ToCome → Type 0
 Makes l b (Next rs) = (t : List ℕ) → Fits rs t → OneOf l (b ∷ t)
 Makes l b Stop = Unit {0}
 
@@ -19,7 +19,7 @@ makes : (l : List Alternative) (b : ℕ) → Makes l b (lookup l b)
 makes [] b = tt
 makes (a ∷ l) b = picked (a .first .from) (a .first .to) b (Makes (a ∷ l) b) (λ h t f. inl (byte h f)) (later (lookup l b) (makes l b))
   where
-    later : (st : Step) → Makes l b st → Makes (a ∷ l) b st
+    later : (st : ToCome) → Makes l b st → Makes (a ∷ l) b st
     later (Next rs) m = λ t f. inr (m t f)
     later Stop m = tt
 
@@ -56,16 +56,16 @@ data Goes (rs : List Range) : List ℕ → Type 0 where
 begun : {b : ℕ} {rs : List Range} {s : List ℕ} → ((t : List ℕ) → Fits rs t → Char (b ∷ t)) → Goes rs s → Goes [] (b ∷ s)
 begun m (goes f t) = goes done (more (m _ f) t)
 
-grown : {r : Range} {rs : List Range} {b : ℕ} {s : List ℕ} → In (r .from) (r .to) b → Goes rs s → Goes (r ∷ rs) (b ∷ s)
+grown : {r : Range} {rs : List Range} {b : ℕ} {s : List ℕ} → InRange (r .from) (r .to) b → Goes rs s → Goes (r ∷ rs) (b ∷ s)
 grown h (goes f t) = goes (byte h f) t
 
 -- one byte before what it lets follow, by what the scan says after it
 module _ (b : ℕ) (s : List ℕ) where
-  Grows : List Range → Step → Type 0
+  Grows : List Range → ToCome → Type 0
   Grows rs (Next l) = Goes l s → Goes rs (b ∷ s)
   Grows rs Stop = Unit {0}
 
-  first : (st : Step) → Makes UTF8-char b st → Grows [] st
+  first : (st : ToCome) → Makes UTF8-char b st → Grows [] st
   unfolding Grows
   first (Next l) m = begun m
   first Stop m = tt
@@ -75,7 +75,7 @@ module _ (b : ℕ) (s : List ℕ) where
   grows [] = first (lookup UTF8-char b) (makes UTF8-char b)
   grows (r ∷ rs) = picked (r .from) (r .to) b (Grows (r ∷ rs)) grown tt
 
-  whole-onward : (rs : List Range) (i : ℕ) (go : (l : List Range) → scanFrom l (suc i) s ≡ Whole → Goes l s) (st : Step) → Grows rs st
+  whole-onward : (rs : List Range) (i : ℕ) (go : (l : List Range) → scanFrom l (suc i) s ≡ Whole → Goes l s) (st : ToCome) → Grows rs st
       → onward st i (λ l. scanFrom l (suc i) s) ≡ Whole → Goes rs (b ∷ s)
   unfolding Grows
   whole-onward rs i go (Next l) g e = g (go l e)

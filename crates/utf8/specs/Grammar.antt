@@ -74,14 +74,14 @@ UTF8-char = UTF8-1 ++ (UTF8-2 ++ (UTF8-3 ++ UTF8-4))
 
 -- ---- what it makes
 -- the byte b is one of %xLO-HI
-pub record In (lo hi b : ℕ) : Type 0 where
+pub record InRange (lo hi b : ℕ) : Type 0 where
   pub low : lo ≤ b
   pub high : b ≤ hi
 
 -- one byte of each range
 pub data Fits : List Range → List ℕ → Type 0 where
   done : Fits [] []
-  byte : {r : Range} {rs : List Range} {b : ℕ} {t : List ℕ} → In (r .from) (r .to) b → Fits rs t → Fits (r ∷ rs) (b ∷ t)
+  byte : {r : Range} {rs : List Range} {b : ℕ} {t : List ℕ} → InRange (r .from) (r .to) b → Fits rs t → Fits (r ∷ rs) (b ∷ t)
 
 -- the bytes of one of the alternatives
 abbrev pub OneOf : List Alternative → List ℕ → Type 0

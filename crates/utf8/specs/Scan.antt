@@ -8,41 +8,41 @@ use Rattle.utf8.specs.declared.Found.the-variants.{Whole, Broken}
 use Rattle.utf8.specs.Grammar.{Range, Alternative, UTF8-char}
 
 -- After a byte: the ranges of those that are to come of its character; or no text goes on so.
-pub data Step : Type 0 where
-  Next : List Range → Step
-  Stop : Step
+pub data ToCome : Type 0 where
+  Next : List Range → ToCome
+  Stop : ToCome
 
 -- b lies between lo and hi.
 abbrev pub among : ℕ → ℕ → ℕ → Bool
 among lo hi b = leb lo b && leb b hi
 
 -- What the first alternative that begins with b lets follow.
-abbrev pub lookup : List Alternative → ℕ → Step
+abbrev pub lookup : List Alternative → ℕ → ToCome
 lookup [] b = Stop
 lookup (a ∷ l) b = cond (among (a .first .from) (a .first .to) b) (Next (a .rest)) (lookup l b)
 
 -- What b lets follow as the first byte of a character.
-unfoldable pub leadOf : ℕ → Step
+unfoldable pub leadOf : ℕ → ToCome
 leadOf b = lookup UTF8-char b
 
 -- What b lets follow where bytes of these ranges are to come.
-unfoldable pub afterOf : List Range → ℕ → Step
+unfoldable pub afterOf : List Range → ℕ → ToCome
 afterOf [] b = leadOf b
 afterOf (r ∷ rs) b = cond (among (r .from) (r .to) b) (Next rs) Stop
 
 -- The bytes end at place i: within a character they break there.
-abbrev pub ended : List Range → ℕ → Found
-ended [] i = Whole
-ended (r ∷ rs) i = Broken i
+abbrev pub endedAt : List Range → ℕ → Found
+endedAt [] i = Whole
+endedAt (r ∷ rs) i = Broken i
 
 -- The byte at place i lets something follow, and the scan goes on with that; or the bytes break there.
-abbrev pub onward : Step → ℕ → (List Range → Found) → Found
+abbrev pub onward : ToCome → ℕ → (List Range → Found) → Found
 onward (Next rs) i go = go rs
 onward Stop i go = Broken i
 
 -- The bytes from place i on, where bytes of these ranges are to come.
 unfoldable pub scanFrom : List Range → ℕ → List ℕ → Found
-scanFrom rs i [] = ended rs i
+scanFrom rs i [] = endedAt rs i
 scanFrom rs i (b ∷ s) = onward (afterOf rs b) i (λ l. scanFrom l (suc i) s)
 
 -- Whole, or broken at the first place at which no text continues.

@@ -2,7 +2,7 @@ use Rattle.answer.specs.Outcome.{taken}
 use Rattle.answer.specs.Calls.{asked}
 use Rattle.answer.proofs.Checks.{Left, left-all, left-fail, left-pass}
 use Rattle.wire.specs.Numbers.{Bytes}
-use Rattle.dskc.specs.Wrapper.{headerChecks}
+use Rattle.dskc.specs.Wrapper.{wrapperHeaderChecks}
 use Rattle.dskc.proofs.Headers.{aero-number, dskc-number}
 use lib.ListN.{drop}
 use mathlib.Core.Path.{sym, _∙_}
@@ -15,7 +15,7 @@ use Rattle.dskc.proofs.header.Tie as tie
 
 -- the checks from the n-th on are left to ask
 abbrev From : ℕ → List ℕ → Type 0
-From n s = Left (drop n (headerChecks s)) (taken tt) (asked (headerChecks s))
+From n s = Left (drop n (wrapperHeaderChecks s)) (taken tt) (asked (wrapperHeaderChecks s))
 
 -- what is read, once its length is known to be one of a wrapper
 abbrev read : tie.Else2 → List ℕ
@@ -26,7 +26,7 @@ bytes c = λ i. c .before .before .shared-slice-known .given i .fits
 
 -- the checks passed
 most : (c : tie.Else1) → From 1 (c .before .before .args .s .now)
-most c = left-pass (left-all (headerChecks (c .before .before .args .s .now)) (taken tt)) (le-leb _ _ (c .if1 .left))
+most c = left-pass (left-all (wrapperHeaderChecks (c .before .before .args .s .now)) (taken tt)) (le-leb _ _ (c .if1 .left))
 
 short : (c : tie.Else2) → From 2 (read c)
 short c = left-pass (most (c .before)) (le-leb _ _ (c .if2 .left))
@@ -43,7 +43,7 @@ more-letters c =
     left-pass (pair (c .before .before)) (dskc-number (read p) (bytes p) (p .if2 .left) (c .before .u32-at2 .ensures) ∙ eq-eqb _ _ (c .if5 .left))
 
 returns : tie.Need-returns
-returns c = left-fail (left-all (headerChecks (c .before .before .args .s .now)) (taken tt)) (lt-leb _ _ (c .if1 .taken))
+returns c = left-fail (left-all (wrapperHeaderChecks (c .before .before .args .s .now)) (taken tt)) (lt-leb _ _ (c .if1 .taken))
 
 returns-2 : tie.Need-returns-2
 returns-2 c = left-fail (most (c .before)) (lt-leb _ _ (c .if2 .taken))

@@ -1,5 +1,5 @@
 use Rattle.dskc.proofs.Reading.{header-stop, list-stop, list-done}
-use Rattle.dskc.specs.Wrapper.{headerChecks, wrapperOf}
+use Rattle.dskc.specs.Wrapper.{wrapperHeaderChecks, wrapperOf}
 use Rattle.entries.specs.Kinds.{controllers}
 use Rattle.lists.specs.Lists.{indexOf}
 use Rattle.lists.specs.Promises.{Indexed}
@@ -26,8 +26,8 @@ headed c = c .before .before .before
 abbrev begun : tie.After-index → tie.Start
 begun c = start (headed c .before .before)
 
-passed : (c : tie.After-index) → Pass (headerChecks (begun c .args .s .now))
-passed c = let e = headed c in asked-pass (headerChecks (begun c .args .s .now)) (sym (ap testOf (e .enum-told .given .1)) ∙ e .before .before .header .ensures)
+passed : (c : tie.After-index) → Pass (wrapperHeaderChecks (begun c .args .s .now))
+passed c = let e = headed c in asked-pass (wrapperHeaderChecks (begun c .args .s .now)) (sym (ap testOf (e .enum-told .given .1)) ∙ e .before .before .header .ensures)
 
 -- a fault in it
 abbrev indexed : tie.After-number2 → tie.After-index

@@ -1,5 +1,5 @@
 use Rattle.fields.specs.declared.State.the-variants.{Cpu}
-use Rattle.fields.specs.Layout.{table, rowAt}
+use Rattle.fields.specs.Layout.{fieldTable, rowAt}
 use Rattle.fields.proofs.Table.{read-row}
 use borrow.Author.Needs.{needs}
 use Rattle.fields.proofs.cpu_row.Statement.{statement}
@@ -16,7 +16,7 @@ use Rattle.fields.proofs.cpu_row.Lts as lts
 -- src/lib.rt:74:1
 returns : tie.Need-returns
 unfolding rowAt
-returns c = read-row (table Cpu) (c .before .args .n)
+returns c = read-row (fieldTable Cpu) (c .before .args .n)
 
 pub cpu-row-spec : {M : Type 1} → statement M
 cpu-row-spec =

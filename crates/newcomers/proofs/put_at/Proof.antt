@@ -1,5 +1,5 @@
 use Rattle.newcomers.proofs.Laws.{length-record, put-at}
-use Rattle.newcomers.specs.Records.{recordOf, stored}
+use Rattle.newcomers.specs.Records.{recordOf, recordPut}
 use Rattle.wire.proofs.Parts.{length-tail, put-refused}
 use Prim.Native.Nat.{_+_, _*_}
 use lib.ListN.{length}
@@ -35,7 +35,7 @@ same-length : tie.Need-same-length
 same-length c = search needs
 
 returns : tie.Need-returns
-unfolding stored
+unfolding recordPut
 returns c =
     let t = c .before .before .before .before in
     let a = t .before .before .before .args in
@@ -45,7 +45,7 @@ add-result-2 : tie.Need-add-result-2
 add-result-2 c = search needs
 
 returns-2 : tie.Need-returns-2
-unfolding stored
+unfolding recordPut
 returns-2 c = let a = c .before .before .before .args in (refl, put-refused (a .i * 24) (recordOf (a .d)) (a .records .now) (length-record (a .d)) (sym (c .before .fits2 .ensures) ∙ c .if1 .left) refl)
 
 pub put-at-spec : {M : Type 1} → statement M

@@ -1,6 +1,6 @@
 use Rattle.region.proofs.Walk.{no-promise, header-table}
 use Rattle.region.proofs.Taken.{right-valid}
-use Rattle.region.specs.Region.{headerChecks}
+use Rattle.region.specs.Region.{regionHeaderChecks}
 use Rattle.answer.proofs.Checks.{asked-pass}
 use Rattle.answer.specs.Calls.{testOf}
 use mathlib.Core.Path.{_∙_, sym, ap}
@@ -19,7 +19,7 @@ returns-3 : tie.Need-returns-3
 returns-3 c h =
     let m = c .before .before .before in
     let b = m .before .before .before .before .args .s .now in
-    (right-valid b (asked-pass (headerChecks b) (sym (ap testOf (m .enum-told2 .given .1)) ∙ m .before .before .header .ensures)) (rw (c .before .before .u32-at .ensures) at (c .are-right .ensures h)), omega arith)
+    (right-valid b (asked-pass (regionHeaderChecks b) (sym (ap testOf (m .enum-told2 .given .1)) ∙ m .before .before .header .ensures)) (rw (c .before .before .u32-at .ensures) at (c .are-right .ensures h)), omega arith)
 
 pub is-right-spec : {M : Type 1} → statement M
 is-right-spec =
