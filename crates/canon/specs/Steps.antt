@@ -1,18 +1,14 @@
--- What the parts of the code that writes a file ask and give.
+-- What the private functions of the crates that write a file ask and give: no promise cites it.
 -- Assumes nothing.
 use mathlib.Core.Path.{_≡_}
-use mathlib.Core.Bool.{cond, not, _||_}
-use mathlib.Core.List.{List, [], _∷_, _++_}
-use Prim.Native.Nat.{ℕ, zero, suc, _+_, _≤_}
+use mathlib.Core.Bool.{cond}
+use mathlib.Core.List.{List, [], _++_}
+use Prim.Native.Nat.{ℕ, zero, suc, _+_, _≤_, _<_}
 use lib.Dec.{eqb, leb}
-use lib.ListN.{length}
-use Rattle.answer.specs.Numbers.{SIZE, MANY, LIMIT}
-use Rattle.answer.specs.Outcome.{Checks, room}
-use Rattle.wire.specs.Numbers.{bytesOf}
+use lib.ListN.{length, getD}
 use Rattle.order.specs.Keyed.{flat}
 use Rattle.order.specs.Entries.{join}
-use Rattle.aerosnap.specs.Known.{DEVICES}
-use Rattle.aerosnap.specs.File.{fileMost, sectionsMost, devicesMost}
+use Rattle.aerosnap.specs.File.{fileMost}
 use Rattle.aerosnap.specs.Rules.{IsSection}
 use Rattle.aerosnap.specs.Content.{tidy, rank}
 
@@ -37,20 +33,11 @@ pub record WholeSection (e : List ℕ) : Type 0 where
   pub is : IsSection e
   pub small : length e ≤ fileMost
 
--- the first 16 bytes of a section or of a device's entry: u32 id, u16 version, u16 flags, u64 length
-abbrev pub frame : ℕ → ℕ → ℕ → ℕ → List ℕ
-frame id v f n = bytesOf 4 id ++ (bytesOf 2 v ++ (bytesOf 2 f ++ bytesOf 8 n))
+-- the place of the directory that says whether there is anything of a rank
+abbrev pub rankPlace : ℕ → ℕ
+rankPlace k = cond (leb k 8) k 0
 
--- an output of so many bytes holds the file b
-pub record Holds (have : ℕ) (b : List ℕ) : Type 0 where
-  pub most : length b ≤ fileMost
-  pub room : length b ≤ have
-
--- what is asked of a result behind its key, and its room: the entries of its list, that list's bytes, its sections, its bytes
-abbrev pub boundChecks : ℕ → ℕ → ℕ → ℕ → ℕ → ℕ → ℕ → Checks
-boundChecks most id entries bytes sections size have =
-    (leb entries most, LIMIT, 0)
-    ∷ (not (eqb id DEVICES) || leb bytes devicesMost, LIMIT, 0)
-    ∷ (leb sections sectionsMost, MANY, 0)
-    ∷ (leb size fileMost, SIZE, 0)
-    ∷ room have size
+-- by the directory there is nothing of the ranks behind rank k from the i-th on and before the r-th
+pub record PassedOver (index : List ℕ) (k i r : ℕ) : Type 0 where
+  pub order : i ≤ r
+  pub none : (j : ℕ) → i ≤ j → j < r → getD index (rankPlace (k + (j + 1))) 0 ≡ 0

@@ -11,9 +11,9 @@ use Rattle.answer.specs.Calls.{asked, verdict, Writes}
 use Rattle.answer.proofs.Once.{equal-once, writes-once}
 use Rattle.aerosnap.specs.Calls.{checkCall, sectionsCall, devicesCall, disksCall, cpusCall, mmusCall, canonicalCall}
 use Rattle.aerosnap.specs.Salvage.{salvage}
-use Rattle.canon.specs.declared.Salvaged.{Salvaged}
-use Rattle.canon.specs.Salvaging.{Salvages}
-use Rattle.canon.proofs.Once as canon-once
+use Rattle.salvage.specs.declared.Salvaged.{Salvaged}
+use Rattle.salvage.specs.Salvaging.{Salvages}
+use Rattle.salvage.proofs.Once as rescued
 use Rattle.aerosnap.specs.declared.NewDevice.{NewDevice}
 use Rattle.cards.specs.declared.Card.{Card}
 use Rattle.cards.specs.declared.Edited.{Edited}
@@ -78,7 +78,7 @@ canonical-once file old r s new now a b = writes-once a b
 
 pub salvage-once : (file out losses : List ℕ) (r s : Salvaged) (new now recs lines : List ℕ)
     → Salvages (salvage (length out) (length losses) file) out losses r new recs → Salvages (salvage (length out) (length losses) file) out losses s now lines → (r ≡ s) × (new ≡ now) × (recs ≡ lines)
-salvage-once file out losses r s new now recs lines a b = canon-once.salvage-once file out losses a b
+salvage-once file out losses r s new now recs lines a b = rescued.salvage-once file out losses a b
 
 pub open-once : (file : List ℕ) (r p : Edited) → r ≡ openAnswer (openCall file) → p ≡ openAnswer (openCall file) → r ≡ p
 open-once file r p a b = equal-once a b

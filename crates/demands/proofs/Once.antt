@@ -44,12 +44,16 @@ pub use Rattle.sheet.proofs.Once.{make-sse-once, xmm-of-once, cpu-once, cpu-ove
 pub use Rattle.mmu_sheet.proofs.Once.{mmu-once, mmu-over-once}
 -- payloads: index
 pub use Rattle.payloads.proofs.Once.{index-once as payloads-index-once}
--- sections: small; scan; is_list; check_and_find; count_entries; fits; divide
-pub use Rattle.sections.proofs.Once.{small-once, scan-once, is-list-once, check-and-find-once, count-entries-once, fits-once as sections-fits-once, divide-once}
+-- sections: small; scan; is_list; check_and_find; fits; places_for; noted; divide
+pub use Rattle.sections.proofs.Once.{small-once, scan-once, is-list-once, check-and-find-once, fits-once as sections-fits-once, places-for-once, noted-once, divide-once}
 -- cards: move_by
 pub use Rattle.cards.proofs.Once.{move-by-once}
--- canon and snapshot: canonical; salvage; open; edited, and add_device, add_disk, remove_device, remove_disk, replace_device, which are that of one edit each; added, and add_devices, which is that
-pub use Rattle.canon.proofs.Once.{canonical-once, salvage-once, open-once, edited-once, added-once}
+-- canon: put_between; canon and snapshot: canonical
+pub use Rattle.canon.proofs.Once.{canonical-once, put-between-once}
+-- salvage and snapshot: salvage
+pub use Rattle.salvage.proofs.Once.{salvage-once}
+-- edits and snapshot: open; edited, and add_device, add_disk, remove_device, remove_disk, replace_device, which are that of one edit each; added, and add_devices, which is that
+pub use Rattle.edits.proofs.Once.{open-once, edited-once, added-once}
 -- snapshot: check; sections; devices; disks; cpus; mmus; meta
 pub use Rattle.snapshot.proofs.Once.{check-once, sections-once, devices-once, disks-once, cpus-once, mmus-once, meta-once}
 -- newcomers: looked_at; put; add_records

@@ -25,9 +25,9 @@ use Rattle.aerosnap.proofs.Rescued.{file-parts, no-loss, salvage-exactly, salva
 use Rattle.aerosnap.proofs.Judged.{kept-taken, lost-refused, lost-stop, lost-stands, row-stands}
 use Rattle.aerosnap.proofs.Examples.{p1, p4, p5, p6}
 use Rattle.aerosnap.proofs.Losses.{losses}
-use Rattle.canon.specs.declared.Salvaged.{Salvaged}
-use Rattle.canon.specs.Salvaging.{salvagedAnswer, outAfter, lossesAfter, Salvages}
-use Rattle.canon.proofs.Once.{salvage-once}
+use Rattle.salvage.specs.declared.Salvaged.{Salvaged}
+use Rattle.salvage.specs.Salvaging.{salvagedAnswer, outAfter, lossesAfter, Salvages}
+use Rattle.salvage.proofs.Once.{salvage-once}
 use Rattle.demands.specs.Demand1.{InTable}
 use Rattle.demands.specs.Salvage.{placeBehind, Salvaging, SalvageProgram, RuledOutSalvage}
 

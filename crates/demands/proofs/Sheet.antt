@@ -20,7 +20,7 @@ use Rattle.answer.proofs.Firsts.{checked-first}
 use Rattle.wire.specs.Numbers.{Bytes, leAt, bytesOf}
 use Rattle.wire.proofs.Numbers.{bytesOf-leAt, leAt-append}
 use Rattle.entries.specs.States.{cpuLength, extends, cpuSized, registers, switches}
-use Rattle.canon.proofs.Writing.{drop-take}
+use Rattle.edits.proofs.Writing.{drop-take}
 use Rattle.wire.specs.Parts.{splice}
 use Rattle.wire.proofs.Parts.{length-splice}
 use Rattle.access.specs.declared.Access.{Access}

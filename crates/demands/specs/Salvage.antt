@@ -14,8 +14,8 @@ use Rattle.aerosnap.specs.File.{header, headerChecks, fitsIn}
 use Rattle.aerosnap.specs.Content.{contentOf, contentAt, IsCanonical}
 use Rattle.aerosnap.specs.Salvage.{Part, keeps, loses, bytesIn, partsOf, allKept, lossBytes, lossRows, Rescued, rescuedOf, salvage}
 use Rattle.aerosnap.specs.Calls.{checkCall, canonicalCall}
-use Rattle.canon.specs.declared.Salvaged.{Salvaged}
-use Rattle.canon.specs.Salvaging.{Salvages}
+use Rattle.salvage.specs.declared.Salvaged.{Salvaged}
+use Rattle.salvage.specs.Salvaging.{Salvages}
 use Rattle.demands.specs.Demand1.{InTable}
 
 -- how many bytes of the file stand before the part behind these

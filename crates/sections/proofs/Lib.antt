@@ -9,3 +9,5 @@ pub mod Once
 pub mod Seats
 pub mod Dividing
 pub mod Directories
+pub mod Needed
+pub mod Directed

@@ -6,13 +6,15 @@ use mathlib.Core.List.{List}
 use Prim.Native.Nat.{ℕ}
 use native.Mathlib.Omega.{arith}
 use lib.Dec.{leb, eqb}
-use lib.ListN.{drop}
+use lib.ListN.{drop, getD}
 use Rattle.answer.specs.declared.Piece.{Piece}
 use Rattle.answer.specs.Outcome.{Outcome}
 use Rattle.answer.proofs.Outcomes.{taken-is}
 use Rattle.aerosnap.specs.File.{devicesMost, fitsIn}
 use Rattle.answer.proofs.Once.{equal-once, piece-once}
 use Rattle.sections.specs.declared.Division.{Division}
+use Rattle.sections.specs.declared.Places.{Places}
+use Rattle.sections.specs.Places.{placesFor}
 use Rattle.sections.specs.Directory.{Divides}
 use Rattle.sections.proofs.Directories.{divides-once}
 use Rattle.sections.specs.declared.Spot.{Spot}
@@ -41,8 +43,11 @@ spot-once (At p n) (At q m) e =
 pub check-and-find-once : (i : ℕ) {o : Outcome (List (List ℕ))} {old : List ℕ} (r p : Spot) {new now : List ℕ} → Spotted i o old r new → Spotted i o old p now → (r ≡ p) × (new ≡ now)
 check-and-find-once i r p a b = (spot-once r p (equal-once (a .answers) (b .answers)), equal-once (a .leaves) (b .leaves))
 
-pub count-entries-once : (s : List ℕ) {r p : ℕ} → r ≡ counts 64 (drop 16 s) → p ≡ counts 64 (drop 16 s) → r ≡ p
-count-entries-once s e f = equal-once e f
+pub places-for-once : (s : List ℕ) (most : ℕ) {r p : Places} → r ≡ placesFor (counts most (drop 16 s)) → p ≡ placesFor (counts most (drop 16 s)) → r ≡ p
+places-for-once s most e f = equal-once e f
+
+pub noted-once : (index : List ℕ) (i : ℕ) {r p : ℕ} → r ≡ getD index i 0 → p ≡ getD index i 0 → r ≡ p
+noted-once index i e f = equal-once e f
 
 pub fits-once : (s : List ℕ) (at : ℕ) {r p : Bool} → r ≡ fitsIn (drop at s) → p ≡ fitsIn (drop at s) → r ≡ p
 fits-once s at e f = equal-once e f

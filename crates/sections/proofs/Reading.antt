@@ -6,7 +6,7 @@ use mathlib.Core.Bool.{Bool, true, false, cond}
 use Prim.Native.Nat.{ℕ, _+_, _-_, _≤_}
 use native.Mathlib.Omega.{arith}
 use lib.ListN.{length, take, drop, length-append, length-drop, take-append-drop}
-use lib.Seq.{drop-drop, take-append-seam, drop-append-seam, length-take-le}
+use lib.Seq.{drop-drop, take-append-seam, drop-append-seam}
 use Rattle.answer.specs.Outcome.{Outcome, taken, refused}
 use Rattle.wire.specs.Numbers.{leAt}
 use Rattle.wire.proofs.Numbers.{leAt-here, leAt-append}
@@ -27,9 +27,9 @@ use Rattle.aerosnap.specs.File.{fileOf}
 use Rattle.sections.specs.declared.Spot.{Spot}
 use Rattle.sections.specs.declared.Spot.the-variants.{At}
 use Rattle.sections.specs.Walks.{sectionsIn, Read}
-use Rattle.sections.specs.Index.{kept, keptIn, counts, HoldsStarts, startsOf, Reading, firstOf, spotOf, Spotted}
+use Rattle.sections.specs.Index.{kept, keptIn, HoldsStarts, startsOf, Reading, firstOf, spotOf, Spotted}
 use Rattle.sections.proofs.Found.{Sited, spot-taken, Here}
-use Rattle.sections.proofs.Kept.{kept-all, counts-all, starts-bound, its-payload, its-body, listed-id, starts-count}
+use Rattle.sections.proofs.Kept.{kept-all, its-payload, its-body, listed-id, starts-count}
 
 -- ---- the starts of one section
 
@@ -47,16 +47,6 @@ module _ (e : List ℕ) (w : IsSection e) {d : Description} (q : bodyOf (idOf e)
   starts-long = starts-count e w ∙ ap (λ (b : Bool). cond b (leAt 4 e 16) 0) (sym (listed-id (idOf e) (versionOf e)) ∙ ap isList q)
 
 -- ---- an index that holds all starts of a file
-
-pub roomy-few : (s : List ℕ) (m : ℕ) → counts 64 (drop 16 s) ≤ m → HoldsStarts s m
-roomy-few s m h l c = omega (arith, counts-all s c)
-
--- as many places as the counts say, of those at hand
-pub roomy-part : (s : List ℕ) {n : ℕ} (places : List ℕ) → n ≡ counts 64 (drop 16 s) → n ≤ length places → HoldsStarts s (length (take n places))
-roomy-part s {n} places e h = roomy-few s (length (take n places)) (let l = length-take-le n places h in omega arith)
-
-pub roomy-all : (s : List ℕ) → HoldsStarts s 4864
-roomy-all s l c = starts-bound s c
 
 -- as the calls leave it that read a file
 pub index-reading : (s old : List ℕ) {new : List ℕ} → Read s → HoldsStarts s (length old) → new ≡ lentAfter (keptIn (length old) (fileOf s)) old → Reading (sectionsIn s) new 0

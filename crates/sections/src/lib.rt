@@ -40,6 +40,7 @@ ghost use Rattle.aerosnap.specs.Salvage.{partLength, readPart, lossBytes};
 ghost use Rattle.payloads.specs.Starts.{starts};
 ghost use Rattle.sections.specs.Walks.{Marks, walkedFrom, sectionsIn, Read, placeOf};
 ghost use Rattle.sections.specs.Index.{startsOf, firstOf, isListId, countIn, counts, Keeps, Scanned, spotOf, Spotted};
+ghost use Rattle.sections.specs.Places.{placesFor};
 ghost use Rattle.sections.specs.Directory.{directoryPlaces, writtenSize, seated, tallied, Parted, Divided, Divides};
 
 // A place and a number of starts, or a fault.
@@ -355,17 +356,26 @@ pub fn fits(s: &[u8], at: usize) -> bool
     u64_at(s, at + 8) <= left
 }
 
-// How many entries the lists of a file have, by its section headers and its counts alone: nothing is checked.
-pub fn count_entries(file: &[u8]) -> usize
-    ensures { λ r. ⌜ r ≡ counts 64 (drop 16 (now (file .entry))) ⌝ }
+// ---- the size of an index
+
+// How many places an index has for starts. Clearing more costs more than reading a small file.
+pub enum Places {
+    Few,
+    Some,
+    All,
+}
+
+// How many entries the first sections of a file say that they have, at most so many sections: nothing is checked. Above 256 it is not counted further.
+fn count_starts(file: &[u8], most: usize) -> usize
+    ensures { λ r. ⌜ placesFor r ≡ placesFor (counts most (drop 16 (now (file .entry)))) ⌝ }
 {
-    if file.len() < 16 {
-        return 0;
-    }
     let mut at = 16;
     let mut i: usize = 0;
     let mut n = 0;
-    while i < 64 {
+    while i < most {
+        if 256 < n {
+            return n;
+        }
         if !fits(file, at) {
             return n;
         }
@@ -374,6 +384,20 @@ pub fn count_entries(file: &[u8]) -> usize
         i += 1;
     }
     n
+}
+
+// As many places as the entries need that the first sections of a file say that they have. A file that is taken has 64 sections; what is kept of another may stand behind any number of them.
+pub fn places_for(file: &[u8], most: usize) -> Places
+    ensures { λ r. ⌜ r ≡ placesFor (counts most (drop 16 (now (file .entry)))) ⌝ }
+{
+    let n = count_starts(file, most);
+    if n <= 32 {
+        return Places::Few;
+    }
+    if n <= 256 {
+        return Places::Some;
+    }
+    Places::All
 }
 
 // ---- what is kept of a file, and what is lost
@@ -510,6 +534,16 @@ fn find_parts(s: &[u8], dir: &mut [u32], starts: &mut [u32], losses: &mut [u8]) 
         }
     }
     lost
+}
+
+// A number of the directory of an index, 0 past the end.
+pub fn noted(index: &[u32], i: usize) -> usize
+    ensures { λ r. ⌜ r ≡ getD (now (index .entry)) i 0 ⌝ }
+{
+    if index.len() <= i {
+        return 0;
+    }
+    index[i] as usize
 }
 
 // The directory into the first places of an index.

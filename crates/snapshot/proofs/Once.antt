@@ -1,4 +1,4 @@
--- Each promise fixes its answer and every byte of lent memory: any two that it allows are equal. Those of the calls that write are the promises of crate canon, whose laws serve here too.
+-- Each promise fixes its answer and every byte of lent memory: any two that it allows are equal. Those of the calls that write are the promises of crates canon, salvage and edits, whose laws serve here too.
 -- Assumes nothing.
 use mathlib.Core.Path.{_≡_}
 use mathlib.Core.List.{List}

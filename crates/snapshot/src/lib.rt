@@ -5,10 +5,11 @@ use answer::Piece;
 use answer::ROOM;
 use answer::TAKEN;
 use answer::Test;
-use canon::Edit;
-use canon::Salvaged;
 use cards::Card;
 use cards::Edited;
+use edits::Edit;
+use salvage::Salvaged;
+use sections::Places;
 use sections::Spot;
 use tables::ROW;
 use tables::Table;
@@ -29,7 +30,7 @@ ghost use Rattle.aerosnap.specs.File.{fileMost, fileOf};
 ghost use Rattle.aerosnap.specs.Tables as file_tables;
 ghost use Rattle.aerosnap.specs.Calls.{checkCall, sectionsCall, devicesCall, disksCall, cpusCall, mmusCall, canonicalCall};
 ghost use Rattle.aerosnap.specs.Salvage.{salvage};
-ghost use Rattle.canon.specs.Salvaging.{Salvages};
+ghost use Rattle.salvage.specs.Salvaging.{Salvages};
 ghost use Rattle.cards.specs.Cards.{openAnswer, WritesBeside};
 ghost use Rattle.cards.specs.Calls.{openCall, addDeviceCall, addDevicesCall, addDiskCall, removeDeviceCall, removeDiskCall, replaceDeviceCall};
 ghost use Rattle.sections.specs.Index.{HoldsStarts};
@@ -203,17 +204,20 @@ fn list_table(id: u32, file: &[u8], table: &mut [u8]) -> Answer
     requires { ⌜ (known id ≡ true) × ((v : ℕ) → bodyOf id v ≡ list (described (file_tables.tableIn id v))) ⌝ }
     ensures { λ r. ⌜ Writes (file_tables.listTable id (length (now (table .entry))) (now (file .entry))) (now (table .entry)) r (now (table .exit)) ⌝ }
 {
-    let n = sections::count_entries(&file[..]);
-    if n <= 32 {
-        let mut index = [0u32; 32];
-        return list_table_in(id, &file[..], &mut index[..n], table);
+    match sections::places_for(&file[..], 64) {
+        Places::Few => {
+            let mut index = [0u32; 32];
+            list_table_in(id, &file[..], &mut index, table)
+        }
+        Places::Some => {
+            let mut index = [0u32; 256];
+            list_table_in(id, &file[..], &mut index, table)
+        }
+        Places::All => {
+            let mut index = [0u32; 4864];
+            list_table_in(id, &file[..], &mut index, table)
+        }
     }
-    if n <= 256 {
-        let mut index = [0u32; 256];
-        return list_table_in(id, &file[..], &mut index[..n], table);
-    }
-    let mut index = [0u32; 4864];
-    list_table_in(id, &file[..], &mut index, table)
 }
 
 // The table of devices in key order.
@@ -382,14 +386,14 @@ pub fn canonical(file: &[u8], out: &mut [u8]) -> Answer
 pub fn salvage(file: &[u8], out: &mut [u8], losses: &mut [u8]) -> Salvaged
     ensures { λ r. ⌜ Salvages (salvage (length (now (out .entry))) (length (now (losses .entry))) (now (file .entry))) (now (out .entry)) (now (losses .entry)) r (now (out .exit)) (now (losses .exit)) ⌝ }
 {
-    canon::salvage(file, out, losses)
+    salvage::salvage(file, out, losses)
 }
 
 // The true card of a file's canonical form.
 pub fn open(file: &[u8]) -> Edited
     ensures { λ r. ⌜ r ≡ openAnswer (openCall (now (file .entry))) ⌝ }
 {
-    canon::open(file)
+    edits::open(file)
 }
 
 // The canonical form of a file's content and one device more.
@@ -405,7 +409,7 @@ pub fn add_device(
     ensures { λ r. ⌜ WritesBeside card (addDeviceCall (length (now (out .entry))) card (now (file .entry)) id version flags (now (payload .entry))) (now (out .entry)) r (now (out .exit)) ⌝ }
 {
     let none = &file[..0];
-    canon::edited(
+    edits::edited(
         Edit::AddDevice(id, version, flags),
         card,
         payload,
@@ -419,7 +423,7 @@ pub fn add_device(
 pub fn add_devices(file: &[u8], card: Card, table: &[u8], store: &[u8], out: &mut [u8]) -> Edited
     ensures { λ r. ⌜ WritesBeside card (addDevicesCall (length (now (out .entry))) card (now (file .entry)) (now (table .entry)) (now (store .entry))) (now (out .entry)) r (now (out .exit)) ⌝ }
 {
-    canon::added(card, table, store, file, out)
+    edits::added(card, table, store, file, out)
 }
 
 // The canonical form of a file's content and one disk more.
@@ -433,7 +437,7 @@ pub fn add_disk(
 ) -> Edited
     ensures { λ r. ⌜ WritesBeside card (addDiskCall (length (now (out .entry))) card (now (file .entry)) id (now (base .entry)) (now (overlay .entry))) (now (out .entry)) r (now (out .exit)) ⌝ }
 {
-    canon::edited(Edit::AddDisk(id), card, base, overlay, file, out)
+    edits::edited(Edit::AddDisk(id), card, base, overlay, file, out)
 }
 
 // The canonical form of a file's content without one of its devices.
@@ -448,7 +452,7 @@ pub fn remove_device(
     ensures { λ r. ⌜ WritesBeside card (removeDeviceCall (length (now (out .entry))) card (now (file .entry)) id version flags) (now (out .entry)) r (now (out .exit)) ⌝ }
 {
     let none = &file[..0];
-    canon::edited(
+    edits::edited(
         Edit::RemoveDevice(id, version, flags),
         card,
         none,
@@ -463,7 +467,7 @@ pub fn remove_disk(file: &[u8], card: Card, id: u32, out: &mut [u8]) -> Edited
     ensures { λ r. ⌜ WritesBeside card (removeDiskCall (length (now (out .entry))) card (now (file .entry)) id) (now (out .entry)) r (now (out .exit)) ⌝ }
 {
     let none = &file[..0];
-    canon::edited(Edit::RemoveDisk(id), card, none, none, file, out)
+    edits::edited(Edit::RemoveDisk(id), card, none, none, file, out)
 }
 
 // The canonical form of a file's content with another payload in one of its devices.
@@ -479,7 +483,7 @@ pub fn replace_device(
     ensures { λ r. ⌜ WritesBeside card (replaceDeviceCall (length (now (out .entry))) card (now (file .entry)) id version flags (now (payload .entry))) (now (out .entry)) r (now (out .exit)) ⌝ }
 {
     let none = &file[..0];
-    canon::edited(
+    edits::edited(
         Edit::ReplaceDevice(id, version, flags),
         card,
         payload,

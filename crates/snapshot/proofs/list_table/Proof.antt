@@ -1,24 +1,18 @@
-use Rattle.sections.proofs.Reading.{roomy-part, roomy-all}
-use mathlib.Core.Path.{sym}
-use lib.Seq.{length-take-le}
+use Rattle.sections.proofs.Needed.{starts-placed}
+use mathlib.Core.Path.{sym, _∙_}
 use borrow.Author.Needs.{needs}
 use Rattle.snapshot.proofs.list_table.Statement.{statement}
 use Rattle.snapshot.proofs.list_table.Tie as tie
 
-few-places : tie.Need-slice-aggregate-list-table-in
-few-places c = sym (length-take-le _ _ (c .before .if1 .taken))
+-- the index has as many places as are enough
+list-table-in-requires : tie.Need-list-table-in-requires
+list-table-in-requires c κs = let t = c .before .before in let w = t .before .before .before .before .before in (w .pre .0, w .pre .1, starts-placed (w .args .file .now) (sym (t .enum-told .given .1) ∙ t .before .before .places-for .ensures))
 
-few-hold : tie.Need-list-table-in-requires
-few-hold c κs = let t = c .before .before .before .before .before .before in (t .pre .0, t .pre .1, roomy-part (t .args .file .now) _ (c .before .before .before .count-entries .ensures) (c .before .before .if1 .taken))
+list-table-in-requires-2 : tie.Need-list-table-in-requires-2
+list-table-in-requires-2 c κs = let t = c .before .before in let w = t .before .before .before .before .before in (w .pre .0, w .pre .1, starts-placed (w .args .file .now) (sym (t .enum-told2 .given .1) ∙ t .before .before .places-for .ensures))
 
-some-places : tie.Need-slice-aggregate-list-table-in-2
-some-places c = sym (length-take-le _ _ (c .before .if2 .taken))
-
-some-hold : tie.Need-list-table-in-requires-2
-some-hold c κs = let t = c .before .before .before .before .before .before .before in (t .pre .0, t .pre .1, roomy-part (t .args .file .now) _ (c .before .before .before .before .count-entries .ensures) (c .before .before .if2 .taken))
-
-all-hold : tie.Need-list-table-in-requires-3
-all-hold c κs = let t = c .before .before .before .before .before .before .before in (t .pre .0, t .pre .1, roomy-all (t .args .file .now))
+list-table-in-requires-3 : tie.Need-list-table-in-requires-3
+list-table-in-requires-3 c κs = let t = c .before .before in let w = t .before .before .before .before .before in (w .pre .0, w .pre .1, starts-placed (w .args .file .now) (sym (t .enum-told3 .given .1) ∙ t .before .before .places-for .ensures))
 
 pub list-table-spec : {M : Type 1} → statement M
 list-table-spec =
@@ -26,16 +20,17 @@ list-table-spec =
     (tie.spec
     (λ c κs. search needs)
     (λ c. search needs)
-    few-places
-    few-hold
+    (λ c. search needs)
+    list-table-in-requires
+    (λ c. search needs)
+    (λ c. search needs)
+    list-table-in-requires-2
+    (λ c. search needs)
+    (λ c. search needs)
+    list-table-in-requires-3
     (λ c. search needs)
     (λ c. search needs)
     (λ c. search needs)
-    some-places
-    some-hold
     (λ c. search needs)
-    (λ c. search needs)
-    (λ c. search needs)
-    all-hold
     (λ c. search needs)
     (λ c. search needs))

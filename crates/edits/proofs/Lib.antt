@@ -1,0 +1,16 @@
+pub mod Changed
+pub mod Sites
+pub mod Entry
+pub mod Landing
+pub mod Judging
+pub mod Plan
+pub mod Summing
+pub mod Carding
+pub mod Writing
+pub mod Uniform
+pub mod Once
+pub mod Asking
+pub mod Turning
+pub mod Totals
+pub mod Merges
+pub mod Tabled

@@ -1,0 +1,4 @@
+pub mod Steps
+pub mod Edits
+pub mod Plans
+pub mod Rows

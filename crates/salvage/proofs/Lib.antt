@@ -1,0 +1,2 @@
+pub mod Rescuing
+pub mod Once
