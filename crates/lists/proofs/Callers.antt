@@ -16,7 +16,7 @@ use Rattle.lists.specs.Lists.{listAt, partChecks, listOf, whole, indexOf
 use Rattle.lists.specs.Promises.{Indexed}
 use Rattle.lists.proofs.Taken.{list-sound}
 use Rattle.lists.proofs.Ordered.{index-length}
-use Rattle.lists.proofs.Shift.{take-over}
+use Rattle.sorting.proofs.Shift.{take-over}
 
 -- ---- from a promise
 

@@ -7,8 +7,8 @@ use Prim.Native.Nat.{ℕ, _+_, _/_, _%_, _≤_, _<_}
 use native.Mathlib.Decide.{decLt}
 use native.Mathlib.Nat.{le-max-left}
 use native.Mathlib.Omega.{arith}
-use lib.ListN.{length, take, drop, getD, replicate, length-take, length-replicate, getD-replicate, take-append-drop, drop-of-length-le}
-use lib.Seq.{take-all, ext-getD}
+use lib.ListN.{length, take, drop, getD, replicate, length-take, length-replicate, getD-replicate, length-append, take-append-drop, drop-of-length-le}
+use lib.Seq.{take-all, take-append-le, ext-getD}
 use lib.Arith.{bin-ind}
 use lib.Bits.{bitOr, or-step, or-comm}
 use borrow.Author.Tests.{le-leb, lt-leb}
@@ -25,7 +25,7 @@ use Rattle.entries.specs.Kinds.{Description}
 use Rattle.entries.proofs.Lawful.{Lawful}
 use Rattle.lists.specs.Lists.{listAt, partChecks, listOf, whole, indexOf}
 use Rattle.lists.specs.Promises.{zeros, MayWrite, Indexed}
-use Rattle.lists.specs.Steps.{Gathered, Restored}
+use Rattle.lists.specs.Steps.{Room, Gathered, Restored}
 use Rattle.lists.proofs.Exits.{part-fine}
 use Rattle.lists.proofs.Ordered.{index-length}
 use Rattle.lists.proofs.Callers.{list-then}
@@ -114,3 +114,13 @@ cleared h w z = ⊎-elim (λ e. z ∙ sym e) (λ t. absurd (taken-refused (sym (
 pub judged-first : (d : Description) (s old : List ℕ) (r : Test) → testOf r ≡ checked (partChecks s) (done (listAt d s)) → MayWrite (listOf d s) old r
 judged-first d s old (Fault a b) h = done-stop (listOf d s) (h ∙ sym (list-done d s))
 judged-first d s old Fine h = inr (done-taken (listOf d s) (list-done d s ∙ sym h))
+
+-- ---- as many places as there are entries
+
+pub count-room : {d : Description} → Lawful d → (s : List ℕ) {n m : ℕ} → n ≡ leAt 4 s 0 → n ≤ d .most → Room s m → n ≤ m
+count-room K s e h r = omega (arith, e, r (omega (arith, K .bounded)))
+
+-- the places that were lent are the first of more
+pub gathered-more : (o : Outcome (List ℕ)) (r : Piece) (l more : List ℕ) → Gathered o r l → Gathered o r (l ++ more)
+gathered-more o (Stop a b) l more g = g
+gathered-more o (Ends c) l more g = (g .0 ∙ ap taken (sym (take-append-le c l more (g .1))), omega (arith, g .1, length-append l more))

@@ -19,7 +19,7 @@ use Rattle.lists.specs.Lists.{listAt, partChecks}
 use Rattle.lists.specs.declared.Found.{Found}
 use Rattle.lists.specs.Promises.{zeros, Indexed, findIn, halvesIn, Finds, Arranged}
 use Rattle.lists.proofs.Finds.{found-once}
-use Rattle.lists.proofs.Arranging.{arranged-count}
+use Rattle.lists.proofs.Arranges.{arranged-count}
 
 pub index-once : {o : Outcome (List ℕ)} {old : List ℕ} (r q : Piece) {new now : List ℕ} → Indexed o old r new → Indexed o old q now → (r ≡ q) × (new ≡ now)
 index-once r q a b = (piece-once r q (equal-once (a .answers) (b .answers)), equal-once (a .leaves) (b .leaves))

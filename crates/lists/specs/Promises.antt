@@ -14,6 +14,7 @@ use Rattle.answer.specs.declared.Test.the-variants.{Fault, Fine}
 use Rattle.answer.specs.Outcome.{Outcome, taken, refused, after}
 use Rattle.answer.specs.Calls.{pieceOf}
 use Rattle.order.specs.Keyed.{has, sort, Apart}
+use Rattle.sorting.specs.Sorting.{arrangedMost}
 use Rattle.lists.specs.declared.Found.{Found}
 use Rattle.lists.specs.declared.Found.the-variants.{There, Free}
 
@@ -69,10 +70,6 @@ foundOf false (Free i) = taken i
 -- the answer r is the place f, whichever is wanted
 abbrev pub Finds : Found → Found → Type 0
 Finds r f = (wanted : Bool) → foundOf wanted r ≡ foundOf wanted f
-
--- so many starts are put in order at most: one more than a list may have
-abbrev pub arrangedMost : ℕ
-arrangedMost = 4097
 
 -- The first r of the starts `old` have keys of their own, and the next one, if it is looked at, has the key of one of them; the first r are then sorted, and the others stay.
 pub record Arranged (key : ℕ → ℕ) (old : List ℕ) (r : ℕ) (new : List ℕ) : Type 0 where
