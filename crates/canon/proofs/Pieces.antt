@@ -25,7 +25,8 @@ use Rattle.entries.proofs.Lawful.{Lawful, lawful}
 use Rattle.lists.specs.Lists.{entries, tailOf}
 use Rattle.lists.proofs.Ordered.{list-order}
 use Rattle.writer.specs.Runs.{inOrder, byStarts}
-use Rattle.writer.specs.Steps.{run, Listed, sortedBytes}
+use Rattle.writer.specs.Steps.{Listed, sortedBytes}
+use Rattle.writer.proofs.Runs.{run}
 use Rattle.writer.proofs.Fits.{wrote-first}
 use Rattle.writer.proofs.Straight.{straight-bytes}
 use Rattle.writer.proofs.Whole.{sorted-is, sorted-size, by-starts}
