@@ -13,7 +13,7 @@ use Rattle.answer.proofs.Checks.{append-pass, pass-append}
 use Rattle.answer.proofs.Outcomes.{taken-is}
 use Rattle.format.specs.Format.{Is}
 use Rattle.order.specs.Keyed.{Fresh, weigh, insert}
-use Rattle.order.specs.Adding.{AddLaws}
+use Rattle.order.proofs.Adding.{AddLaws}
 use Rattle.order.proofs.Keys.{has-fresh, fresh-has}
 use Rattle.order.proofs.Inserts.{insert-perm, insert-comm, weigh-insert, length-insert, every-insert, insert-every, asc-insert}
 use Rattle.order.proofs.Files.{Files}
@@ -21,12 +21,12 @@ use Rattle.entries.specs.Kinds.{Description, devices, disks}
 use Rattle.lists.specs.Lists.{listBytes}
 use Rattle.lists.proofs.Written.{length-list}
 use Rattle.aerosnap.specs.Content.{isAbsent, Content, tailAt, secs, render, contentAt}
-use Rattle.aerosnap.specs.Adding.{Item, device, disk, nameOf, sideOf, Wide, entryOf, kindOf, listIn, withItem, ownChecks, there, addChecks}
+use Rattle.aerosnap.specs.Adding.{Item, device, disk, nameOf, sideOf, Wide, entryOf, kindOf, listIn, ownChecks, there, addChecks}
+use Rattle.aerosnap.proofs.Items.{withItem, entry-is, deviceFrom, diskFrom, item-back}
 use Rattle.aerosnap.specs.Edits.{add, addItem, Call}
 use Rattle.aerosnap.proofs.Canon.{presence, countOf, sizeOf, FitsIn, Sorted, Canon, length-secs, length-render}
 use Rattle.aerosnap.proofs.Back.{read-back}
 use Rattle.aerosnap.proofs.Passing.{EditPassed, edit-exactly}
-use Rattle.aerosnap.proofs.Items.{entry-is, deviceFrom, diskFrom, item-back}
 
 -- ---- when an add is taken
 

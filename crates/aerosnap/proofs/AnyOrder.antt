@@ -16,7 +16,8 @@ use Rattle.order.proofs.Sorts.{inserts-sort, asc-inserts}
 use Rattle.order.proofs.Files.{any-order-bytes, no-two-sets-bytes, content}
 use Rattle.entries.specs.Kinds.{devices, disks}
 use Rattle.aerosnap.specs.Content.{Content, render, contentAt, IsCanonical}
-use Rattle.aerosnap.specs.Adding.{Item, device, disk, Wide, withItem, deviceEntries, diskEntries, grown}
+use Rattle.aerosnap.specs.Adding.{Item, device, disk, Wide, deviceEntries, diskEntries, grown}
+use Rattle.aerosnap.proofs.Items.{withItem}
 use Rattle.aerosnap.specs.Edits.{addItem, Call}
 use Rattle.aerosnap.proofs.Canon.{Canon}
 use Rattle.aerosnap.proofs.Back.{read-back}

@@ -1,8 +1,8 @@
 -- A payload is taken exactly if it is what its section's rules say; and its fault lies within it.
 -- Assumes nothing.
-use mathlib.Core.Path.{_≡_, refl, sym, _∙_, ap}
+use mathlib.Core.Path.{_≡_, refl, sym, _∙_, ap, subst}
 use mathlib.Core.List.{List, [], _∷_}
-use mathlib.Core.Bool.{Bool, true, false}
+use mathlib.Core.Bool.{Bool, true, false, cond}
 use Prim.Native.Nat.{ℕ, zero-le}
 use lib.ListN.{length, take, drop, take-append-drop}
 use lib.Dec.{eqb}
@@ -15,6 +15,7 @@ use Rattle.answer.proofs.Within.{Within, checked-within, after-within}
 use Rattle.format.specs.Format.{read}
 use Rattle.format.proofs.Meaning.{sound, complete}
 use Rattle.format.proofs.Within.{Keeps, read-within, text-keeps}
+use Rattle.order.specs.Keyed.{Every}
 use Rattle.entries.specs.States.{cpuSized, cpuState, mmuLength}
 use Rattle.entries.specs.declared.Kind.the-variants.{Devices, Disks, Cpus, Mmus}
 use Rattle.entries.proofs.States.{whole-within}
@@ -22,8 +23,7 @@ use Rattle.entries.proofs.Lawful.{Lawful, lawful}
 use Rattle.lists.specs.Lists.{listAt}
 use Rattle.lists.proofs.Taken.{list-sound, list-complete}
 use Rattle.lists.proofs.Within.{list-within}
-use Rattle.aerosnap.specs.Known.{META, CPU, MMU, DEVICES, DISKS, CPUS, MMUS}
-use Rattle.aerosnap.specs.Payloads.{metaForm, Body, meta, cpu, mmu, list, opaque, bodyBy, bodyOf, payload}
+use Rattle.aerosnap.specs.Payloads.{metaForm, Body, meta, cpu, mmu, list, opaque, knownBodies, bodyIn, bodyOf, payload}
 use Rattle.aerosnap.specs.Rules.{IsBody}
 
 -- the kinds of entry of the lists are lawful
@@ -34,18 +34,18 @@ Lawfully (mmu v) = Unit {0}
 Lawfully (list d) = Lawful d
 Lawfully opaque = Unit {0}
 
+-- what holds of each row of the table, by its id, holds of a section's body; where no row has the id, of one of which nothing is asked
+module _ (P : ℕ → Body → Type 0) (id v : ℕ) where
+  pub body-cases : (l : List (ℕ × (ℕ → Body))) → Every (λ r. P (r .0) (r .1 v)) l → (Every (λ r. eqb id (r .0) ≡ false) l → P id opaque) → P id (bodyIn l id v)
+  body-cases [] h o = o tt
+  body-cases (r ∷ l) h o = go (eqb id (r .0)) refl (λ e. body-cases l (h .1) (λ n. o (e, n)))
+    where
+      go : (b : Bool) → eqb id (r .0) ≡ b → (eqb id (r .0) ≡ false → P id (bodyIn l id v)) → P id (cond b (r .1 v) (bodyIn l id v))
+      go true e k = subst (λ (i : ℕ). P i (r .1 v)) (sym (eqb-true id (r .0) e)) (h .0)
+      go false e k = k e
+
 pub lawful-body : (id v : ℕ) → Lawfully (bodyOf id v)
-lawful-body id v = by (eqb id META) (eqb id CPU) (eqb id MMU) (eqb id DEVICES) (eqb id DISKS) (eqb id CPUS) (eqb id MMUS)
-  where
-    by : (a b c d e f g : Bool) → Lawfully (bodyBy a b c d e f g v)
-    by true b c d e f g = tt
-    by false true c d e f g = tt
-    by false false true d e f g = tt
-    by false false false true e f g = lawful Devices
-    by false false false false true f g = lawful Disks
-    by false false false false false true g = lawful (Cpus v)
-    by false false false false false false true = lawful (Mmus v)
-    by false false false false false false false = tt
+lawful-body id v = body-cases (λ i k. Lawfully k) id v knownBodies (tt, (tt, (tt, (lawful Devices, (lawful Disks, (lawful (Cpus v), (lawful (Mmus v), tt))))))) (λ _. tt)
 
 pub payload-sound : (k : Body) → Lawfully k → (p : List ℕ) → payload k p ≡ taken tt → IsBody k p
 unfolding payload

@@ -8,7 +8,8 @@ use native.Mathlib.Omega.{arith}
 use lib.ListN.{length, drop, length-append, length-drop}
 use lib.Dec.{eqb}
 use Rattle.format.specs.Format.{Is}
-use Rattle.order.specs.Keyed.{Every, Apart, Asc, Up, flat, keep, sort, weigh}
+use Rattle.order.specs.Keyed.{Every, Apart, Asc, flat, keep, sort, weigh}
+use Rattle.order.proofs.Keys.{Up}
 use Rattle.order.specs.Entries.{join}
 use Rattle.order.proofs.Folds.{every-all, every-imp, every-flat, weigh-append}
 use Rattle.order.proofs.Perms.{perm-length, perm-weigh, every-perm}

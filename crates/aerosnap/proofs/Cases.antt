@@ -16,7 +16,8 @@ use Rattle.aerosnap.specs.Known.{META, CPU, MMU, DEVICES, DISKS, RAM, CP
 use Rattle.aerosnap.specs.Payloads.{payload}
 use Rattle.aerosnap.specs.File.{header, ruled, sectionOf, sections, fileOf}
 use Rattle.aerosnap.specs.Content.{framed, canonical}
-use Rattle.aerosnap.specs.Tables.{placed, sectionRows, sectionTable, diskTable}
+use Rattle.aerosnap.specs.Tables.{placed, sectionRows}
+use Rattle.aerosnap.specs.Calls.{sectionsCall, disksCall}
 use Rattle.aerosnap.specs.Adding.{device, disk}
 use Rattle.aerosnap.specs.Edits.{addTo, addItem, editFile, editTo}
 
@@ -86,9 +87,9 @@ pub record Cases : Type 0 where
   pub add-many : addItem 9999 (of (replicate 64 (section 9 0 []))) (device 1 2 3 []) ≡ refused MANY 0
   pub add-empty : after (addItem 9999 (of (section DEVICES 1 (bytesOf 4 0) ∷ replicate 63 (section 9 0 []))) (device 256 2 3 [])) (λ b. taken (length b)) ≡ taken 1060
   pub add-room : addItem 51 header (device 1 2 3 []) ≡ refused ROOM 52
-  pub disk-table : diskTable 32 (of (section DISKS 1 (bytesOf 4 1 ++ (bytesOf 4 7 ++ (bytesOf 4 1 ++ (97 ∷ bytesOf 4 0)))) ∷ []))
+  pub disk-table : disksCall 32 (of (section DISKS 1 (bytesOf 4 1 ++ (bytesOf 4 7 ++ (bytesOf 4 1 ++ (97 ∷ bytesOf 4 0)))) ∷ []))
       ≡ taken (bytesOf 4 7 ++ (bytesOf 4 1 ++ (bytesOf 8 44 ++ (bytesOf 4 0 ++ (bytesOf 4 0 ++ (bytesOf 4 0 ++ bytesOf 4 0))))))
-  pub section-rows : sectionTable 64 (of (section 9 5 (1 ∷ []) ∷ section DEVICES 1 (bytesOf 4 0) ∷ []))
+  pub section-rows : sectionsCall 64 (of (section 9 5 (1 ∷ []) ∷ section DEVICES 1 (bytesOf 4 0) ∷ []))
       ≡ taken (bytesOf 4 9 ++ (bytesOf 2 5 ++ (bytesOf 2 0 ++ (bytesOf 8 32 ++ (bytesOf 8 1 ++ (bytesOf 4 0 ++ (bytesOf 4 0 ++ (bytesOf 4 4 ++ (bytesOf 2 1 ++ (bytesOf 2 0 ++ (bytesOf 8 49 ++ (bytesOf 8 4 ++ (bytesOf 4 1 ++ bytesOf 4 0)))))))))))))
 
 pub cases : Cases

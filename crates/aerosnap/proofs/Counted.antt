@@ -24,9 +24,10 @@ use Rattle.lists.proofs.Written.{length-list}
 use Rattle.aerosnap.specs.declared.NewDevice.{NewDevice}
 use Rattle.aerosnap.specs.File.{fileMost, sectionsMost, devicesMost}
 use Rattle.aerosnap.specs.Content.{isAbsent, Content, secs, render, contentAt, canonical}
-use Rattle.aerosnap.specs.Adding.{device, Wide, entryOf, withItem, there, ownChecks, addChecks, grown}
+use Rattle.aerosnap.specs.Adding.{device, Wide, entryOf, there, ownChecks, addChecks, grown}
+use Rattle.aerosnap.proofs.Items.{withItem, WideNews}
 use Rattle.aerosnap.specs.Edits.{add, editTo, addTo}
-use Rattle.aerosnap.specs.Many.{isInside, newItem, newItems, WideNews, Inside, further, addNew, addEach, addAll, Tally, opened, grow, passChecks, newKey, isSeen, pass, onePass}
+use Rattle.aerosnap.specs.Many.{isInside, newItem, newItems, Inside, further, addNew, addEach, addAll, Tally, opened, grow, passChecks, newKey, isSeen, pass, onePass}
 use Rattle.aerosnap.proofs.Framed.{length-framed}
 use Rattle.aerosnap.proofs.Canon.{presence, Canon}
 use Rattle.aerosnap.proofs.Back.{read-back}

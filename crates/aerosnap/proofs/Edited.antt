@@ -29,11 +29,11 @@ use Rattle.aerosnap.specs.declared.Side.the-variants.{OfDevices, OfDisks
 use Rattle.aerosnap.specs.Known.{DEVICES, DISKS}
 use Rattle.aerosnap.specs.File.{fileMost, sectionsMost, devicesMost}
 use Rattle.aerosnap.specs.Content.{framed, isAbsent, listed, rank, isId, Content, kindAt, idAt, entriesAt, tailAt, writtenSections, withEntries, secs, render, contentAt, IsCanonical}
-use Rattle.aerosnap.specs.Adding.{Item, device, disk, Name, deviceNamed, diskNamed, nameOf, sideOf, entryOf, kindOf, withItem, there, ownChecks, addChecks}
+use Rattle.aerosnap.specs.Adding.{Item, device, disk, Name, deviceNamed, diskNamed, nameOf, sideOf, entryOf, kindOf, there, ownChecks, addChecks}
+use Rattle.aerosnap.proofs.Items.{withItem, entry-is}
 use Rattle.aerosnap.proofs.Canon.{presence, weight, countOf, sizeOf, FitsIn, Sorted, Canon, length-secs, length-render}
 use Rattle.aerosnap.proofs.Back.{read-back}
 use Rattle.aerosnap.proofs.Canonical.{content-is, fits-taken, taken-fits}
-use Rattle.aerosnap.proofs.Items.{entry-is}
 use Rattle.aerosnap.proofs.Framed.{framed-id}
 use Rattle.aerosnap.proofs.Ranks.{other-not}
 use Rattle.aerosnap.proofs.Ranked.{with-entries, with-tail}

@@ -14,7 +14,8 @@ use Rattle.lists.specs.Lists.{entryAt, walk, listAt}
 use Rattle.aerosnap.specs.Payloads.{payload}
 use Rattle.aerosnap.specs.File.{header, ruled, sectionOf, sections, fileOf}
 use Rattle.aerosnap.specs.Content.{canonical}
-use Rattle.aerosnap.specs.Tables.{placed, sectionRows, sectionTable, deviceTable, diskTable}
+use Rattle.aerosnap.specs.Tables.{placed, sectionRows}
+use Rattle.aerosnap.specs.Calls.{sectionsCall, devicesCall, disksCall}
 use Rattle.aerosnap.specs.Adding.{device}
 use Rattle.aerosnap.specs.Edits.{addTo, addItem, editFile, editTo}
 
@@ -54,16 +55,16 @@ p9 = file 4 (u32 0)
 
 pub record Examples : Type 0 where
   pub P1 : fileOf p1 ≡ taken []
-  pub P1-sections : sectionTable 0 p1 ≡ taken []
-  pub P1-devices : deviceTable 0 p1 ≡ taken []
-  pub P1-disks : diskTable 0 p1 ≡ taken []
+  pub P1-sections : sectionsCall 0 p1 ≡ taken []
+  pub P1-devices : devicesCall 0 p1 ≡ taken []
+  pub P1-disks : disksCall 0 p1 ≡ taken []
   pub P2 : fileOf (take 15 p1) ≡ refused SHORT 0
   pub P3 : fileOf (set p1 10 2) ≡ refused ENDIAN 10
   pub P4 : length p4 ≡ 71
-  pub P4-sections : sectionTable 32 p4 ≡ taken (head 4 ++ (u64 32 ++ (u64 39 ++ (u32 0 ++ u32 0))))
-  pub P4-devices : deviceTable 64 p4 ≡ taken (head 3 ++ (u64 69 ++ (u64 2 ++ (u32 1 ++ (u32 0 ++ (head 14 ++ (u64 52 ++ (u64 1 ++ (u32 0 ++ u32 0)))))))))
+  pub P4-sections : sectionsCall 32 p4 ≡ taken (head 4 ++ (u64 32 ++ (u64 39 ++ (u32 0 ++ u32 0))))
+  pub P4-devices : devicesCall 64 p4 ≡ taken (head 3 ++ (u64 69 ++ (u64 2 ++ (u32 1 ++ (u32 0 ++ (head 14 ++ (u64 52 ++ (u64 1 ++ (u32 0 ++ u32 0)))))))))
   pub P5 : canonical 71 p4 ≡ taken p5
-  pub P5-devices : deviceTable 64 p5 ≡ taken (head 3 ++ (u64 52 ++ (u64 2 ++ (u32 0 ++ (u32 0 ++ (head 14 ++ (u64 70 ++ (u64 1 ++ (u32 1 ++ u32 0)))))))))
+  pub P5-devices : devicesCall 64 p5 ≡ taken (head 3 ++ (u64 52 ++ (u64 2 ++ (u32 0 ++ (u32 0 ++ (head 14 ++ (u64 70 ++ (u64 1 ++ (u32 1 ++ u32 0)))))))))
   pub P6 : fileOf p6 ≡ refused KEY 53
   pub P7 : addItem 1000 p5 (device 3 1 0 (0xAB ∷ 0xCD ∷ [])) ≡ refused HAVE 0
   pub P8 : fileOf (set p4 24 40) ≡ refused CUT 16

@@ -16,8 +16,20 @@ use Rattle.wire.proofs.Numbers.{le-bytesOf, length-bytesOf}
 use Rattle.utf8.specs.Scan.{isText}
 use Rattle.format.specs.Format.{Is, text}
 use Rattle.aerosnap.specs.File.{idOf, versionOf, flagsOf}
-use Rattle.aerosnap.specs.Adding.{Item, device, disk, Wide, withLength, entryOf, kindOf, ownChecks}
+use Rattle.order.specs.Keyed.{Every, insert}
+use Rattle.aerosnap.specs.declared.NewDevice.{NewDevice}
+use Rattle.aerosnap.specs.Content.{Content, withEntries}
+use Rattle.aerosnap.specs.Adding.{Item, device, disk, Wide, WideName, sideOf, nameOf, listIn, withLength, entryOf, kindOf, ownChecks}
+use Rattle.aerosnap.specs.Many.{newName}
 use Rattle.aerosnap.proofs.Framed.{framed-reads}
+
+-- the content with one entry more
+abbrev pub withItem : Item → Content → Content
+withItem x c = withEntries (sideOf (nameOf x)) (insert (kindOf x .key) (entryOf x) (listIn x c)) c
+
+-- their numbers are as wide as the fields of a record
+abbrev pub WideNews : List NewDevice → Type 0
+WideNews = Every (λ x. WideName (newName x))
 
 text-is : (t : List ℕ) → leb (length t) 65536 ≡ true → isText t ≡ true → Is (text 65536) (withLength t)
 text-is t h k = (bytesOf 4 (length t), t, refl, length-bytesOf 4 (length t), le-bytesOf 4 (length t) (omega (arith, leb-true (length t) 65536 h)), (h, tt), rw (k, checked))

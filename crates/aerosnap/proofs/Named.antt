@@ -20,14 +20,15 @@ use Rattle.format.specs.Format.{Format, block, sized, option, pair, also, read,
 use Rattle.order.specs.Keyed.{Every, insert, has}
 use Rattle.order.proofs.Folds.{every-append}
 use Rattle.entries.specs.States.{cpuSized, extends, cpuValues, cpuState, heldChecks, mmuLength}
-use Rattle.entries.specs.Kinds.{Description, leadChecks}
+use Rattle.entries.specs.Kinds.{Description, leadChecks, devices, disks, cpus, mmus}
 use Rattle.lists.specs.Lists.{keyAt, entryChecks, entryAt, endChecks, walk, countChecks, listAt}
-use Rattle.aerosnap.specs.Known.{META, CPU, MMU, DEVICES, DISKS, CPUS, MMUS, known}
-use Rattle.aerosnap.specs.Payloads.{metaForm, Body, meta, cpu, mmu, list, opaque, bodyBy, bodyOf, payload}
+use Rattle.aerosnap.specs.Known.{known}
+use Rattle.aerosnap.specs.Payloads.{metaForm, Body, meta, cpu, mmu, list, opaque, knownBodies, bodyOf, payload}
 use Rattle.aerosnap.specs.File.{sectionsMost, headerChecks, idOf, versionOf, flagsOf, lengthOf, payloadOf, frameChecks, knownChecks, ruled, sectionOf, sections, fileOf}
 use Rattle.aerosnap.specs.Content.{Content, contentOf, render, contentAt, canonical}
 use Rattle.aerosnap.specs.Adding.{Item, device, disk, ownChecks, addChecks}
 use Rattle.aerosnap.specs.Edits.{Edit, add, remove, replace, apply, editChecks, editTo, editFile}
+use Rattle.aerosnap.proofs.Bodies.{body-cases}
 use Rattle.aerosnap.proofs.Refusals.{Refuses, checked-refuses, after-refuses, refuses-more}
 
 -- ---- outcomes and checks
@@ -152,7 +153,7 @@ BodyFaults (list d) = EntryFaults d
 BodyFaults opaque = Unit {0}
 
 body-faults : (id v : ℕ) → BodyFaults (bodyOf id v)
-body-faults id v = by (eqb id META) (eqb id CPU) (eqb id MMU) (eqb id DEVICES) (eqb id DISKS) (eqb id CPUS) (eqb id MMUS)
+body-faults id v = body-cases (λ i k. BodyFaults k) id v knownBodies (tt, (tt, (tt, (of-devices, (of-disks, (of-cpus, (of-mmus, tt))))))) (λ _. tt)
   where
     blob-faults : ((n : ℕ) → NumberedInside ((leb n 67108864, LIMIT, 0) ∷ [])) × ((e : List ℕ) → FaultyInside {A = Unit {0}} (taken tt))
     blob-faults = ((λ n. (refl, tt)), λ e. tt)
@@ -162,15 +163,17 @@ body-faults id v = by (eqb id META) (eqb id CPU) (eqb id MMU) (eqb id DEVICES) (
         let y : List ℕ = drop 4 e in
         checked-inside ((extends y, SHAPE, 0) ∷ []) (moved 4 (cpuState v y)) (refl, tt) (moved-inside 4 (cpuState v y) (values-inside (cpuValues v (length y)) y))
 
-    by : (a b c d e f g : Bool) → BodyFaults (bodyBy a b c d e f g v)
-    by true b c d e f g = tt
-    by false true c d e f g = tt
-    by false false true d e f g = tt
-    by false false false true e f g = record { early = λ b. tt; form = ((λ e. tt), blob-faults) }
-    by false false false false true f g = record { early = λ b. tt; form = ((λ e. tt), (text-faults 65536, text-faults 65536)) }
-    by false false false false false true g = record { early = λ b. tt; form = ((λ e. tt), ((((λ n. (refl, tt)), λ e. tt), held-inside), blob-faults)) }
-    by false false false false false false true = record { early = λ b. tt; form = λ e. tt }
-    by false false false false false false false = tt
+    of-devices : BodyFaults (list devices)
+    of-devices = record { early = λ b. tt; form = ((λ e. tt), blob-faults) }
+
+    of-disks : BodyFaults (list disks)
+    of-disks = record { early = λ b. tt; form = ((λ e. tt), (text-faults 65536, text-faults 65536)) }
+
+    of-cpus : BodyFaults (list (cpus v))
+    of-cpus = record { early = λ b. tt; form = ((λ e. tt), ((((λ n. (refl, tt)), λ e. tt), held-inside), blob-faults)) }
+
+    of-mmus : BodyFaults (list (mmus v))
+    of-mmus = record { early = λ b. tt; form = λ e. tt }
 
 payload-inside : (k : Body) → BodyFaults k → (p : List ℕ) → FaultyInside (payload k p)
 unfolding payload

@@ -20,7 +20,8 @@ use Rattle.entries.specs.Kinds.{devices}
 use Rattle.aerosnap.specs.declared.NewDevice.{NewDevice}
 use Rattle.aerosnap.specs.Content.{Content, render, contentAt}
 use Rattle.aerosnap.specs.Adding.{grown}
-use Rattle.aerosnap.specs.Many.{newItems, WideNews, further, addAll, Tally, opened, grow, passChecks, newKey, isSeen, pass, onePass, Beyond}
+use Rattle.aerosnap.specs.Many.{newItems, further, addAll, Tally, opened, grow, passChecks, newKey, isSeen, pass, onePass, Beyond}
+use Rattle.aerosnap.proofs.Items.{WideNews}
 use Rattle.aerosnap.proofs.Named.{content-faulty}
 use Rattle.aerosnap.proofs.Counted.{one-pass}
 

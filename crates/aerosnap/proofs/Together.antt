@@ -19,7 +19,8 @@ use Rattle.aerosnap.specs.declared.NewDevice.{NewDevice}
 use Rattle.aerosnap.specs.Content.{Content, render, contentAt, canonical, IsCanonical}
 use Rattle.aerosnap.specs.Adding.{Item}
 use Rattle.aerosnap.specs.Edits.{add, addTo, editFile, addItem, Call}
-use Rattle.aerosnap.specs.Many.{newDeviceAt, newDevicesFrom, newDevices, isInside, newItem, newItems, WideNews, Inside, newCalls, further, addNew, addEach, RefusedAt, addAll, many}
+use Rattle.aerosnap.specs.Many.{newDeviceAt, newDevicesFrom, newDevices, isInside, newItem, newItems, Inside, newCalls, further, addNew, addEach, RefusedAt, addAll, many}
+use Rattle.aerosnap.proofs.Items.{WideNews}
 use Rattle.aerosnap.proofs.Canonical.{canonical-exactly}
 use Rattle.aerosnap.proofs.Refusals.{Refuses, checked-refuses, after-refuses}
 use Rattle.aerosnap.proofs.Named.{content-refuses, edit-to-refuses, canonical-refuses}

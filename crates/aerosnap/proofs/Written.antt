@@ -18,12 +18,12 @@ use Rattle.entries.proofs.Lawful.{Lawful}
 use Rattle.lists.specs.Lists.{entries, tailOf, listBytes, IsList}
 use Rattle.lists.proofs.Taken.{list-complete, closed-tail}
 use Rattle.lists.proofs.Written.{Good, good-sort, good-entries, length-list, list-length, list-is, entries-list, tail-list}
-use Rattle.aerosnap.specs.Known.{META, CPU, MMU, DEVICES, DISKS, CPUS, MMUS, known, takes}
-use Rattle.aerosnap.specs.Payloads.{Body, meta, cpu, mmu, list, opaque, bodyBy, bodyOf}
+use Rattle.aerosnap.specs.Known.{CPU, MMU, DEVICES, CPUS, MMUS, known, takes}
+use Rattle.aerosnap.specs.Payloads.{Body, meta, cpu, mmu, list, opaque, knownBodies, bodyOf}
 use Rattle.aerosnap.specs.File.{fileMost, devicesMost, idOf, versionOf}
 use Rattle.aerosnap.specs.Rules.{IsBody, IsSection}
 use Rattle.aerosnap.specs.Content.{framed, isAbsent, listed, tidied, tidy}
-use Rattle.aerosnap.proofs.Bodies.{Lawfully, lawful-body}
+use Rattle.aerosnap.proofs.Bodies.{body-cases, Lawfully, lawful-body}
 use Rattle.aerosnap.proofs.Slots.{known-range}
 use Rattle.aerosnap.proofs.Framed.{ReadsFramed, length-framed, framed-reads}
 
@@ -37,17 +37,10 @@ takes-le id v h = go (eqb v 1) (eqb v 2) refl refl h
 
 -- a list is one of the known sections
 pub list-known : (id v : ℕ) (d : Description) → bodyOf id v ≡ list d → known id ≡ true
-list-known id v d q = go (eqb id META) (eqb id CPU) (eqb id MMU) (eqb id DEVICES) (eqb id DISKS) (eqb id CPUS) (eqb id MMUS) refl refl refl refl q
+list-known id v d = body-cases (λ i k. k ≡ list d → known i ≡ true) id v knownBodies ((λ _. refl), ((λ _. refl), ((λ _. refl), ((λ _. refl), ((λ _. refl), ((λ _. refl), ((λ _. refl), tt))))))) (λ _ q. other q)
   where
-    go : (a b c e f g h : Bool) → eqb id DEVICES ≡ e → eqb id DISKS ≡ f → eqb id CPUS ≡ g → eqb id MMUS ≡ h → bodyBy a b c e f g h v ≡ list d → known id ≡ true
-    go true b c e f g h i j k l q = let z : _≡_ {A = ℕ} 0 1 = cc in absurd (omega arith)
-    go false true c e f g h i j k l q = let z : _≡_ {A = ℕ} 0 1 = cc in absurd (omega arith)
-    go false false true e f g h i j k l q = let z : _≡_ {A = ℕ} 0 1 = cc in absurd (omega arith)
-    go false false false true f g h i j k l q = rw (eqb-true id DEVICES i)
-    go false false false false true g h i j k l q = rw (eqb-true id DISKS j)
-    go false false false false false true h i j k l q = rw (eqb-true id CPUS k)
-    go false false false false false false true i j k l q = rw (eqb-true id MMUS l)
-    go false false false false false false false i j k l q = let z : _≡_ {A = ℕ} 0 1 = cc in absurd (omega arith)
+    other : opaque ≡ list d → known id ≡ true
+    other q = let z : _≡_ {A = ℕ} 0 1 = cc in absurd (omega arith)
 
 -- A section that is written as it stands
 pub record Tidy (e : List ℕ) : Type 0 where

@@ -10,13 +10,13 @@ use Rattle.answer.specs.Outcome.{Checks}
 use Rattle.wire.specs.Numbers.{bytesOf}
 pub use Rattle.wire.specs.Parts.{withLength}
 use Rattle.utf8.specs.Scan.{isText}
-use Rattle.order.specs.Keyed.{insert, sort, has}
+use Rattle.order.specs.Keyed.{sort, has}
 use Rattle.entries.specs.Kinds.{Description, payloadMost, imageMost, devices, disks}
 use Rattle.lists.specs.Lists.{listBytes}
 use Rattle.aerosnap.specs.declared.Side.{Side}
 use Rattle.aerosnap.specs.declared.Side.the-variants.{OfDevices, OfDisks}
 use Rattle.aerosnap.specs.File.{fileMost, sectionsMost, devicesMost}
-use Rattle.aerosnap.specs.Content.{framed, Content, kindAt, idAt, entriesAt, withEntries, secs, render}
+use Rattle.aerosnap.specs.Content.{framed, Content, kindAt, entriesAt, secs, render}
 
 -- What is added: a device by its id, version, flags and payload, or a disk by its id, base image and overlay image.
 pub data Item : Type 0 where
@@ -54,15 +54,8 @@ entryOf (disk id x y) = bytesOf 4 id ++ (withLength x ++ withLength y)
 abbrev pub kindOf : Item → Description
 kindOf x = kindAt (sideOf (nameOf x))
 
-abbrev pub idFor : Item → ℕ
-idFor x = idAt (sideOf (nameOf x))
-
 abbrev pub listIn : Item → Content → List (List ℕ)
 listIn x c = entriesAt (sideOf (nameOf x)) c
-
--- the content with one entry more
-abbrev pub withItem : Item → Content → Content
-withItem x c = withEntries (sideOf (nameOf x)) (insert (kindOf x .key) (entryOf x) (listIn x c)) c
 
 -- what is asked of the item alone: its lengths, then its texts
 abbrev pub ownChecks : Item → Checks

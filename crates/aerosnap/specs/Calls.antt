@@ -5,25 +5,27 @@ use Prim.Native.Nat.{ℕ}
 use Rattle.answer.specs.Outcome.{Outcome}
 use Rattle.aerosnap.specs.File.{fileOf}
 use Rattle.aerosnap.specs.Content.{canonical}
-use Rattle.aerosnap.specs.Tables.{sectionTable, deviceTable, diskTable, cpuTable, mmuTable}
+use Rattle.aerosnap.specs.Known.{DEVICES, DISKS, CPUS, MMUS}
+use Rattle.aerosnap.specs.Tables.{sectionRows, table, listTable}
 
 abbrev pub checkCall : List ℕ → Outcome (List (List ℕ))
 checkCall file = fileOf file
 
 abbrev pub sectionsCall : ℕ → List ℕ → Outcome (List ℕ)
-sectionsCall have file = sectionTable have file
+sectionsCall = table (sectionRows 16 0)
 
 abbrev pub devicesCall : ℕ → List ℕ → Outcome (List ℕ)
-devicesCall have file = deviceTable have file
+devicesCall = listTable DEVICES
 
 abbrev pub disksCall : ℕ → List ℕ → Outcome (List ℕ)
-disksCall have file = diskTable have file
+disksCall = listTable DISKS
 
+-- a file that has one CPU or one MMU, in a section of its own, has no record of it
 abbrev pub cpusCall : ℕ → List ℕ → Outcome (List ℕ)
-cpusCall have file = cpuTable have file
+cpusCall = listTable CPUS
 
 abbrev pub mmusCall : ℕ → List ℕ → Outcome (List ℕ)
-mmusCall have file = mmuTable have file
+mmusCall = listTable MMUS
 
 abbrev pub canonicalCall : ℕ → List ℕ → Outcome (List ℕ)
 canonicalCall have file = canonical have file

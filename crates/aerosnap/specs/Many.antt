@@ -17,7 +17,7 @@ use Rattle.lists.specs.Lists.{listBytes}
 use Rattle.aerosnap.specs.declared.NewDevice.{NewDevice}
 use Rattle.aerosnap.specs.File.{fileMost, sectionsMost, devicesMost}
 use Rattle.aerosnap.specs.Content.{isAbsent, Content, secs, render, contentAt, canonical}
-use Rattle.aerosnap.specs.Adding.{Item, device, Name, deviceNamed, WideName, grown}
+use Rattle.aerosnap.specs.Adding.{Item, device, Name, deviceNamed, grown}
 use Rattle.aerosnap.specs.Edits.{keyOf, addTo, Call}
 
 -- ---- the table
@@ -48,10 +48,6 @@ newItem store x = device (x .id) (x .version) (x .flags) (take (x .length) (drop
 
 abbrev pub newItems : List ℕ → List NewDevice → List Item
 newItems store = map (newItem store)
-
--- their numbers are as wide as the fields of a record
-abbrev pub WideNews : List NewDevice → Type 0
-WideNews = Every (λ x. WideName (newName x))
 
 -- every payload lies within the second buffer
 abbrev pub Inside : List ℕ → List NewDevice → Type 0

@@ -107,8 +107,8 @@ mapSize a m =
 
 -- its bounds are those of document 01
 abbrev pub countRow : Item → Map → Bool × ℕ × ℕ
-countRow (device id v f p) m = (leb (weigh oneDevice m) 4096, LIMIT, 0)
-countRow (disk id x y) m = (leb (weigh oneDisk m) 256, LIMIT, 0)
+countRow (device id v f p) m = (leb (weigh oneDevice m) (devices .most), LIMIT, 0)
+countRow (disk id x y) m = (leb (weigh oneDisk m) (disks .most), LIMIT, 0)
 
 abbrev pub devicesRow : AllElse → Map → Bool × ℕ × ℕ
 devicesRow a m = (leb (4 + (weigh deviceSize m + length (a .deviceTail))) devicesMost, LIMIT, 0)

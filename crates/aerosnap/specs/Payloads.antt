@@ -1,7 +1,7 @@
 -- The payloads of sections. Places count from the payload's start.
 -- Assumes nothing.
-use mathlib.Core.List.{[], _∷_}
-use mathlib.Core.Bool.{Bool, true, false}
+use mathlib.Core.List.{List, [], _∷_}
+use mathlib.Core.Bool.{cond}
 use Prim.Native.Nat.{ℕ}
 use lib.ListN.{length}
 use lib.Dec.{eqb}
@@ -14,9 +14,13 @@ use Rattle.entries.specs.Kinds.{Description, devices, disks, cpus, mmus}
 use Rattle.lists.specs.Lists.{listAt}
 use Rattle.aerosnap.specs.Known.{META, CPU, MMU, DEVICES, DISKS, CPUS, MMUS}
 
+-- a label has at most 4096 bytes
+abbrev pub labelMost : ℕ
+labelMost = 4096
+
 -- META: u64 snapshot id; u8 0 or 1, and if 1 a u64 parent id; u64 time in ms; u8 0 or 1, and if 1 a u32 length and a UTF-8 label
 abbrev pub metaForm : Format
-metaForm = pair (bytes 8) (pair (option (bytes 8)) (pair (bytes 8) (option (text 4096))))
+metaForm = pair (bytes 8) (pair (option (bytes 8)) (pair (bytes 8) (option (text labelMost))))
 
 -- what a payload is: META; a CPU or an MMU state of a version, and nothing else; a list; or bytes of which nothing is asked
 pub data Body : Type 0 where
@@ -26,19 +30,26 @@ pub data Body : Type 0 where
   list : Description → Body
   opaque : Body
 
-abbrev pub bodyBy : Bool → Bool → Bool → Bool → Bool → Bool → Bool → ℕ → Body
-bodyBy true b c d e f g v = meta
-bodyBy false true c d e f g v = cpu v
-bodyBy false false true d e f g v = mmu v
-bodyBy false false false true e f g v = list devices
-bodyBy false false false false true f g v = list disks
-bodyBy false false false false false true g v = list (cpus v)
-bodyBy false false false false false false true v = list (mmus v)
-bodyBy false false false false false false false v = opaque
+-- the payloads of which something is asked, by the ids of their sections; v is the version of the section
+abbrev pub knownBodies : List (ℕ × (ℕ → Body))
+knownBodies =
+    (META, λ v. meta)
+    ∷ (CPU, λ v. cpu v)
+    ∷ (MMU, λ v. mmu v)
+    ∷ (DEVICES, λ v. list devices)
+    ∷ (DISKS, λ v. list disks)
+    ∷ (CPUS, λ v. list (cpus v))
+    ∷ (MMUS, λ v. list (mmus v))
+    ∷ []
+
+-- the one with that id; nothing is asked where there is none
+abbrev pub bodyIn : List (ℕ × (ℕ → Body)) → ℕ → ℕ → Body
+bodyIn [] id v = opaque
+bodyIn (r ∷ l) id v = cond (eqb id (r .0)) (r .1 v) (bodyIn l id v)
 
 -- what the payload of a section is, by its id and version
 abbrev pub bodyOf : ℕ → ℕ → Body
-bodyOf id v = bodyBy (eqb id META) (eqb id CPU) (eqb id MMU) (eqb id DEVICES) (eqb id DISKS) (eqb id CPUS) (eqb id MMUS) v
+bodyOf = bodyIn knownBodies
 
 -- the first fault of a payload, if any; bytes behind the last field of META are a tail, and nothing is asked of them
 unfoldable pub payload : Body → Asks

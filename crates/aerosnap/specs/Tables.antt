@@ -11,7 +11,7 @@ use Rattle.lists.specs.Lists.{listAt, startsIn}
 use Rattle.tables.specs.Tables.{described, framedRow, rowsAt}
 use Rattle.tables.specs.declared.Table.{Table}
 use Rattle.tables.specs.declared.Table.the-variants.{Devices, Disks, Cpus, Mmus}
-use Rattle.aerosnap.specs.Known.{DEVICES, DISKS, CPUS, MMUS}
+use Rattle.aerosnap.specs.Known.{DEVICES, DISKS, CPUS}
 use Rattle.aerosnap.specs.File.{versionOf, fileOf}
 use Rattle.aerosnap.specs.Content.{isId}
 
@@ -47,22 +47,6 @@ sectionRows at q (e ∷ l) = framedRow at q e ++ sectionRows (at + length e) (su
 abbrev pub table : (List (List ℕ) → List ℕ) → ℕ → List ℕ → Outcome (List ℕ)
 table rows have s = after (fileOf s) (λ l. fitting have (rows l))
 
-abbrev pub sectionTable : ℕ → List ℕ → Outcome (List ℕ)
-sectionTable = table (sectionRows 16 0)
-
 -- the records of the list with an id
 abbrev pub listTable : ℕ → ℕ → List ℕ → Outcome (List ℕ)
 listTable i = table (λ l. flat (listRows i) (placed 16 l))
-
-abbrev pub deviceTable : ℕ → List ℕ → Outcome (List ℕ)
-deviceTable = listTable DEVICES
-
-abbrev pub diskTable : ℕ → List ℕ → Outcome (List ℕ)
-diskTable = listTable DISKS
-
--- a file that has one CPU or one MMU, in a section of its own, has no record of it
-abbrev pub cpuTable : ℕ → List ℕ → Outcome (List ℕ)
-cpuTable = listTable CPUS
-
-abbrev pub mmuTable : ℕ → List ℕ → Outcome (List ℕ)
-mmuTable = listTable MMUS

@@ -20,7 +20,7 @@ use Rattle.kinds.specs.declared.Cell.{Cell}
 use Rattle.kinds.specs.declared.Form.{Form}
 use Rattle.kinds.specs.Kinds.{paper, cells, okOf}
 use Rattle.messages.specs.Fields.{fieldWidth, allowed, sizeOf, messageAt}
-use Rattle.messages.specs.Reading.{most, cellChecks, dataLength, dataFits, leftOver, bodyChecks, numbersEnd, readChecks, messageContent, readMessage}
+use Rattle.messages.specs.Reading.{messageMost, cellChecks, dataLength, dataFits, leftOver, bodyChecks, numbersEnd, readChecks, messageContent, readMessage}
 use Rattle.aipc.specs.Steps.{fieldAt, textPart, behind, formed}
 
 -- the steps that the code makes, each from where the one before it ended
@@ -85,8 +85,8 @@ text-checks at m = let e : at + 4 + dataLength at m - (at + 4) ≡ dataLength at
 
 -- ---- the whole
 
-pub read-formed : (m : List ℕ) (k : Message) (f : Form) → k ≡ messageAt m → f ≡ paper k → length m ≤ most → 2 ≤ length m → f .known ≡ true → formed k f m ≡ readMessage m
+pub read-formed : (m : List ℕ) (k : Message) (f : Form) → k ≡ messageAt m → f ≡ paper k → length m ≤ messageMost → 2 ≤ length m → f .known ≡ true → formed k f m ≡ readMessage m
 unfolding formed behind readMessage readChecks
 read-formed m k f ek ef h g t =
-    rw (← ek, ← ef, le-leb (length m) most h, le-leb 2 (length m) g, t)
+    rw (← ek, ← ef, le-leb (length m) messageMost h, le-leb 2 (length m) g, t)
     (sym (checked-append (cellChecks (okOf f) (cells f) 2 m) (bodyChecks (f .body) (numbersEnd f) m) (taken (messageContent k (f .body) (numbersEnd f) m))))

@@ -18,7 +18,7 @@ use Rattle.kinds.specs.declared.Cell.{Cell}
 use Rattle.kinds.specs.declared.Form.{Form}
 use Rattle.kinds.specs.Kinds.{paper, cells, okOf}
 use Rattle.messages.specs.Fields.{allowed}
-use Rattle.messages.specs.Reading.{most}
+use Rattle.messages.specs.Reading.{messageMost}
 use Rattle.messages.specs.Writing.{formBytes, valueChecks, dataChecks, writeChecks, written, writeMessage}
 use Rattle.aipc.specs.Steps.{allAllowed, writeFaults, limits, writing, putForm}
 use Rattle.aipc.proofs.Going.{test-stops, test-passes, test-goes}
@@ -43,7 +43,7 @@ pub writing-checks : {A : Type 0} (f : Form) (d : List ℕ) (have : ℕ) (x : Ou
     → checked (writing f d have) x ≡ checked (writeFaults f d) (checked (limits (length (formBytes f d)) have) x)
 unfolding writeChecks
 writing-checks f d have x =
-    let l : Checks = (leb (length (formBytes f d)) most, LIMIT, 0) ∷ [] in
+    let l : Checks = (leb (length (formBytes f d)) messageMost, LIMIT, 0) ∷ [] in
     let v = valueChecks (okOf f) (cells f) in
     let r = room have (length (formBytes f d)) in
     checked-append ((f .known, VALUE, 0) ∷ (v ++ (dataChecks (f .body) d ++ l))) r x

@@ -1,4 +1,4 @@
--- What the private functions of this crate say to each other; no caller needs it.
+-- For contracts of private functions: what they say to each other.
 -- Assumes nothing.
 use mathlib.Core.Bool.{Bool, _&&_}
 use mathlib.Core.List.{List, [], _∷_, _++_}
@@ -17,7 +17,7 @@ use Rattle.kinds.specs.declared.Cell.{Cell}
 use Rattle.kinds.specs.declared.Form.{Form}
 use Rattle.kinds.specs.Kinds.{cells, okOf}
 use Rattle.messages.specs.Fields.{fieldWidth, allowed}
-use Rattle.messages.specs.Reading.{MessageAndData, most, cellChecks, bodyChecks, numbersEnd, messageContent}
+use Rattle.messages.specs.Reading.{MessageAndData, messageMost, cellChecks, bodyChecks, numbersEnd, messageContent}
 use Rattle.messages.specs.Writing.{dataChecks, formBytes, writeChecks}
 
 -- one field at a place, and where it ends
@@ -55,7 +55,7 @@ writeFaults f d = (f .known, VALUE, 0) ∷ (allAllowed f, VALUE, 0) ∷ dataChec
 
 -- the last ones, which go by the length needed
 abbrev pub limits : ℕ → ℕ → Checks
-limits need have = (leb need most, LIMIT, 0) ∷ room have need
+limits need have = (leb need messageMost, LIMIT, 0) ∷ room have need
 
 -- all of them
 abbrev pub writing : Form → List ℕ → ℕ → Checks

@@ -11,7 +11,7 @@ ghost use Rattle.wire.specs.Numbers.{bytesOf};
 ghost use Rattle.wire.specs.Parts.{put};
 ghost use Rattle.kinds.specs.Kinds.{cells, okOf};
 ghost use Rattle.messages.specs.Fields.{fieldWidth, allowed as allowedOf};
-ghost use Rattle.messages.specs.Reading.{cellChecks, leftOver, dataLength, dataFits, bodyChecks, numbersEnd, messageContent, readMessage, reading};
+ghost use Rattle.messages.specs.Reading.{messageMost, cellChecks, leftOver, dataLength, dataFits, bodyChecks, numbersEnd, messageContent, readMessage, reading};
 ghost use Rattle.messages.specs.Writing.{bodyBytes, formBytes, dataChecks, writeMessage};
 ghost use Rattle.aipc.specs.Steps.{fieldAt, behind, formed, then, textPart, allAllowed, limits as limitsOf, writeFaults, writing, putCells, putBody, putForm};
 use answer::Answer;
@@ -135,7 +135,7 @@ fn ended(m: &[u8], at: usize) -> Test
 
 // A length and as many bytes; where they end.
 fn data_end(m: &[u8], at: usize) -> Piece
-    requires { ⌜ at ≤ 65536 ⌝ }
+    requires { ⌜ at ≤ messageMost ⌝ }
     ensures { λ r. ⌜ pieceOf r ≡ checked (dataFits at (now (m .entry))) (taken (at + 4 + dataLength at (now (m .entry)))) ⌝ }
 {
     if fits(m.len(), at, 4) {
@@ -150,7 +150,7 @@ fn data_end(m: &[u8], at: usize) -> Piece
 
 // Data of any bytes.
 fn bytes_test(m: &[u8], at: usize) -> Test
-    requires { ⌜ at ≤ 65536 ⌝ }
+    requires { ⌜ at ≤ messageMost ⌝ }
     ensures { λ r. ⌜ testOf r ≡ asked (bodyChecks Body.Bytes at (now (m .entry))) ⌝ }
 {
     match data_end(m, at) {
@@ -192,7 +192,7 @@ fn text_at(m: &[u8], start: usize, end: usize) -> Test
 
 // Data that is a text.
 fn text_test(m: &[u8], at: usize) -> Test
-    requires { ⌜ at ≤ 65536 ⌝ }
+    requires { ⌜ at ≤ messageMost ⌝ }
     ensures { λ r. ⌜ testOf r ≡ asked (bodyChecks Body.Text at (now (m .entry))) ⌝ }
 {
     match data_end(m, at) {
@@ -203,7 +203,7 @@ fn text_test(m: &[u8], at: usize) -> Test
 
 // What stands behind the numbers.
 fn body_test(m: &[u8], body: Body, at: usize) -> Test
-    requires { ⌜ at ≤ 65536 ⌝ }
+    requires { ⌜ at ≤ messageMost ⌝ }
     ensures { λ r. ⌜ testOf r ≡ asked (bodyChecks body at (now (m .entry))) ⌝ }
 {
     match body {
@@ -238,7 +238,7 @@ fn found(message: Message, start: u64, len: u64) -> Reading
 }
 
 fn with_data(m: &[u8], message: Message, at: usize) -> Reading
-    requires { ⌜ at ≤ 65536 ⌝ }
+    requires { ⌜ at ≤ messageMost ⌝ }
     ensures { λ r. ⌜ r ≡ reading (taken (messageContent message Body.Bytes at (now (m .entry)))) ⌝ }
 {
     found(message, (at + 4) as u64, u32_at(m, at) as u64)
@@ -246,7 +246,7 @@ fn with_data(m: &[u8], message: Message, at: usize) -> Reading
 
 // The message with the place and the length of its data.
 fn content(m: &[u8], message: Message, body: Body, at: usize) -> Reading
-    requires { ⌜ at ≤ 65536 ⌝ }
+    requires { ⌜ at ≤ messageMost ⌝ }
     ensures { λ r. ⌜ r ≡ reading (taken (messageContent message body at (now (m .entry)))) ⌝ }
 {
     match body {
@@ -258,7 +258,7 @@ fn content(m: &[u8], message: Message, body: Body, at: usize) -> Reading
 
 // The rest of a reading, from where the numbers end.
 fn finish(m: &[u8], message: Message, body: Body, at: usize) -> Reading
-    requires { ⌜ at ≤ 65536 ⌝ }
+    requires { ⌜ at ≤ messageMost ⌝ }
     ensures { λ r. ⌜ r ≡ reading (behind message body at (now (m .entry))) ⌝ }
 {
     match body_test(m, body, at) {

@@ -23,7 +23,8 @@ use Rattle.entries.proofs.Lawful.{Lawful}
 use Rattle.lists.specs.Lists.{whole, entries, tailOf}
 use Rattle.lists.proofs.Ordered.{list-order}
 use Rattle.writer.specs.Runs.{entryBy, fits, inOrder, byStarts}
-use Rattle.writer.specs.Steps.{run, Listed, sortedBytes}
+use Rattle.writer.specs.Steps.{Listed, sortedBytes}
+use Rattle.writer.proofs.Runs.{run}
 use Rattle.writer.proofs.Fits.{wrote-first, fits-within}
 use Rattle.writer.proofs.Straight.{straight-bytes}
 use Rattle.writer.proofs.Whole.{sorted-is, by-starts}

@@ -16,7 +16,8 @@ use Rattle.entries.specs.Kinds.{devices}
 use Rattle.aerosnap.specs.declared.NewDevice.{NewDevice}
 use Rattle.aerosnap.specs.Content.{Content, contentAt}
 use Rattle.aerosnap.specs.Adding.{deviceEntries, grown}
-use Rattle.aerosnap.specs.Many.{newItems, WideNews, Inside, further, addAll, Tally}
+use Rattle.aerosnap.specs.Many.{newItems, Inside, further, addAll, Tally}
+use Rattle.aerosnap.proofs.Items.{WideNews}
 use Rattle.aerosnap.proofs.Back.{read-back}
 use Rattle.aerosnap.proofs.Refusals.{Refuses}
 use Rattle.aerosnap.proofs.Framed.{length-framed}

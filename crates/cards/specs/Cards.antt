@@ -2,7 +2,7 @@
 -- It is the last check of an edit and asks nothing of what comes before: the bytes that are written do not depend on it.
 -- Assumes nothing.
 use mathlib.Core.Path.{_≡_}
-use mathlib.Core.List.{List, [], _∷_, _++_}
+use mathlib.Core.List.{List, [], _∷_}
 use mathlib.Core.Bool.{Bool, _&&_}
 use Prim.Native.Nat.{ℕ, _+_, _-_}
 use lib.ListN.{length}
@@ -81,11 +81,6 @@ unfoldable pub editCard : ℕ → Card → List ℕ → Edit → Outcome (List �
 editCard have k s e = after (contentAt s) (λ c. editCardTo have k c e)
 
 -- ---- what a call shows
-
--- the card that comes back: a refusal hands it back unchanged
-abbrev pub cardAfter : Card → Outcome (List ℕ × Card) → Card
-cardAfter k (taken t) = t .1
-cardAfter k (refused n p) = k
 
 -- the bytes that an edit writes, or its refusal
 abbrev pub bytesBeside : Outcome (List ℕ × Card) → Outcome (List ℕ)

@@ -1,4 +1,5 @@
 // The card: what the tablet shows of a canonical file, and how its numbers move with an edit. Nothing below an edit knows of it.
+use lists::FILE_MOST;
 ghost use mathlib.Core.Path.{_≡_};
 ghost use mathlib.Core.Bool.{true, _&&_};
 ghost use Prim.Native.Nat.{_+_, _≤_};
@@ -33,7 +34,7 @@ pub enum Moved {
 // The bounds of its numbers.
 const SHORTEST: u64 = 16;
 
-const LONGEST: u64 = 1073741824;
+const LONGEST: u64 = FILE_MOST as u64;
 
 const SECTIONS_MOST: u64 = 64;
 

@@ -24,10 +24,11 @@ use Rattle.order.specs.Keyed.{insert, has, Every}
 use Rattle.order.proofs.Folds.{every-append}
 use Rattle.entries.specs.States.{cpuValues, cpuState, cpuSized, extends, heldChecks, mmuLength}
 use Rattle.format.specs.Format as form
-use Rattle.entries.specs.Kinds.{Description, leadChecks}
+use Rattle.entries.specs.Kinds.{Description, leadChecks, devices, disks, cpus, mmus}
 use Rattle.lists.specs.Lists.{keyAt, entryChecks, entryAt, endChecks, walk, countChecks, listAt}
-use Rattle.aerosnap.specs.Known.{known, META, CPU, MMU, DEVICES, DISKS, CPUS, MMUS}
-use Rattle.aerosnap.specs.Payloads.{metaForm, Body, meta, cpu, mmu, list, opaque, bodyBy, bodyOf, payload}
+use Rattle.aerosnap.specs.Known.{known}
+use Rattle.aerosnap.proofs.Bodies.{body-cases}
+use Rattle.aerosnap.specs.Payloads.{metaForm, Body, meta, cpu, mmu, list, opaque, knownBodies, bodyOf, payload}
 use Rattle.aerosnap.specs.File.{sectionsMost, headerChecks, idOf, versionOf, flagsOf, lengthOf, payloadOf, frameChecks, knownChecks, ruled, sectionOf, sections, fileOf}
 use Rattle.demands.specs.Text.{Pointer}
 
@@ -206,7 +207,7 @@ Bodies (list d) = Entries d
 Bodies opaque = Unit {0}
 
 bodies : (id v : ℕ) → Bodies (bodyOf id v)
-bodies id v = by (eqb id META) (eqb id CPU) (eqb id MMU) (eqb id DEVICES) (eqb id DISKS) (eqb id CPUS) (eqb id MMUS)
+bodies id v = body-cases (λ i k. Bodies k) id v knownBodies (tt, (tt, (tt, (of-devices, (of-disks, (of-cpus, (of-mmus, tt))))))) (λ _. tt)
   where
     held-silent : (e : List ℕ) → Silent (heldChecks v e)
     held-silent e = go (extends (drop 4 e)) (silent-moved 4 (cpuState v (drop 4 e)) (values-silent (cpuValues v (length (drop 4 e))) (drop 4 e)))
@@ -215,18 +216,17 @@ bodies id v = by (eqb id META) (eqb id CPU) (eqb id MMU) (eqb id DEVICES) (eqb i
         go true k = k
         go false k = λ q. omega arith
 
-    by : (a b c d e f g : Bool) → Bodies (bodyBy a b c d e f g v)
-    by true b c d e f g = tt
-    by false true c d e f g = tt
-    by false false true d e f g = tt
-    by false false false true e f g = record { early = λ b. tt; form = ((λ e. tt), ((λ n. (λ e. omega arith) also tt), inr (λ e. tt))) }
-    by false false false false true f g = record { early = λ b. tt; form = ((λ e. tt), (text-texty 65536, text-texty 65536)) }
-    by false false false false false true g = record {
-      early = λ b. tt;
-      form = ((λ e. tt), ((((λ n. (λ e. omega arith) also tt), inr (λ e. tt)), held-silent), ((λ n. (λ e. omega arith) also tt), inr (λ e. tt))));
-    }
-    by false false false false false false true = record { early = λ b. tt; form = λ e. tt }
-    by false false false false false false false = tt
+    of-devices : Bodies (list devices)
+    of-devices = record { early = λ b. tt; form = ((λ e. tt), ((λ n. (λ e. omega arith) also tt), inr (λ e. tt))) }
+
+    of-disks : Bodies (list disks)
+    of-disks = record { early = λ b. tt; form = ((λ e. tt), (text-texty 65536, text-texty 65536)) }
+
+    of-cpus : Bodies (list (cpus v))
+    of-cpus = record { early = λ b. tt; form = ((λ e. tt), ((((λ n. (λ e. omega arith) also tt), inr (λ e. tt)), held-silent), ((λ n. (λ e. omega arith) also tt), inr (λ e. tt)))) }
+
+    of-mmus : Bodies (list (mmus v))
+    of-mmus = record { early = λ b. tt; form = λ e. tt }
 
 payload-pointed : (k : Body) → Bodies k → (p : List ℕ) → Pointed p (payload k p)
 unfolding payload

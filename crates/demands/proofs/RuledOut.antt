@@ -19,7 +19,8 @@ use Rattle.lists.specs.Lists.{entryAt, walk, listAt}
 use Rattle.aerosnap.specs.Payloads.{payload}
 use Rattle.aerosnap.specs.File.{ruled, sectionOf, sections, fileOf}
 use Rattle.aerosnap.specs.Content.{Content, contentAt, render, IsCanonical}
-use Rattle.aerosnap.specs.Adding.{Item, device, disk, Wide, listIn, entryOf, withItem}
+use Rattle.aerosnap.specs.Adding.{Item, device, disk, Wide, listIn, entryOf}
+use Rattle.aerosnap.proofs.Items.{withItem}
 use Rattle.aerosnap.specs.Edits.{Edit, add, Call, editFile, editTo}
 use Rattle.aerosnap.specs.Calls.{canonicalCall}
 use Rattle.aerosnap.proofs.Canonical.{canonical-exactly}

@@ -26,7 +26,8 @@ use Rattle.aerosnap.specs.File.{fileOf, fileMost, sectionsMost, devicesMost}
 use Rattle.aerosnap.specs.Content.{Content, entriesIn, contentAt, contentOf, canonical}
 use Rattle.aerosnap.specs.Adding.{grown}
 use Rattle.aerosnap.specs.Edits.{Edit, WideEdit, apply, editTo, editFile}
-use Rattle.aerosnap.specs.Many.{newDevices, newItems, WideNews, further, addEach, addAll, many}
+use Rattle.aerosnap.specs.Many.{newDevices, newItems, further, addEach, addAll, many}
+use Rattle.aerosnap.proofs.Items.{WideNews}
 use Rattle.aerosnap.specs.Tables.{sectionRows}
 use Rattle.aerosnap.proofs.Rows.{sections-length}
 use Rattle.aerosnap.proofs.Canonical.{canonical-is}

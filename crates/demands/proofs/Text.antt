@@ -30,10 +30,11 @@ use Rattle.kinds.specs.declared.Cell.{Cell}
 use Rattle.kinds.specs.declared.Form.{Form}
 use Rattle.kinds.specs.Kinds.{paper, cells, okOf}
 use Rattle.messages.specs.Fields.{fieldWidth, messageAt}
-use Rattle.messages.specs.Reading.{MessageAndData, most, messageContent, dataFits, dataLength, dataIn, cellChecks, bodyChecks, numbersEnd, readChecks, readMessage}
+use Rattle.messages.specs.Reading.{MessageAndData, messageMost, messageContent, dataFits, dataLength, dataIn, cellChecks, bodyChecks, numbersEnd, readChecks, readMessage}
 use Rattle.messages.specs.Writing.{valueChecks, dataChecks, formBytes, writeChecks, written, writeMessage}
 use Rattle.aerosnap.specs.Content.{Content, render, contentAt}
-use Rattle.aerosnap.specs.Adding.{Item, device, disk, ownChecks, addChecks, withItem}
+use Rattle.aerosnap.specs.Adding.{Item, device, disk, ownChecks, addChecks}
+use Rattle.aerosnap.proofs.Items.{withItem}
 use Rattle.aerosnap.specs.Edits.{addTo, addItem, editFile, editTo}
 use Rattle.demands.specs.Text.{Texts, Points, BrokenTexts}
 use Rattle.demands.proofs.Pointed.{file-pointed}
@@ -107,17 +108,17 @@ asked-text t w e {q} h = go (isText t) refl h
     go true i k = absurd (taken-refused k)
     go false i k = let j : q ≡ w + breakAt t = cc in (j, i)
 
-read-points : (most : ℕ) (b : List ℕ) (q : ℕ) → read (text most) b ≡ refused TEXT q → Points b 4 (leAt 4 b 0) q
+read-points : (messageMost : ℕ) (b : List ℕ) (q : ℕ) → read (text messageMost) b ≡ refused TEXT q → Points b 4 (leAt 4 b 0) q
 unfolding read
-read-points most b q h =
+read-points messageMost b q h =
     let t : List ℕ = take (leAt 4 b 0) (drop 4 b) in
-    let k = asked-text t 4 (4 + leAt 4 b 0) (passed-on (sizedChecks 4 (atMost most) b) (after (moved 4 (utf8 t)) (λ _. taken (4 + leAt 4 b 0))) ((λ e. omega arith) also (λ e. omega arith) also (λ e. omega arith) also tt) h) in
+    let k = asked-text t 4 (4 + leAt 4 b 0) (passed-on (sizedChecks 4 (atMost messageMost) b) (after (moved 4 (utf8 t)) (λ _. taken (4 + leAt 4 b 0))) ((λ e. omega arith) also (λ e. omega arith) also (λ e. omega arith) also tt) h) in
     record { offset = breakAt t; place = k .0; breaks = breaks-at t (k .1) }
 
-field-points : (most : ℕ) (s : List ℕ) (at p : ℕ) → readAt (text most) s at ≡ refused TEXT p → Points s (at + 4) (leAt 4 s at) p
-field-points most s at p h =
-    let (q, e, i) = shift-refused at (read (text most) (drop at s)) h in
-    let r = read-points most (drop at s) q e in
+field-points : (messageMost : ℕ) (s : List ℕ) (at p : ℕ) → readAt (text messageMost) s at ≡ refused TEXT p → Points s (at + 4) (leAt 4 s at) p
+field-points messageMost s at p h =
+    let (q, e, i) = shift-refused at (read (text messageMost) (drop at s)) h in
+    let r = read-points messageMost (drop at s) q e in
     record { offset = r .offset; place = omega (arith, i, r .place); breaks = rw (leAt-here 4 s at, drop-drop) at (r .breaks) }
 
 -- ---- Log and Panic
@@ -146,7 +147,7 @@ message-points m p h =
     let fields : Checks = cellChecks (okOf f) (cells f) 2 m in
     let body : Checks = bodyChecks (f .body) (numbersEnd f) m in
     let c : MessageAndData = messageContent (messageAt m) (f .body) (numbersEnd f) m in
-    let head : Checks = (leb (length m) most, LIMIT, 0) ∷ (leb 2 (length m), SHAPE, 0) ∷ (f .known, TAG, 0) ∷ [] in
+    let head : Checks = (leb (length m) messageMost, LIMIT, 0) ∷ (leb 2 (length m), SHAPE, 0) ∷ (f .known, TAG, 0) ∷ [] in
     let g : checked (fields ++ body) (taken c) ≡ refused TEXT p = passed-on head (checked (fields ++ body) (taken c)) ((λ e. omega arith) also (λ e. omega arith) also (λ e. omega arith) also tt) h in
     body-points (f .body) (numbersEnd f) m c p
     (passed-on fields (checked body (taken c)) (field-others (okOf f) (cells f) 2 m) (sym (checked-append fields body (taken c)) ∙ g))
@@ -182,7 +183,7 @@ write-zeroed : (f : Form) (d : List ℕ) (have need : ℕ) → Zeroed TEXT (writ
 unfolding writeChecks
 write-zeroed f d have need =
     let values : Checks = valueChecks (okOf f) (cells f) in
-    let limit : Checks = (leb (length (formBytes f d)) most, LIMIT, 0) ∷ [] in
+    let limit : Checks = (leb (length (formBytes f d)) messageMost, LIMIT, 0) ∷ [] in
     let rest : Checks = dataChecks (f .body) d ++ limit in (
       λ _. refl,
       zeroed-append TEXT (values ++ rest) (room have need)

@@ -20,7 +20,8 @@ use Rattle.aerosnap.specs.declared.NewDevice.{NewDevice}
 use Rattle.aerosnap.specs.Content.{Content, contentAt, render, canonical, IsCanonical}
 use Rattle.aerosnap.specs.Adding.{grown}
 use Rattle.aerosnap.specs.Edits.{add, apply, editChecks, editTo, addTo, Call}
-use Rattle.aerosnap.specs.Many.{newDevices, isInside, newItem, newItems, WideNews, Inside, newCalls, further, addNew, RefusedAt, addAll, many}
+use Rattle.aerosnap.specs.Many.{newDevices, isInside, newItem, newItems, Inside, newCalls, further, addNew, RefusedAt, addAll, many}
+use Rattle.aerosnap.proofs.Items.{WideNews}
 use Rattle.aerosnap.proofs.Back.{read-back}
 use Rattle.aerosnap.proofs.AnyOrder.{render-canonical}
 use Rattle.aerosnap.proofs.Together.{wide-table, count-news, part-record, all-refused, all-added, any-table, no-two-tables}

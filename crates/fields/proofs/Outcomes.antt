@@ -27,7 +27,8 @@ use Rattle.fields.specs.declared.Spot.the-variants.{At, Lacks}
 use Rattle.fields.specs.declared.State.{State}
 use Rattle.fields.specs.declared.State.the-variants.{Cpu, Mmu}
 use Rattle.fields.specs.Layout.{rowAt}
-use Rattle.fields.specs.Fields.{rightLength, listedNumbers, rangeChecks, stateChecks, fieldPlace, hasIn, fieldSpot, spotOutcome, bytesAt, fieldChecks, fieldCall, setTo, setChecks, setCall, Changes}
+use Rattle.fields.specs.Fields.{rightLength, listedNumbers, rangeChecks, stateChecks, fieldPlace, hasIn, bytesAt, fieldChecks, fieldCall, setTo, setChecks, setCall, Changes}
+use Rattle.fields.specs.Steps.{fieldSpot, spotOutcome}
 use Rattle.fields.proofs.Table.{Small, small-row, apart}
 
 -- ---- what is asked of a state

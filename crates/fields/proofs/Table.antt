@@ -17,7 +17,7 @@ use Rattle.fields.specs.declared.Row.{Row}
 use Rattle.fields.specs.declared.State.{State}
 use Rattle.fields.specs.declared.State.the-variants.{Cpu, Mmu}
 use Rattle.fields.specs.Layout.{fieldRow, noRow, fieldTable, rowAt}
-use Rattle.fields.specs.Fields.{fieldSpot}
+use Rattle.fields.specs.Steps.{fieldSpot}
 
 -- ---- the code's table
 

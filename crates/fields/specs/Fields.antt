@@ -13,8 +13,6 @@ use Rattle.wire.specs.Numbers.{leAt}
 use Rattle.wire.specs.Parts.{splice}
 use Rattle.entries.specs.States.{cpuSized, cpuValues, mmuLength}
 use Rattle.fields.specs.declared.Row.{Row}
-use Rattle.fields.specs.declared.Spot.{Spot}
-use Rattle.fields.specs.declared.Spot.the-variants.{At, Lacks}
 use Rattle.fields.specs.declared.State.{State}
 use Rattle.fields.specs.declared.State.the-variants.{Cpu, Mmu}
 use Rattle.fields.specs.Layout.{rowAt}
@@ -47,15 +45,6 @@ fieldPlace r i = r .at + i * r .step
 -- a state of so many bytes has the field with that index
 abbrev pub hasIn : Row → ℕ → ℕ → Bool
 hasIn r i len = ltb i (r .count) && leb (fieldPlace r i + r .width) len
-
--- its place and its bytes, or the refusal of one that the state lacks
-abbrev pub fieldSpot : Row → ℕ → ℕ → Outcome (ℕ × ℕ)
-fieldSpot r i len = checked ((hasIn r i len, SHAPE, 0) ∷ []) (taken (fieldPlace r i, r .width))
-
--- the outcome that the code's own answer stands for
-abbrev pub spotOutcome : Spot → Outcome (ℕ × ℕ)
-spotOutcome (At at w) = taken (at, w)
-spotOutcome Lacks = refused SHAPE 0
 
 -- ---- reading: the length, the field, then the values; ROOM last
 

@@ -105,10 +105,6 @@ abbrev pub breadth : List LayoutPart → ℕ
 breadth [] = 0
 breadth (p ∷ l) = width p + breadth l
 
-abbrev pub layoutSize : Layout → ℕ
-layoutSize [] = 0
-layoutSize (g ∷ l) = g .0 * breadth (g .1) + layoutSize l
-
 -- a field: where its first stands, its bytes, how many there are, and from one to the next
 abbrev pub fieldRow : ℕ → ℕ → ℕ → ℕ → Row
 fieldRow at width count step = record { at = at; width = width; count = count; step = step }
@@ -124,18 +120,6 @@ rowsOf at count step (fixed w a ∷ l) = rowsOf (at + w) count step l
 abbrev pub fieldRows : ℕ → Layout → List Row
 fieldRows at [] = []
 fieldRows at (g ∷ l) = rowsOf at (g .0) (breadth (g .1)) (g .1) ++ fieldRows (at + g .0 * breadth (g .1)) l
-
--- the listed numbers: the offset, how many bytes, the least and the greatest
-abbrev pub rangesOf : ℕ → List LayoutPart → List (ℕ × ℕ × ℕ × ℕ)
-rangesOf at [] = []
-rangesOf at (free w ∷ l) = rangesOf (at + w) l
-rangesOf at (ranged w a b ∷ l) = (at, w, a, b) ∷ rangesOf (at + w) l
-rangesOf at (fixed w a ∷ l) = (at, w, a, a) ∷ rangesOf (at + w) l
-
--- those of a layout that has them in groups of one
-abbrev pub ranges : ℕ → Layout → List (ℕ × ℕ × ℕ × ℕ)
-ranges at [] = []
-ranges at (g ∷ l) = rangesOf at (g .1) ++ ranges (at + g .0 * breadth (g .1)) l
 
 -- the table of fields of a kind of state
 abbrev pub fieldTable : State → List Row

@@ -12,7 +12,8 @@ ghost use Rattle.answer.specs.Calls.{testOf, asked, Writes};
 ghost use Rattle.wire.specs.Parts.{splice};
 ghost use Rattle.fields.specs.declared.State.the-variants.{Cpu, Mmu};
 ghost use Rattle.fields.specs.Layout.{rowAt};
-ghost use Rattle.fields.specs.Fields.{rightLength, stateChecks, fieldSpot, spotOutcome, fieldCall, setCall, Changes};
+ghost use Rattle.fields.specs.Fields.{rightLength, stateChecks, fieldCall, setCall, Changes};
+ghost use Rattle.fields.specs.Steps.{fieldSpot, spotOutcome};
 
 // The kinds of state.
 pub enum State {

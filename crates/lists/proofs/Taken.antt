@@ -13,10 +13,10 @@ use Rattle.wire.specs.Numbers.{leAt}
 use Rattle.format.specs.Format.{Is}
 use Rattle.format.proofs.Meaning.{complete}
 use Rattle.order.specs.Keyed.{weigh, sort, Apart}
-use Rattle.order.specs.Entries.{join, startsFrom, split, SelfDelimiting}
+use Rattle.order.specs.Entries.{join, startsFrom, split}
+use Rattle.order.proofs.Entries.{SelfDelimiting, split-join, length-join}
 use Rattle.order.proofs.Keys.{apart-same}
 use Rattle.order.proofs.Sorts.{inserts-sort}
-use Rattle.order.proofs.Entries.{split-join, length-join}
 use Rattle.entries.specs.Kinds.{Description}
 use Rattle.lists.specs.Lists.{keyAt, walk, countChecks, listAt, widthOf, entries, tailOf, IsList}
 use Rattle.entries.proofs.Lawful.{Lawful}

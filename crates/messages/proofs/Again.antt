@@ -22,7 +22,7 @@ use Rattle.kinds.specs.declared.Body.the-variants.{Empty, Bytes, Text}
 use Rattle.kinds.specs.declared.Cell.{Cell}
 use Rattle.kinds.specs.Kinds.{paper, cells, okOf}
 use Rattle.messages.specs.Fields.{fieldWidth, sizeOf, numbersAt, messageAt}
-use Rattle.messages.specs.Reading.{most, cellChecks, dataLength, dataFits, dataIn, leftOver, bodyChecks, numbersEnd, readChecks, MessageAndData, messageContent, readMessage}
+use Rattle.messages.specs.Reading.{messageMost, cellChecks, dataLength, dataFits, dataIn, leftOver, bodyChecks, numbersEnd, readChecks, MessageAndData, messageContent, readMessage}
 use Rattle.messages.specs.Writing.{fieldBytes, withLength, bodyBytes, formBytes, valueChecks, dataChecks, writeChecks, written}
 use Rattle.messages.proofs.Cells.{fieldsIn, numbersIn, Fit, Typed, widths}
 use Rattle.messages.proofs.Table.{row}
@@ -117,7 +117,7 @@ written-read m c y e =
     let g = kept (f .body) k at m y (q .1) in
     let b : formBytes f d ≡ m =
     rw (g .bytes, s .bytes, ← drop-drop (sizeOf ok (cells f)) 2 m, take-append-drop (sizeOf ok (cells f)) (drop 2 m), r .tag, bytesOf-leAt 2 m 0 y two) (take-append-drop 2 m) in
-    let l : (leb (length (formBytes f d)) most) ≡ true = rw b (p .0) in
+    let l : (leb (length (formBytes f d)) messageMost) ≡ true = rw b (p .0) in
     let v : Pass (writeChecks f d) = (p .1 .1 .0, pass-append (valueChecks ok (cells f)) _ (s .values) (pass-append (dataChecks (f .body) d) _ (g .contents) (l, tt))) in
     let n = content-message k (f .body) at m in
     rw (← taken-is (h .1)) (record { typed = rw n (stand-typed ok (cells f) 2 m y (r .stand)); passes = rw n v; bytes = rw n b })

@@ -22,7 +22,7 @@ use Rattle.kinds.specs.declared.Cell.{Cell}
 use Rattle.kinds.specs.declared.Form.{Form}
 use Rattle.kinds.specs.Kinds.{paper, cells, okOf}
 use Rattle.messages.specs.Fields.{fieldWidth, numbersAt, messageAt}
-use Rattle.messages.specs.Reading.{most, cellChecks, dataLength, dataFits, dataIn, leftOver, bodyChecks, numbersEnd, readChecks, MessageAndData, messageContent, readMessage}
+use Rattle.messages.specs.Reading.{messageMost, cellChecks, dataLength, dataFits, dataIn, leftOver, bodyChecks, numbersEnd, readChecks, MessageAndData, messageContent, readMessage}
 use Rattle.messages.specs.Writing.{fieldBytes, withLength, bodyBytes, formBytes, valueChecks, dataChecks, writeChecks, written}
 use Rattle.messages.proofs.Cells.{fieldsIn, numbersIn, Fit, Allowed, Typed, widths}
 use Rattle.messages.proofs.Table.{found}
@@ -117,17 +117,17 @@ pub record Writable (f : Form) (d : List ℕ) : Type 0 where
   pub known : f .known ≡ true
   pub values : Allowed (okOf f) (cells f)
   pub contents : Pass (dataChecks (f .body) d)
-  pub short : length (formBytes f d) ≤ most
+  pub short : length (formBytes f d) ≤ messageMost
 
 pub writable : (f : Form) (d : List ℕ) → Pass (writeChecks f d) → Writable f d
 unfolding writeChecks
 writable f d h =
-    let l : Checks = (leb (length (formBytes f d)) most, LIMIT, 0) ∷ [] in
+    let l : Checks = (leb (length (formBytes f d)) messageMost, LIMIT, 0) ∷ [] in
     let v = append-pass (valueChecks (okOf f) (cells f)) (dataChecks (f .body) d ++ l) (h .1) in
     let c = append-pass (dataChecks (f .body) d) l (v .1) in
-    record { known = h .0; values = values-allowed (okOf f) (cells f) (v .0); contents = c .0; short = leb-true (length (formBytes f d)) most (c .1 .0) }
+    record { known = h .0; values = values-allowed (okOf f) (cells f) (v .0); contents = c .0; short = leb-true (length (formBytes f d)) messageMost (c .1 .0) }
 
-data-short : (b : Body) (d : List ℕ) → Pass (dataChecks b d) → length (bodyBytes b d) ≤ most → length d < 256 ^ 4
+data-short : (b : Body) (d : List ℕ) → Pass (dataChecks b d) → length (bodyBytes b d) ≤ messageMost → length d < 256 ^ 4
 data-short Empty d c h = omega (arith, leb-true (length d) 0 (c .0))
 data-short Bytes d c h = omega (arith, length-sized d)
 data-short Text d c h = omega (arith, length-sized d)
@@ -156,5 +156,5 @@ read-written k d y w =
     let s : messageAt m ≡ k = g .said m (h .known) (leAt-behind [] (q ++ bodyBytes (f .body) d) 2 (f .tag) 0 refl (g .tag)) (b .numbers) in
     let u : numbersEnd f ≡ length (t ++ q) = rw length-append (omega (arith, length-fields ok (cells f))) in
     let r = body-back (f .body) k d (t ++ q) m (numbersEnd f) (h .contents) (sym (append-assoc t q (bodyBytes (f .body) d))) u (data-short (f .body) d (h .contents) (omega (arith, h .short))) in
-    let v : Pass (readChecks f m) = (le-leb (length m) most (h .short), (le-leb 2 (length m) (omega arith), (h .known, pass-append (cellChecks ok (cells f) 2 m) (bodyChecks (f .body) (numbersEnd f) m) (b .passes) (r .passes)))) in
+    let v : Pass (readChecks f m) = (le-leb (length m) messageMost (h .short), (le-leb 2 (length m) (omega arith), (h .known, pass-append (cellChecks ok (cells f) 2 m) (bodyChecks (f .body) (numbersEnd f) m) (b .passes) (r .passes)))) in
     record { reads = rw s (pass-checked (readChecks f m) _ v ∙ ap taken (r .content)); bytes = r .bytes }

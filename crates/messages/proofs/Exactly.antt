@@ -14,7 +14,7 @@ use Rattle.wire.specs.Numbers.{Bytes, leAt}
 use Rattle.kinds.specs.declared.Message.{Message}
 use Rattle.kinds.specs.Kinds.{paper, kinds}
 use Rattle.messages.proofs.Tags.{Missing, unknown}
-use Rattle.messages.specs.Reading.{most, MessageAndData, readChecks, readMessage}
+use Rattle.messages.specs.Reading.{messageMost, MessageAndData, readChecks, readMessage}
 use Rattle.messages.specs.Writing.{writeChecks, written, writeMessage}
 use Rattle.messages.proofs.Cells.{Typed}
 use Rattle.messages.proofs.Back.{told, read-written}
@@ -23,9 +23,9 @@ use Rattle.messages.proofs.Again.{dataOf, written-read}
 -- ---- tags
 
 -- a tag that the table has not is TAG, whatever stands behind it
-pub unknown-tag : (m : List ℕ) → length m ≤ most → 2 ≤ length m → Missing kinds (leAt 2 m 0) → readMessage m ≡ refused TAG 0
+pub unknown-tag : (m : List ℕ) → length m ≤ messageMost → 2 ≤ length m → Missing kinds (leAt 2 m 0) → readMessage m ≡ refused TAG 0
 unfolding readMessage readChecks paper
-unknown-tag m h g t = rw (unknown (leAt 2 m 0) m refl t, le-leb (length m) most h, le-leb 2 (length m) g)
+unknown-tag m h g t = rw (unknown (leAt 2 m 0) m refl t, le-leb (length m) messageMost h, le-leb 2 (length m) g)
 
 -- ---- numbers
 

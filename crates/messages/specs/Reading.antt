@@ -20,8 +20,8 @@ use Rattle.kinds.specs.Kinds.{paper, cells, okOf}
 use Rattle.messages.specs.Fields.{fieldWidth, allowed, sizeOf, messageAt}
 
 -- the longest message
-abbrev pub most : ℕ
-most = 65536
+abbrev pub messageMost : ℕ
+messageMost = 65536
 
 -- each field in order: that it fits, then its value
 unfoldable pub cellChecks : ℕ → List Cell → ℕ → List ℕ → Checks
@@ -56,7 +56,7 @@ numbersEnd f = 2 + sizeOf (okOf f) (cells f)
 -- LIMIT, SHAPE of the tag, TAG, the fields in order, the data, TEXT, left over
 unfoldable pub readChecks : Form → List ℕ → Checks
 readChecks f m =
-    (leb (length m) most, LIMIT, 0)
+    (leb (length m) messageMost, LIMIT, 0)
     ∷ (leb 2 (length m), SHAPE, 0)
     ∷ (f .known, TAG, 0)
     ∷ (cellChecks (okOf f) (cells f) 2 m ++ bodyChecks (f .body) (numbersEnd f) m)

@@ -16,7 +16,7 @@ use Rattle.kinds.specs.declared.Cell.{Cell}
 use Rattle.kinds.specs.declared.Form.{Form}
 use Rattle.kinds.specs.Kinds.{paper, cells, okOf}
 use Rattle.messages.specs.Fields.{fieldWidth, allowed}
-use Rattle.messages.specs.Reading.{most}
+use Rattle.messages.specs.Reading.{messageMost}
 
 -- ---- the bytes: tag, fields in order, and for data its length and itself
 
@@ -52,7 +52,7 @@ dataChecks Text d = (isText d, TEXT, 0) ∷ []
 unfoldable pub writeChecks : Form → List ℕ → Checks
 writeChecks f d =
     (f .known, VALUE, 0)
-    ∷ (valueChecks (okOf f) (cells f) ++ (dataChecks (f .body) d ++ (leb (length (formBytes f d)) most, LIMIT, 0) ∷ []))
+    ∷ (valueChecks (okOf f) (cells f) ++ (dataChecks (f .body) d ++ (leb (length (formBytes f d)) messageMost, LIMIT, 0) ∷ []))
 
 -- the bytes of a message with its data
 unfoldable pub written : Message → List ℕ → List ℕ

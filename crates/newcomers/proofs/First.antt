@@ -20,7 +20,8 @@ use Rattle.entries.specs.Kinds.{devices}
 use Rattle.aerosnap.specs.declared.NewDevice.{NewDevice}
 use Rattle.aerosnap.specs.Content.{Content, contentAt}
 use Rattle.aerosnap.specs.Adding.{grown, deviceEntries}
-use Rattle.aerosnap.specs.Many.{newDeviceAt, newDevicesFrom, newDevices, newItems, WideNews, further, addNew, addEach, addAll}
+use Rattle.aerosnap.specs.Many.{newDeviceAt, newDevicesFrom, newDevices, newItems, further, addNew, addEach, addAll}
+use Rattle.aerosnap.proofs.Items.{WideNews}
 use Rattle.aerosnap.proofs.Counted.{all-taken}
 use Rattle.aerosnap.proofs.Merging.{newEntry, news-devices}
 use Rattle.cards.specs.declared.Card.{Card}

@@ -1,4 +1,4 @@
--- What the private functions of this crate say to each other; no caller needs it.
+-- For contracts of private functions: what they say to each other.
 -- Assumes nothing.
 use mathlib.Core.List.{List, [], _∷_}
 use mathlib.Core.Bool.{Bool, cond, _&&_}

@@ -5,8 +5,27 @@ use mathlib.Core.List.{List, [], _∷_, _++_, List·Permᴰ, List·Permᴰ·nil,
 use Prim.Native.Nat.{ℕ, _≤_}
 use native.Mathlib.Omega.{arith}
 use Rattle.order.specs.Keyed.{puts}
-use Rattle.order.specs.Adding.{Chain, items, Roomy, AddLaws}
+use Rattle.order.specs.Adding.{Chain, items, Roomy}
 use Rattle.order.proofs.Perms.{perm-cancel}
+
+-- What an add is: `put` puts the item in, `May x s` says that nothing but a bound or the room can refuse `x` at `s`,
+-- `Apart x y` that neither stands in the other's way, `Fits s` that `s` is within its bounds; `size s` is the room that
+-- `s` takes and `held s` the items in it.
+pub record AddLaws {S X : Type 0} (Step : ℕ → S → X → S → Type 0) (put : X → S → S) (May : X → S → Type 0) (Apart : X → X → Type 0)
+    (Fits : S → Type 0) (size : S → ℕ) (held : S → List X) : Type 0 where
+  -- when an add is accepted, and what it gives
+  pub checks : (r : ℕ) (s : S) (x : X) (u : S) → Step r s x u → (u ≡ put x s) × May x s × Fits (put x s)
+  pub accepts : (r : ℕ) (s : S) (x : X) → May x s → Fits (put x s) → size (put x s) ≤ r → Step r s x (put x s)
+  -- items do not stand in each other's way, whichever comes first
+  pub apart-sym : (x y : X) → Apart x y → Apart y x
+  pub may-put : (x y : X) (s : S) → May y (put x s) → May y s × Apart x y
+  pub put-may : (x y : X) (s : S) → May y s → Apart x y → May y (put x s)
+  pub comm : (x y : X) (s : S) → Apart x y → put x (put y s) ≡ put y (put x s)
+  -- bounds only tighten
+  pub fits-down : (x : X) (s : S) → Fits (put x s) → Fits s
+  pub size-up : (x : X) (s : S) → size s ≤ size (put x s)
+  -- the item is held then, and all that was held before
+  pub held-put : (x : X) (s : S) → May x s → List·Permᴰ (held (put x s)) (x ∷ held s)
 
 module _ {S X : Type 0} (put : X → S → S) (May : X → S → Type 0) (Fits : S → Type 0) where
   -- the account with no rooms: each item may be put in its turn, and the last state fits

@@ -7,8 +7,18 @@ use native.Mathlib.Omega.{arith}
 use lib.ListN.{length, drop}
 use lib.Seq.{take-append-seam, drop-append-seam}
 use Rattle.order.specs.Keyed.{weigh, Every}
-use Rattle.order.specs.Entries.{join, first, split, parts, SelfDelimiting}
+use Rattle.order.specs.Entries.{join, first, split}
 use Rattle.order.proofs.Folds.{flat-append, length-flat}
+
+-- the entries up to the end of `b`, at most `n`, where `width b` is the length of the entry that `b` begins with
+unfoldable pub parts : (List ℕ → ℕ) → ℕ → List ℕ → List (List ℕ)
+parts width zero b = []
+parts width (suc n) [] = []
+parts width (suc n) (c ∷ b) = first width (c ∷ b) ∷ parts width n (drop (width (c ∷ b)) (c ∷ b))
+
+-- `width` sees nothing past an entry
+pub record SelfDelimiting (width : List ℕ → ℕ) (Is : List ℕ → Type 0) : Type 0 where
+  pub measured : (e rest : List ℕ) → Is e → width (e ++ rest) ≡ length e
 
 pub join-append : (l m : List (List ℕ)) → join (l ++ m) ≡ join l ++ join m
 join-append = flat-append (λ e. e)

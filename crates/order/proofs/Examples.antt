@@ -8,10 +8,11 @@ use Prim.Native.Nat.{ℕ, suc, _+_, _*_, _≤_}
 use native.Mathlib.Omega.{arith}
 use lib.ListN.{length, getD}
 use Rattle.order.specs.Keyed.{insert, inserts, sort, has, Fresh}
-use Rattle.order.specs.Entries.{join, startsFrom, split, parts}
-use Rattle.order.specs.Adding.{Chain, AddLaws}
+use Rattle.order.specs.Entries.{join, startsFrom, split}
+use Rattle.order.proofs.Entries.{parts}
+use Rattle.order.specs.Adding.{Chain}
+use Rattle.order.proofs.Adding.{AddLaws, any-order}
 use Rattle.order.proofs.Inserts.{insert-perm, insert-comm, length-insert, every-insert, insert-every}
-use Rattle.order.proofs.Adding.{any-order}
 
 -- an entry: its key and its payload
 abbrev Entry : Type 0

@@ -5,8 +5,8 @@ use mathlib.Core.List.{List, [], _∷_, _++_, List·Permᴰ, Perm}
 use Prim.Native.Nat.{ℕ}
 use lib.ListN.{length}
 use Rattle.order.specs.Keyed.{puts}
-use Rattle.order.specs.Adding.{Chain, items, Roomy, AddLaws}
-use Rattle.order.proofs.Adding.{any-order, no-two-sets, holds}
+use Rattle.order.specs.Adding.{Chain, items, Roomy}
+use Rattle.order.proofs.Adding.{AddLaws, any-order, no-two-sets, holds}
 
 -- What writing is: `Canon s` says that `render s` is a file that is taken and in order; `FileStep r b x d`, that with room `r`
 -- adding `x` to the file `b` is accepted and gives the file `d`.

@@ -5,7 +5,12 @@ use mathlib.Core.List.{List, [], _∷_, _++_, map, append-assoc}
 use Prim.Native.Nat.{ℕ, _+_, min}
 use native.Mathlib.Omega.{arith}
 use lib.ListN.{length, length-append}
-use Rattle.order.specs.Keyed.{weigh, present, Every, flat}
+use Rattle.order.specs.Keyed.{weigh, Every, flat}
+
+-- 1 for a list with an entry, 0 for the empty one
+abbrev pub present : {E : Type 0} → List E → ℕ
+present [] = 0
+present (x ∷ l) = 1
 
 module _ {E : Type 0} where
   pub weigh-append : (w : E → ℕ) (l m : List E) → weigh w (l ++ m) ≡ weigh w l + weigh w m

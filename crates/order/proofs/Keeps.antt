@@ -8,9 +8,9 @@ use Prim.Native.Nat.{ℕ, _<_}
 use native.Mathlib.Omega.{arith}
 use lib.Dec.{eqb}
 use borrow.Author.Tests.{eqb-true, eq-eqb, ne-eqb}
-use Rattle.order.specs.Keyed.{Every, flat, keep, insert, Up}
+use Rattle.order.specs.Keyed.{Every, flat, keep, insert}
+use Rattle.order.proofs.Keys.{Up, side, up-every}
 use Rattle.order.proofs.Folds.{every-all, every-imp, every-flat, flat-append}
-use Rattle.order.proofs.Keys.{side, up-every}
 use Rattle.order.proofs.Inserts.{insert-nil, insert-le, insert-gt}
 
 module _ {E : Type 0} (p : E → Bool) where

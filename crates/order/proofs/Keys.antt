@@ -8,8 +8,13 @@ use Prim.Native.Nat.{ℕ, suc, _≤_, _<_}
 use native.Mathlib.Omega.{arith}
 use lib.Dec.{leb, eqb}
 use borrow.Author.Tests.{leb-true, leb-false, eqb-false, ne-eqb}
-use Rattle.order.specs.Keyed.{Every, has, Fresh, Apart, Up, Asc}
+use Rattle.order.specs.Keyed.{Every, has, Fresh, Apart, Asc}
 use Rattle.order.proofs.Folds.{every-imp, every-map, map-every}
+
+-- ascending, all keys at least `n`; a key may come again
+abbrev pub Up : {E : Type 0} → (E → ℕ) → ℕ → List E → Type 0
+Up key n [] = Unit {0}
+Up key n (x ∷ l) = (n ≤ key x) × Up key (key x) l
 
 -- which of two numbers is below the other
 pub side : (m n : ℕ) → (m ≤ n) ⊎ (n < m)

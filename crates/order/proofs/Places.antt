@@ -8,8 +8,8 @@ use native.Mathlib.Omega.{arith}
 use lib.Dec.{eqb}
 use lib.ListN.{length, take, drop, getD}
 use borrow.Author.Tests.{eq-eqb}
-use Rattle.order.specs.Keyed.{Every, insert, has, Up}
-use Rattle.order.proofs.Keys.{up-every}
+use Rattle.order.specs.Keyed.{Every, insert, has}
+use Rattle.order.proofs.Keys.{Up, up-every}
 use Rattle.order.proofs.Inserts.{insert-nil, insert-le, insert-gt}
 
 module _ {E : Type 0} (d : E) where

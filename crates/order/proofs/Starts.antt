@@ -7,9 +7,9 @@ use native.Mathlib.Omega.{arith}
 use lib.ListN.{length, drop, length-append, length-drop}
 use lib.Seq.{drop-drop, drop-append-seam}
 use Rattle.order.specs.Keyed.{Every, sort}
-use Rattle.order.specs.Entries.{join, startsFrom, first, SelfDelimiting}
+use Rattle.order.specs.Entries.{join, startsFrom, first}
+use Rattle.order.proofs.Entries.{SelfDelimiting, first-append}
 use Rattle.order.proofs.Sorts.{map-sort}
-use Rattle.order.proofs.Entries.{first-append}
 
 pub length-starts : (at : ℕ) (l : List (List ℕ)) → length (startsFrom at l) ≡ length l
 length-starts at [] = refl

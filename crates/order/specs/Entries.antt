@@ -1,7 +1,6 @@
 -- Entries that stand one after another in a list of bytes, each of which says its own length.
 -- Assumes nothing.
-use mathlib.Core.Path.{_≡_}
-use mathlib.Core.List.{List, [], _∷_, _++_}
+use mathlib.Core.List.{List, [], _∷_}
 use Prim.Native.Nat.{ℕ, zero, suc, _+_}
 use lib.ListN.{length, take, drop}
 use Rattle.order.specs.Keyed.{flat}
@@ -25,13 +24,3 @@ module _ (width : List ℕ → ℕ) where
   unfoldable pub split : ℕ → List ℕ → List (List ℕ)
   split zero b = []
   split (suc n) b = first b ∷ split n (drop (width b) b)
-
-  -- the entries up to the end of `b`, at most `n`
-  unfoldable pub parts : ℕ → List ℕ → List (List ℕ)
-  parts zero b = []
-  parts (suc n) [] = []
-  parts (suc n) (c ∷ b) = first (c ∷ b) ∷ parts n (drop (width (c ∷ b)) (c ∷ b))
-
--- `width` sees nothing past an entry
-pub record SelfDelimiting (width : List ℕ → ℕ) (Is : List ℕ → Type 0) : Type 0 where
-  pub measured : (e rest : List ℕ) → Is e → width (e ++ rest) ≡ length e

@@ -18,11 +18,14 @@ ghost use Rattle.answer.specs.Calls.{pieceOf, testOf};
 ghost use Rattle.format.specs.Format.{option, pair, bytes, text};
 ghost use Rattle.format.specs.Places.{readAt};
 ghost use Rattle.lists.specs.Promises.{Indexed};
-ghost use Rattle.aerosnap.specs.Payloads.{metaForm, meta, mmu, payload};
+ghost use Rattle.aerosnap.specs.Payloads.{labelMost, metaForm, meta, mmu, payload};
 ghost use Rattle.aerosnap.specs.File.{fileMost};
 ghost use Rattle.payloads.specs.Starts.{keptOf};
 
 // ---- META
+
+// The bound of its label.
+const LABEL_MOST: u32 = 4096;
 
 fn parent_at(s: &[u8], at: usize) -> Piece
     ensures { λ r. ⌜ pieceOf r ≡ readAt (option (bytes 8)) (now (s .entry)) at ⌝ }
@@ -35,18 +38,18 @@ fn parent_at(s: &[u8], at: usize) -> Piece
 }
 
 fn label_at(s: &[u8], at: usize) -> Piece
-    ensures { λ r. ⌜ pieceOf r ≡ readAt (option (text 4096)) (now (s .entry)) at ⌝ }
+    ensures { λ r. ⌜ pieceOf r ≡ readAt (option (text labelMost)) (now (s .entry)) at ⌝ }
 {
     match flag_at(s, at) {
         Flag::Bad(number, place) => Piece::Stop(number, place),
         Flag::Absent => Piece::Ends(at + 1),
-        Flag::Present => text_at(s, at + 1, 4096),
+        Flag::Present => text_at(s, at + 1, LABEL_MOST),
     }
 }
 
 // The time and the label.
 fn time_at(s: &[u8], at: usize) -> Piece
-    ensures { λ r. ⌜ pieceOf r ≡ readAt (pair (bytes 8) (option (text 4096))) (now (s .entry)) at ⌝ }
+    ensures { λ r. ⌜ pieceOf r ≡ readAt (pair (bytes 8) (option (text labelMost))) (now (s .entry)) at ⌝ }
 {
     match block_at(s, at, 8) {
         Piece::Stop(number, place) => Piece::Stop(number, place),
@@ -56,7 +59,7 @@ fn time_at(s: &[u8], at: usize) -> Piece
 
 // The parent, the time and the label.
 fn since_at(s: &[u8], at: usize) -> Piece
-    ensures { λ r. ⌜ pieceOf r ≡ readAt (pair (option (bytes 8)) (pair (bytes 8) (option (text 4096)))) (now (s .entry)) at ⌝ }
+    ensures { λ r. ⌜ pieceOf r ≡ readAt (pair (option (bytes 8)) (pair (bytes 8) (option (text labelMost)))) (now (s .entry)) at ⌝ }
 {
     match parent_at(s, at) {
         Piece::Stop(number, place) => Piece::Stop(number, place),

@@ -1,4 +1,4 @@
--- What the parts of the code ask and give: the payload of a section by the table of sections, a list walked by its entries' lengths, and the list of what is missing.
+-- For contracts of private functions: the payload of a section by the table of sections, a list walked by its entries' lengths, and the list of what is missing.
 -- Assumes nothing.
 use mathlib.Core.Path.{_≡_}
 use mathlib.Core.List.{List, [], _∷_, _++_, map}

@@ -16,7 +16,7 @@ use Rattle.wire.specs.Numbers.{leAt}
 use Rattle.region.specs.declared.Ring.{Ring}
 use Rattle.region.specs.Region.{countOf, offsetOf, capacityOf, endOf, ringAt, isCapacity, regionHeaderChecks, apartCheck, descriptorChecks, cursorChecks, ringChecks, tableChecks, regionChecks, queueChecks}
 use Rattle.region.specs.Valid.{Consistent, Power, Queue, Apart, Valid}
-use Rattle.region.specs.Inside.{Right}
+use Rattle.region.specs.Steps.{Right}
 use Rattle.answer.proofs.Each.{each-pass, pass-each}
 
 -- ---- a capacity

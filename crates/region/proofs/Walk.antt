@@ -16,7 +16,7 @@ use Rattle.wire.specs.Numbers.{leAt}
 use Rattle.region.specs.declared.Ring.{Ring}
 use Rattle.region.specs.Region.{countOf, offsetOf, capacityOf, ringAt, isCapacity, regionHeaderChecks, cursorChecks}
 use Rattle.region.specs.Valid.{Queue, Apart}
-use Rattle.region.specs.Inside.{Below, Beside, Clear, Further, Right}
+use Rattle.region.specs.Steps.{Below, Beside, Clear, Further, Right}
 use Rattle.region.proofs.Taken.{capacity-power, pass-cursors}
 
 -- what says no promises nothing

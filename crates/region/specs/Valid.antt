@@ -7,7 +7,7 @@ use Prim.Native.Nat.{ℕ, _+_, _*_, _%_, _^_, _≤_, _<_}
 use lib.ListN.{length}
 use Rattle.wire.specs.Numbers.{leAt}
 use Rattle.region.specs.declared.Ring.{Ring}
-use Rattle.region.specs.Region.{ahead, countOf, offsetOf, capacityOf, endOf, ringAt}
+use Rattle.region.specs.Region.{ahead, countOf, offsetOf, capacityOf, endOf, ringAt, queuesMost}
 
 -- a ring's header, its descriptor's capacity being cap
 pub record Consistent (r : Ring) (cap : ℕ) : Type 0 where
@@ -42,7 +42,7 @@ pub record Valid (b : List ℕ) : Type 0 where
   pub magic : leAt 4 b 0 ≡ 0x43504941
   pub version : leAt 4 b 4 ≡ 1
   pub total : leAt 4 b 8 ≡ length b
-  pub few : countOf b ≤ 64
+  pub few : countOf b ≤ queuesMost
   pub table : 16 + 16 * countOf b ≤ length b
   pub queues : (i : ℕ) → i < countOf b → Queue b i
   pub apart : (i j : ℕ) → j < i → i < countOf b → Apart b i j

@@ -16,7 +16,7 @@ ghost use Rattle.wire.specs.Numbers.{leAt};
 ghost use Rattle.region.specs.Region.{countOf, offsetOf, capacityOf, endOf, ringAt, isCapacity, regionHeaderChecks, apartCheck, descriptorChecks, cursorChecks, ringChecks, tableChecks, regionChecks, queueChecks};
 ghost use Rattle.region.specs.Region as region;
 ghost use Rattle.region.specs.Valid.{Valid};
-ghost use Rattle.region.specs.Inside.{Below, Beside, Clear, Reached, Further, Right};
+ghost use Rattle.region.specs.Steps.{Below, Beside, Clear, Reached, Further, Right};
 ghost use Rattle.region.specs.Report.{signedOf, asCursors, reportCall};
 
 // The header of a ring: its cursors and its capacity.
@@ -38,6 +38,9 @@ pub struct Cursors {
 
 // The letters `AIPC`, as the number that they are in the region.
 const AIPC: u32 = 0x43504941;
+
+// The bound of its queues.
+const QUEUES_MOST: u32 = 64;
 
 // How far cursor b is ahead of a. It wraps on purpose.
 pub fn ahead(a: u32, b: u32) -> u32
@@ -153,7 +156,7 @@ fn header(s: &[u8]) -> Test
         return Test::Fault(REGION, 8);
     }
     let count = u32_at(s, 12);
-    if 64 < count {
+    if QUEUES_MOST < count {
         return Test::Fault(REGION, 12);
     }
     if s.len() < 16 + 16 * (count as usize) {

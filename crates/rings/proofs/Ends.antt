@@ -18,7 +18,7 @@ use Rattle.region.proofs.Taken.{pass-queues, queue-pass}
 use Rattle.rings.specs.Records.{advanced}
 use Rattle.rings.specs.Calls.{Stores, stored, count, regionAfter, Leaves, reserveIn, reserveCall, fillIn, fillCall, commitIn, commitCall, skipAt, takeFrom, takeIn, takeCall}
 use Rattle.rings.proofs.Capacity.{Capacity, wraps}
-use Rattle.rings.specs.Sound.{Sound}
+use Rattle.rings.specs.Steps.{Sound}
 
 module _ {A : Type 0} {R : Type 0} (f : Outcome (Stores × A) → R) (b : List ℕ) {o : Outcome (Stores × A)} {r : R} where
   pub end-refused : {n p : ℕ} → o ≡ refused n p → r ≡ f (refused n p) → Leaves f o b r b

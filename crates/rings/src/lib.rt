@@ -20,7 +20,7 @@ ghost use Rattle.region.specs.Region.{ringAt};
 ghost use Rattle.region.specs.Valid.{Consistent, Power};
 ghost use Rattle.rings.specs.Records.{recordSize, skip, need, ringRecord};
 ghost use Rattle.rings.specs.Calls.{stored, count, asAnswer, asPair, asRecord, Leaves, reserveChecks, reserveIn, reserveCall, fillChecks, fillStores, fillIn, fillCall, commitChecks, commitIn, commitCall, skipAt, takeChecks, takeFrom, takeIn, takeCall};
-ghost use Rattle.rings.specs.Sound.{Sound, Fillable};
+ghost use Rattle.rings.specs.Steps.{Sound, Fillable};
 
 // The start and the end of a reserved pair.
 #[repr(C)]

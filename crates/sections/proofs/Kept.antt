@@ -23,11 +23,11 @@ use Rattle.lists.proofs.Ordered.{index-length}
 use Rattle.entries.specs.Kinds.{Description, devices, disks, cpus, mmus}
 use Rattle.entries.proofs.Lawful.{Lawful}
 use Rattle.aerosnap.specs.Known.{known, slot}
-use Rattle.aerosnap.specs.Payloads.{Body, meta, cpu, mmu, list, opaque, bodyBy, bodyOf}
+use Rattle.aerosnap.specs.Payloads.{Body, meta, cpu, mmu, list, opaque, knownBodies, bodyOf}
 use Rattle.aerosnap.specs.File.{idOf, versionOf, lengthOf, payloadOf, fileOf}
 use Rattle.aerosnap.specs.Rules.{IsBody, IsSection}
 use Rattle.aerosnap.specs.Content.{isId}
-use Rattle.aerosnap.proofs.Bodies.{Lawfully, lawful-body}
+use Rattle.aerosnap.proofs.Bodies.{body-cases, Lawfully, lawful-body}
 use Rattle.aerosnap.proofs.Copies.{isList}
 use Rattle.aerosnap.proofs.Sections.{id-front, length-front}
 use Rattle.aerosnap.proofs.Slots.{Once, first-once, rest-once}
@@ -74,23 +74,9 @@ kept-all have (e ∷ l) h =
 -- ---- which sections are lists
 
 pub listed-id : (id v : ℕ) → isList (bodyOf id v) ≡ isListId id
-listed-id id v = go (eqb id 4) refl (eqb id 5) refl (eqb id 7) refl (eqb id 8) refl
-  where
-    is : (n : ℕ) → eqb id n ≡ true → isList (bodyOf n v) ≡ true → isList (bodyOf id v) ≡ true
-    is n q r = ap (λ (i : ℕ). isList (bodyOf i v)) (eqb-true id n q) ∙ r
-
-    none-of : (a b c : Bool) → isList (bodyBy a b c false false false false v) ≡ false
-    none-of true b c = refl
-    none-of false true c = refl
-    none-of false false true = refl
-    none-of false false false = refl
-
-    go : (a : Bool) → eqb id 4 ≡ a → (b : Bool) → eqb id 5 ≡ b → (c : Bool) → eqb id 7 ≡ c → (d : Bool) → eqb id 8 ≡ d → isList (bodyOf id v) ≡ (a || b || c || d)
-    go true p b q c r d s = is 4 p refl
-    go false p true q c r d s = is 5 q refl
-    go false p false q true r d s = is 7 r refl
-    go false p false q false r true s = is 8 s refl
-    go false p false q false r false s = rw (p, q, r, s) (none-of (eqb id 1) (eqb id 2) (eqb id 3))
+listed-id id v =
+    body-cases (λ i k. isList k ≡ isListId i) id v knownBodies (refl, (refl, (refl, (refl, (refl, (refl, (refl, tt)))))))
+    (λ n. sym (rw (n .1 .1 .1 .0, n .1 .1 .1 .1 .0, n .1 .1 .1 .1 .1 .0, n .1 .1 .1 .1 .1 .1 .0)))
 
 pub not-list : (id : ℕ) → id ≢ 4 → id ≢ 5 → id ≢ 7 → id ≢ 8 → isListId id ≡ false
 not-list id a b c d = rw (ne-eqb id 4 a, ne-eqb id 5 b, ne-eqb id 7 c, ne-eqb id 8 d)

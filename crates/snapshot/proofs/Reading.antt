@@ -23,7 +23,8 @@ use Rattle.tables.specs.Tables.{ROW, described, rowsIn, rowsAt}
 use Rattle.tables.proofs.Rows.{length-rows, rows-all}
 use Rattle.aerosnap.specs.Payloads.{list, bodyOf}
 use Rattle.aerosnap.specs.File.{idOf, versionOf, fileOf}
-use Rattle.aerosnap.specs.Tables.{placed, tableIn, entryRows, listRows, sectionRows, table, sectionTable, listTable}
+use Rattle.aerosnap.specs.Tables.{placed, tableIn, entryRows, listRows, sectionRows, table, listTable}
+use Rattle.aerosnap.specs.Calls.{sectionsCall}
 use Rattle.aerosnap.proofs.Rows.{sections-length}
 use Rattle.aerosnap.proofs.Taken.{file-sound}
 use Rattle.aerosnap.proofs.Standing.{stand-start, endAt, no-section}
@@ -53,7 +54,7 @@ module _ (s : List ℕ) where
   pub stopped : (rows : List (List ℕ) → List ℕ) (old : List ℕ) {n p : ℕ} → fileOf s ≡ refused n p → Writes (table rows (length old) s) old (record { number = n; place = p }) old
   stopped rows old h = writes-refused (ap (λ (o : Outcome (List (List ℕ))). after o (λ l. fitting (length old) (rows l))) h)
 
-  pub sections-stop : (old : List ℕ) {n p : ℕ} → refused n p ≡ counted (fileOf s) → Writes (sectionTable (length old) s) old (record { number = n; place = p }) old
+  pub sections-stop : (old : List ℕ) {n p : ℕ} → refused n p ≡ counted (fileOf s) → Writes (sectionsCall (length old) s) old (record { number = n; place = p }) old
   sections-stop old h = stopped (sectionRows 16 0) old (made-stop (fileOf s) length h)
 
   pub list-stop : (i : ℕ) (old : List ℕ) {n p : ℕ} → refused n p ≡ spotIn i (fileOf s) → Writes (listTable i (length old) s) old (record { number = n; place = p }) old
@@ -75,7 +76,7 @@ module _ (s : List ℕ) where
   pub bare-table : (i : ℕ) (old : List ℕ) → length s ≤ 16 → {r : Answer} → r ≡ verdict (fileOf s) → Writes (listTable i (length old) s) old r old
   bare-table i old h k = bare-rows (λ l. flat (listRows i) (placed 16 l)) (ap (flat (listRows i)) none-placed) old h k
 
-  pub bare-sections : (old : List ℕ) → length s ≤ 16 → {r : Answer} → r ≡ verdict (fileOf s) → Writes (sectionTable (length old) s) old r old
+  pub bare-sections : (old : List ℕ) → length s ≤ 16 → {r : Answer} → r ≡ verdict (fileOf s) → Writes (sectionsCall (length old) s) old r old
   unfolding sectionRows
   bare-sections old h k = bare-rows (sectionRows 16 0) refl old h k
 
@@ -88,7 +89,7 @@ module _ (s old : List ℕ) {n : ℕ} (h : taken n ≡ counted (fileOf s)) where
   need : length (sectionRows 16 0 (counted-taken (fileOf s) h .0)) ≡ ROW * n
   need = let w = counted-taken (fileOf s) h in sections-length 16 0 (w .0) ∙ ap (λ (k : ℕ). ROW * k) (sym (w .2))
 
-  pub sections-short : length old < ROW * n → Writes (sectionTable (length old) s) old (record { number = ROOM; place = ROW * n }) old
+  pub sections-short : length old < ROW * n → Writes (sectionsCall (length old) s) old (record { number = ROOM; place = ROW * n }) old
   sections-short k =
       let w = counted-taken (fileOf s) h in
       writes-refused (table-of s (sectionRows 16 0) (length old) (w .1) ∙ rw (need, lt-leb (ROW * n) (length old) k))
@@ -97,7 +98,7 @@ module _ (s old : List ℕ) {n : ℕ} (h : taken n ≡ counted (fileOf s)) where
   sections-ready k = let w = counted-taken (fileOf s) h in (w .0, w .1, omega (arith, w .2))
 
   pub sections-done : ROW * n ≤ length old → {new : List ℕ} → ((l : List (List ℕ)) → fileOf s ≡ taken l → Wrote (sectionRows 16 0 l) old new (ROW * length l))
-      → Writes (sectionTable (length old) s) old (record { number = 0; place = ROW * n }) new
+      → Writes (sectionsCall (length old) s) old (record { number = 0; place = ROW * n }) new
   sections-done k {new} so =
       let w = counted-taken (fileOf s) h in
       writes-taken {b = sectionRows 16 0 (w .0)} (table-of s (sectionRows 16 0) (length old) (w .1) ∙ rw (need, le-leb (ROW * n) (length old) k)) (subst (λ (j : ℕ). Wrote (sectionRows 16 0 (w .0)) old new (ROW * j)) (sym (w .2)) (so (w .0) (w .1)))

@@ -1,4 +1,4 @@
--- What the private functions promise each other. Assumes nothing.
+-- For contracts of private functions: what they promise each other. Assumes nothing.
 use Prim.Native.Nat.{ℕ, _≤_}
 use mathlib.Core.Path.{_≡_}
 use mathlib.Core.List.{List, []}

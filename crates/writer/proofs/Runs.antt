@@ -21,8 +21,16 @@ use Rattle.lists.specs.Lists.{widthOf}
 use Rattle.lists.proofs.Taken.{self}
 use Rattle.lists.proofs.Ordered.{index-every}
 use Rattle.writer.specs.Runs.{entryBy, fits}
-use Rattle.writer.specs.Steps.{entryFrom, run, Listed}
+use Rattle.writer.specs.Steps.{Listed}
 use Rattle.writer.proofs.Fits.{fits-all, Fitting, fitting-end}
+
+-- the entry that starts at a place
+abbrev pub entryFrom : Description → List ℕ → ℕ → List ℕ
+entryFrom d s y = first (widthOf d) (drop y s)
+
+-- the entries that start at places, one after another
+abbrev pub run : Description → List ℕ → List ℕ → List ℕ
+run d s l = join (map (entryFrom d s) l)
 
 -- ---- behind what is written
 

@@ -11,10 +11,10 @@ use lib.ListN.{length, drop, getD, drop-of-length-le}
 use lib.Seq.{drop-cons}
 use borrow.Author.Tests.{leb-true, le-leb, lt-leb}
 use Rattle.wire.specs.Numbers.{Bytes}
-use Rattle.order.specs.Keyed.{Up, Apart, sort}
+use Rattle.order.specs.Keyed.{Apart, sort}
+use Rattle.order.proofs.Keys.{Up, up-low, asc-apart}
 use Rattle.order.specs.Entries.{startsFrom}
 use Rattle.order.proofs.Folds.{every-imp}
-use Rattle.order.proofs.Keys.{up-low, asc-apart}
 use Rattle.order.proofs.Sorts.{up-sort, sort-unique}
 use Rattle.order.proofs.Starts.{first-starts}
 use Rattle.entries.specs.Kinds.{Description}
@@ -24,7 +24,8 @@ use Rattle.lists.proofs.Taken.{self, list-sound, list-entries}
 use Rattle.lists.proofs.Ordered.{index-perm, index-asc, list-order}
 use Rattle.lists.proofs.Written.{list-bytes}
 use Rattle.writer.specs.Runs.{inOrderFrom, inOrder}
-use Rattle.writer.specs.Steps.{entryFrom, Listed, sortedBytes}
+use Rattle.writer.specs.Steps.{Listed, sortedBytes}
+use Rattle.writer.proofs.Runs.{entryFrom}
 
 -- ---- the test, start by start: what is left of it from the start with the number i on
 

@@ -1,22 +1,13 @@
 -- For contracts of private functions: a list that is known to be one, and what it is in the order of its keys.
 -- Assumes nothing.
 use mathlib.Core.Path.{_≡_}
-use mathlib.Core.List.{List, _++_, map}
+use mathlib.Core.List.{List, _++_}
 use Prim.Native.Nat.{ℕ, _≤_}
-use lib.ListN.{length, drop}
+use lib.ListN.{length}
 use Rattle.answer.specs.Outcome.{taken}
 use Rattle.order.specs.Keyed.{sort}
-use Rattle.order.specs.Entries.{join, first}
 use Rattle.entries.specs.Kinds.{Description}
-use Rattle.lists.specs.Lists.{listAt, widthOf, entries, tailOf, listBytes, fileMost}
-
--- the entry that starts at a place
-abbrev pub entryFrom : Description → List ℕ → ℕ → List ℕ
-entryFrom d s y = first (widthOf d) (drop y s)
-
--- the entries that start at places, one after another
-abbrev pub run : Description → List ℕ → List ℕ → List ℕ
-run d s l = join (map (entryFrom d s) l)
+use Rattle.lists.specs.Lists.{listAt, entries, tailOf, listBytes, fileMost}
 
 -- s is a list, and l where its entries start, in the order of their keys
 pub record Listed (d : Description) (s l : List ℕ) : Type 0 where

@@ -1,5 +1,5 @@
 use Rattle.region.specs.Region.{countOf}
-use Rattle.region.specs.Inside.{Below, Right}
+use Rattle.region.specs.Steps.{Below, Right}
 use Rattle.region.proofs.Cases.{below-next}
 use Rattle.region.proofs.Walk.{no-promise, right-none, right-next}
 use mathlib.Core.Path.{_≡_}

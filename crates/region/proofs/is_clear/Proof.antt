@@ -1,4 +1,4 @@
-use Rattle.region.specs.Inside.{Clear}
+use Rattle.region.specs.Steps.{Clear}
 use Rattle.region.proofs.Walk.{no-promise, clear-none, clear-next}
 use borrow.Author.Tests.{not-false}
 use mathlib.Core.Path.{_≡_}

@@ -1,4 +1,4 @@
--- What the code asks and tells inside. No public function asks anything.
+-- For contracts of private functions: what the walk over the queues of a region knows.
 -- Assumes nothing.
 use mathlib.Core.Logic.{_⊎_}
 use mathlib.Core.List.{List}

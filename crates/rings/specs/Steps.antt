@@ -1,4 +1,4 @@
--- What the code of the calls asks inside, once the region is found sound. No public function asks anything.
+-- For contracts of private functions: what the code of the calls asks once the region is found sound.
 -- Assumes nothing.
 use mathlib.Core.Path.{_≡_}
 use mathlib.Core.List.{List}
