@@ -30,7 +30,3 @@ removeDiskCall have card file id = editCall have card file (remove (diskNamed id
 
 abbrev pub replaceDeviceCall : ℕ → Card → List ℕ → ℕ → ℕ → ℕ → List ℕ → ℕ × Outcome (List ℕ × Card)
 replaceDeviceCall have card file id version flags payload = editCall have card file (replace id version flags payload)
-
--- the call with a table of new devices, whose payloads lie in the second buffer
-abbrev pub addDevicesCall : ℕ → Card → List ℕ → List ℕ → List ℕ → ℕ × Outcome (List ℕ × Card)
-addDevicesCall have card file table store = manyCard have card file table store

@@ -19,7 +19,8 @@ use Rattle.cards.specs.declared.Card.{Card}
 use Rattle.cards.specs.declared.Edited.{Edited}
 use Rattle.cards.specs.Cards.{openAnswer, WritesBeside}
 use Rattle.cards.specs.Whole.{addAllCard}
-use Rattle.cards.specs.Calls.{openCall, editCall, addDevicesCall}
+use Rattle.cards.specs.Calls.{openCall, editCall}
+use Rattle.cards.specs.Whole.{manyCard}
 use Rattle.cards.proofs.Once.{beside-once}
 use Rattle.aerosnap.specs.Edits.{Edit}
 use Rattle.snapshot.specs.declared.MetaFields.{MetaFields}
@@ -87,7 +88,7 @@ open-once file r p a b = equal-once a b
 pub edit-once : (card : Card) (e : Edit) (file old : List ℕ) (r p : Edited) (new now : List ℕ) → WritesBeside card (editCall (length old) card file e) old r new → WritesBeside card (editCall (length old) card file e) old p now → (r ≡ p) × (new ≡ now)
 edit-once card e file old r p new now a b = beside-once a b
 
-pub add-devices-once : (card : Card) (table store file old : List ℕ) (r p : Edited) (new now : List ℕ) → WritesBeside card (addDevicesCall (length old) card file table store) old r new → WritesBeside card (addDevicesCall (length old) card file table store) old p now → (r ≡ p) × (new ≡ now)
+pub add-devices-once : (card : Card) (table store file old : List ℕ) (r p : Edited) (new now : List ℕ) → WritesBeside card (manyCard (length old) card file table store) old r new → WritesBeside card (manyCard (length old) card file table store) old p now → (r ≡ p) × (new ≡ now)
 add-devices-once card table store file old r p new now a b = beside-once a b
 
 pub add-devices-of-once : (card : Card) (table : List NewDevice) (store file old : List ℕ) (r p : Edited) (new now : List ℕ) → WritesBeside card (addAllCard (length old) card file table store) old r new → WritesBeside card (addAllCard (length old) card file table store) old p now → (r ≡ p) × (new ≡ now)

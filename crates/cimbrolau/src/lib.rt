@@ -20,7 +20,8 @@ ghost use Rattle.aerosnap.specs.Calls.{checkCall, sectionsCall, devicesCall, di
 ghost use Rattle.aerosnap.specs.Salvage.{salvage};
 ghost use Rattle.salvage.specs.Salvaging.{Salvages};
 ghost use Rattle.cards.specs.Cards.{openAnswer, WritesBeside};
-ghost use Rattle.cards.specs.Calls.{openCall, addDeviceCall, addDevicesCall, addDiskCall, removeDeviceCall, removeDiskCall, replaceDeviceCall};
+ghost use Rattle.cards.specs.Calls.{openCall, addDeviceCall, addDiskCall, removeDeviceCall, removeDiskCall, replaceDeviceCall};
+ghost use Rattle.cards.specs.Whole.{manyCard};
 ghost use Rattle.cards.specs.Whole.{addAllCard};
 ghost use Rattle.snapshot.specs.MetaSection.{metaCall, asMeta};
 ghost use Rattle.dskc.specs.Wrapper as wrapped;
@@ -129,7 +130,7 @@ pub extern "C" fn cimbrolau_add_devices(
     store: &[u8],
     out: &mut [u8],
 ) -> Edited
-    ensures { λ r. ⌜ WritesBeside card (addDevicesCall (length (now (out .entry))) card (now (file .entry)) (now (table .entry)) (now (store .entry))) (now (out .entry)) r (now (out .exit)) ⌝ }
+    ensures { λ r. ⌜ WritesBeside card (manyCard (length (now (out .entry))) card (now (file .entry)) (now (table .entry)) (now (store .entry))) (now (out .entry)) r (now (out .exit)) ⌝ }
 {
     snapshot::add_devices(file, card, table, store, out)
 }

@@ -1,4 +1,4 @@
--- What the parts of the code ask and give that plan an edit, move its card, and do the work of a call.
+-- For contracts of private functions: what the parts of the code ask and give that plan an edit, move its card, and do the work of a call.
 -- Assumes nothing.
 use mathlib.Core.Path.{_≡_}
 use mathlib.Core.List.{List, _++_, map}
@@ -28,7 +28,8 @@ use Rattle.edits.specs.declared.Planned.the-variants.{Fault, Fits}
 use Rattle.edits.specs.declared.Work.{Work}
 use Rattle.edits.specs.declared.Work.the-variants.{Opening, Editing}
 use Rattle.sections.specs.Steps.{WholeFile}
-use Rattle.edits.specs.Edits.{editOf, ownRows, oldEntries, oldTail, payloadLong, Lands}
+use Rattle.edits.specs.Edits.{editOf}
+use Rattle.edits.specs.Cuts.{ownRows, oldEntries, oldTail, payloadLong, Lands}
 
 -- ---- the plan of an edit
 
@@ -45,7 +46,7 @@ pub record Planning (e : Edit) (i : Side) (s index : List ℕ) (w : Site) (c : C
   pub lands : Lands e s index w c
 
 -- an edit that may be written, for an output of so many bytes: what it answers, where it lands, and the numbers of the file before it and after it
-pub record Ready (have : ℕ) (o : Outcome (List ℕ)) (e : Edit) (s index : List ℕ) (x : Change) : Type 0 where
+pub record EditReady (have : ℕ) (o : Outcome (List ℕ)) (e : Edit) (s index : List ℕ) (x : Change) : Type 0 where
   pub goes : o ≡ taken (render (apply e (contentOf (sectionsIn s))))
   pub own : Pass (ownRows e)
   pub whole : WholeFile s index
@@ -59,7 +60,7 @@ pub record Ready (have : ℕ) (o : Outcome (List ℕ)) (e : Edit) (s index : Lis
 
 abbrev pub PlanOf : ℕ → Outcome (List ℕ) → Edit → List ℕ → List ℕ → Planned → Type 0
 PlanOf have o e s index (Fault n p) = o ≡ refused n p
-PlanOf have o e s index (Fits x) = Ready have o e s index x
+PlanOf have o e s index (Fits x) = EditReady have o e s index x
 
 -- ---- the card
 

@@ -1,4 +1,4 @@
--- What the parts of the code ask and give that add the rows of a table.
+-- For contracts of private functions: what the parts of the code ask and give that add the rows of a table.
 -- Assumes nothing.
 use mathlib.Core.Path.{_≡_}
 use mathlib.Core.Logic.{_⊎_}
@@ -18,7 +18,7 @@ use Rattle.order.specs.Keyed.{Every}
 use Rattle.entries.specs.Kinds.{devices}
 use Rattle.lists.specs.declared.Found.{Found}
 use Rattle.lists.specs.declared.Found.the-variants.{There, Free}
-use Rattle.lists.specs.Promises.{findIn}
+use Rattle.lists.specs.Promises.{findIn, arrangedMost}
 use Rattle.aerosnap.specs.declared.NewDevice.{NewDevice}
 use Rattle.aerosnap.specs.declared.Side.the-variants.{OfDevices}
 use Rattle.aerosnap.specs.File.{fileMost, sectionsMost}
@@ -33,7 +33,7 @@ use Rattle.edits.specs.Plans.{Modest}
 use Rattle.sections.specs.Walks.{sectionsIn}
 use Rattle.sections.specs.Steps.{WholeFile}
 use Rattle.aerosnap.specs.Content.{Content, contentOf, secs, render}
-use Rattle.edits.specs.Edits.{oldEntries, oldTail, payloadLong, shown, space, HoldsList, frontBytes}
+use Rattle.edits.specs.Cuts.{oldEntries, oldTail, payloadLong, shown, space, HoldsList, frontBytes}
 use Rattle.edits.specs.declared.Counted.{Counted}
 use Rattle.edits.specs.declared.Counted.the-variants.{Refused, Passed}
 use Rattle.edits.specs.declared.Prepared.{Prepared}
@@ -42,8 +42,8 @@ use Rattle.edits.specs.declared.Prepared.the-variants.{Stopped, Stands}
 -- ---- the rows of a table
 
 -- the row with a number
-abbrev pub row : List ℕ → ℕ → NewDevice
-row t i = newDeviceAt t (24 * i)
+abbrev pub tableRow : List ℕ → ℕ → NewDevice
+tableRow t i = newDeviceAt t (24 * i)
 
 -- places hold the starts of the first rows
 abbrev pub HoldsRows : List ℕ → Type 0
@@ -52,11 +52,11 @@ HoldsRows l = (j : ℕ) → j < length l → getD l j 0 ≡ 24 * j
 -- the keys of the first i rows, the last of them first
 abbrev pub seenBy : List ℕ → ℕ → List ℕ
 seenBy t zero = []
-seenBy t (suc i) = newKey (row t i) ∷ seenBy t i
+seenBy t (suc i) = newKey (tableRow t i) ∷ seenBy t i
 
 -- the first r rows have keys of their own, and the next one, if it is looked at, has the key of one of them
 abbrev pub OwnKeys : List ℕ → ℕ → Type 0
-OwnKeys t r = (i : ℕ) → i < length t / 24 → i ≤ 4096 → i ≤ r → isSeen (newKey (row t i)) (seenBy t i) ≡ eqb i r
+OwnKeys t r = (i : ℕ) → i < length t / 24 → i ≤ 4096 → i ≤ r → isSeen (newKey (tableRow t i)) (seenBy t i) ≡ eqb i r
 
 -- ---- the pass
 
@@ -118,13 +118,13 @@ abbrev pub before : List ℕ → ℕ → List (List ℕ) → ℕ
 before t y old = placeIn (findIn (devices .key) (keyAt devices t y) old)
 
 -- the entries before it, and it
-abbrev pub turn : List ℕ → List ℕ → ℕ → List (List ℕ) → List ℕ
-turn t store y old = join (take (before t y old) old) ++ rowEntry t store y
+abbrev pub turnBytes : List ℕ → List ℕ → ℕ → List (List ℕ) → List ℕ
+turnBytes t store y old = join (take (before t y old) old) ++ rowEntry t store y
 
 -- the rows that start at some places, one after another, each behind those of the old entries that go before it
 unfoldable pub turns : List ℕ → List ℕ → List ℕ → List (List ℕ) → List ℕ
 turns t store [] old = join old
-turns t store (y ∷ l) old = turn t store y old ++ turns t store l (drop (before t y old) old)
+turns t store (y ∷ l) old = turnBytes t store y old ++ turns t store l (drop (before t y old) old)
 
 -- the rows stand within the table, and their payloads within the second buffer
 abbrev pub InsideAt : List ℕ → List ℕ → List ℕ → Type 0
@@ -170,9 +170,9 @@ PreparedBy have t store starts s index (Stands x) = TableReady have t store star
 
 -- so many places for the starts of the rows: one for each, or more than a list may have
 pub record RowsFor (t : List ℕ) (n : ℕ) : Type 0 where
-  pub few : n ≤ 4097
+  pub few : n ≤ arrangedMost
   pub rows : n ≤ length t / 24
-  pub all : (length t / 24 ≤ n) ⊎ (n ≡ 4097)
+  pub all : (length t / 24 ≤ n) ⊎ (n ≡ arrangedMost)
 
 -- what is planned where every row passed, by the numbers
 abbrev pub StandsAt : Site → Extent → ℕ → ℕ → ℕ → Prepared → Type 0

@@ -29,7 +29,6 @@ use lists::FILE_MOST;
 use lists::Found;
 use lists::find;
 use lists::find_ordered;
-use sections::Division;
 use sections::Places;
 use wire::u16_at;
 use wire::u32_at;
@@ -50,7 +49,7 @@ ghost use Rattle.writer.specs.Runs.{entryBy, fits};
 ghost use Rattle.aerosnap.specs.Payloads.{bodyOf, list};
 ghost use Rattle.aerosnap.specs.Known as known;
 ghost use Rattle.aerosnap.specs.File.{fileMost, sectionsMost, headerChecks, idOf, versionOf, fileOf};
-ghost use Rattle.sections.specs.Steps.{held, HoldsParts, HasDirectory, WholeFile, FileIndexed};
+ghost use Rattle.sections.specs.Steps.{held, HoldsParts, HasDirectory, WholeFile};
 ghost use Rattle.aerosnap.specs.Content.{contentOf, secs, render, kindAt, idAt};
 ghost use Rattle.aerosnap.specs.Adding.{device, disk, deviceNamed, entryOf, ownChecks};
 ghost use Rattle.aerosnap.specs.Edits.{target, keyOf, editFile};
@@ -67,9 +66,10 @@ ghost use Rattle.aerosnap.specs.Many.{newDeviceAt, isInside};
 ghost use Rattle.cards.specs.Whole.{manyCard};
 ghost use Rattle.lists.specs.declared.Found.the-variants.{There};
 ghost use Rattle.edits.specs.Steps.{frame, boundChecks, Holds};
-ghost use Rattle.edits.specs.Edits.{editOf, bare, sideFor, ownRows, entryFor, oldEntries, payloadLong, HoldsList, Fair, CutBy, Cuts, shown, space, listHead, frontBytes, spanBytes, PayloadWith, BytesBehind, lowBytes, highBytes, oldTail, backBytes, fileBytes, boundedEdit, keyedEdit};
-ghost use Rattle.edits.specs.Rows.{keyedEntry, row, HoldsRows, OwnKeys, talliedBy, Modestly, RowAsked, passOf, CountedBy, rowEntry, placeIn, before, turn, turns, InsideAt, Begun, oldFrom, withRows, TableReady, PreparedBy, RowsFor, StandsAt};
-ghost use Rattle.edits.specs.Plans.{Measured, Planning, Ready, PlanOf, Modest, cardBefore, cardBehind, Lightly, plainAnswer, Works};
+ghost use Rattle.edits.specs.Edits.{editOf};
+ghost use Rattle.edits.specs.Cuts.{bare, sideFor, ownRows, entryFor, oldEntries, payloadLong, HoldsList, Fair, CutBy, Cuts, shown, space, listHead, frontBytes, spanBytes, PayloadWith, BytesBehind, lowBytes, highBytes, oldTail, backBytes, fileBytes, boundedEdit, keyedEdit};
+ghost use Rattle.edits.specs.Rows.{keyedEntry, tableRow, HoldsRows, OwnKeys, talliedBy, Modestly, RowAsked, passOf, CountedBy, rowEntry, placeIn, before, turnBytes, turns, InsideAt, Begun, oldFrom, withRows, TableReady, PreparedBy, RowsFor, StandsAt};
+ghost use Rattle.edits.specs.Plans.{Measured, Planning, EditReady, PlanOf, Modest, cardBefore, cardBehind, Lightly, plainAnswer, Works};
 
 // An edit by its numbers: a device or a disk more, one fewer, a device's payload exchanged. What it brings stands beside it: `a` is the payload or the base image, `b` the overlay image.
 pub enum Edit {
@@ -247,34 +247,6 @@ fn put_new(edit: Edit, a: &[u8], b: &[u8], out: &mut [u8]) -> usize
 }
 
 // ---- a file that is taken
-
-// The first fault of a file, if it has one.
-fn first_fault(file: &[u8]) -> Test
-    ensures { λ r. ⌜ testOf r ≡ done (fileOf (now (file .entry))) ⌝ }
-{
-    let mut none = [0u32; 1];
-    match sections::scan(file, &mut none[..0]) {
-        Piece::Stop(number, place) => Test::Fault(number, place),
-        Piece::Ends(_) => Test::Fine,
-    }
-}
-
-// The index of a file that is taken, or the file's first fault. A file of which something would be lost is walked once more, up to that fault.
-fn index_file(file: &[u8], index: &mut [u32]) -> Test
-    requires { ⌜ HoldsParts (now file) (length (now index)) ⌝ }
-    ensures { λ r. ⌜ FileIndexed (now (file .entry)) (now (index .exit)) r ⌝ }
-{
-    let mut none = [0u8; 1];
-    match sections::divide(&file[..], index, &mut none[..0]) {
-        Division::Fault(number, place) => Test::Fault(number, place),
-        Division::Lost(lost) => {
-            if 0 < lost {
-                return first_fault(&file[..]);
-            }
-            Test::Fine
-        }
-    }
-}
 
 // How many sections and bytes a file has.
 struct Extent {
@@ -735,7 +707,7 @@ fn plan_in(edit: Edit, a: &[u8], b: &[u8], file: &[u8], index: &mut [u32], have:
     requires { ⌜ HoldsParts (now file) (length (now index)) ⌝ }
     ensures { λ r. ⌜ PlanOf have (editFile have (now (file .entry)) (editOf edit (now (a .entry)) (now (b .entry)))) (editOf edit (now (a .entry)) (now (b .entry))) (now (file .entry)) (now (index .exit)) r ⌝ }
 {
-    match index_file(&file[..], index) {
+    match sections::index_file(&file[..], index) {
         Test::Fault(number, place) => Planned::Fault(number, place),
         Test::Fine => match own(edit, &a[..], &b[..]) {
             Test::Fault(number, place) => Planned::Fault(number, place),
@@ -807,7 +779,7 @@ fn put_change(
     x: Change,
     out: &mut [u8],
 ) -> Edited
-    requires { ⌜ Ready (length (now out)) (editFile (length (now out)) (now file) (editOf edit (now a) (now b))) (editOf edit (now a) (now b)) (now file) (now index) x ⌝ }
+    requires { ⌜ EditReady (length (now out)) (editFile (length (now out)) (now file) (editOf edit (now a) (now b))) (editOf edit (now a) (now b)) (now file) (now index) x ⌝ }
     ensures { λ r. ⌜ WritesBeside card (0, editCard (length (now (out .entry))) card (now (file .entry)) (editOf edit (now (a .entry)) (now (b .entry)))) (now (out .entry)) r (now (out .exit)) ⌝ }
 {
     let side = side_of(edit);
@@ -1054,8 +1026,8 @@ fn put_turn(
     out: &mut [u8],
 ) -> Run
     requires { ⌜ HoldsList OfDevices (now file) (now index) site × (site .first ≤ p) × (p ≤ site .last) ⌝ }
-    requires { ⌜ (isInside (now store) (newDeviceAt (now table) y) ≡ true) × (length (turn (now table) (now store) y (oldFrom (now file) site p)) ≤ length (now out)) × (y ≤ 4294967296) × (y + 24 ≤ length (now table)) ⌝ }
-    ensures { λ r. ⌜ Wrote (turn (now (table .entry)) (now (store .entry)) y (oldFrom (now (file .entry)) site p)) (now (out .entry)) (now (out .exit)) (r .bytes) × (r .next ≡ p + before (now (table .entry)) y (oldFrom (now (file .entry)) site p)) × (r .next ≤ site .last) ⌝ }
+    requires { ⌜ (isInside (now store) (newDeviceAt (now table) y) ≡ true) × (length (turnBytes (now table) (now store) y (oldFrom (now file) site p)) ≤ length (now out)) × (y ≤ 4294967296) × (y + 24 ≤ length (now table)) ⌝ }
+    ensures { λ r. ⌜ Wrote (turnBytes (now (table .entry)) (now (store .entry)) y (oldFrom (now (file .entry)) site p)) (now (out .entry)) (now (out .exit)) (r .bytes) × (r .next ≡ p + before (now (table .entry)) y (oldFrom (now (file .entry)) site p)) × (r .next ≤ site .last) ⌝ }
 {
     let next = next_place(table, y, file, index, site, p);
     let n = put_some(Side::OfDevices, site, p, next, file, index, out);
@@ -1340,7 +1312,7 @@ fn add_in(
     requires { ⌜ HoldsParts (now file) (length (now index)) ⌝ }
     ensures { λ r. ⌜ WritesBeside card (manyCard (length (now (out .entry))) card (now (file .entry)) (now (table .entry)) (now (store .entry))) (now (out .entry)) r (now (out .exit)) ⌝ }
 {
-    match index_file(&file[..], index) {
+    match sections::index_file(&file[..], index) {
         Test::Fault(number, place) => Edited {
             number,
             index: 0,
@@ -1393,12 +1365,13 @@ fn open_bare(file: &[u8]) -> Edited
     requires { ⌜ length (now file) ≤ 16 ⌝ }
     ensures { λ r. ⌜ r ≡ openAnswer (openFile (now (file .entry))) ⌝ }
 {
-    match first_fault(&file[..]) {
-        Test::Fault(number, place) => plain(Answer {
+    let mut none = [0u32; 1];
+    match sections::scan(&file[..], &mut none[..0]) {
+        Piece::Stop(number, place) => plain(Answer {
             number,
             place: place as u64,
         }),
-        Test::Fine => Edited {
+        Piece::Ends(_) => Edited {
             number: TAKEN,
             index: 0,
             place: 0,
@@ -1417,7 +1390,7 @@ fn open_in(file: &[u8], index: &mut [u32]) -> Edited
     requires { ⌜ HoldsParts (now file) (length (now index)) ⌝ }
     ensures { λ r. ⌜ r ≡ openAnswer (openFile (now (file .entry))) ⌝ }
 {
-    match index_file(&file[..], index) {
+    match sections::index_file(&file[..], index) {
         Test::Fault(number, place) => plain(Answer {
             number,
             place: place as u64,

@@ -16,7 +16,7 @@ use Rattle.aerosnap.specs.declared.NewDevice.{NewDevice}
 use Rattle.cards.specs.declared.Card.{Card}
 use Rattle.cards.specs.declared.Edited.{Edited}
 use Rattle.cards.specs.Cards.{WritesBeside}
-use Rattle.cards.specs.Calls.{addDevicesCall}
+use Rattle.cards.specs.Whole.{manyCard}
 use Rattle.newcomers.specs.Records.{lookedAt, recordOf, recordPut, storedIn}
 
 pub length-record : (d : NewDevice) → length (recordOf d) ≡ 24
@@ -41,6 +41,6 @@ pub far-stored : (i : ℕ) (d : NewDevice) (old : List ℕ) → 4097 ≤ i → (
 far-stored i d old h = (sym (ap (λ (t : Bool). cond t (i + 1) 4097) (lt-leb (i + 1) 4097 (omega arith))), sym (ap (λ (t : Bool). cond t (recordPut i d old) old) (le-ltb i 4097 h)))
 
 -- more records than there are: all of them
-pub all-records : (have : ℕ) (file store records : List ℕ) {k : Card} {old new : List ℕ} {r : Edited} (n : ℕ) → length records / 24 < n → WritesBeside k (addDevicesCall have k file records store) old r new
-    → WritesBeside k (addDevicesCall have k file (take (n * 24) records) store) old r new
-all-records have file store records {k} {old} {new} {r} n h = subst (λ (t : List ℕ). WritesBeside k (addDevicesCall have k file t store) old r new) (sym (take-all (n * 24) records (omega arith)))
+pub all-records : (have : ℕ) (file store records : List ℕ) {k : Card} {old new : List ℕ} {r : Edited} (n : ℕ) → length records / 24 < n → WritesBeside k (manyCard have k file records store) old r new
+    → WritesBeside k (manyCard have k file (take (n * 24) records) store) old r new
+all-records have file store records {k} {old} {new} {r} n h = subst (λ (t : List ℕ). WritesBeside k (manyCard have k file t store) old r new) (sym (take-all (n * 24) records (omega arith)))

@@ -19,7 +19,7 @@ use Rattle.aerosnap.specs.Many.{newDevices}
 use Rattle.cards.specs.declared.Card.{Card}
 use Rattle.cards.specs.declared.Edited.{Edited}
 use Rattle.cards.specs.Cards.{WritesBeside}
-use Rattle.cards.specs.Calls.{addDevicesCall}
+use Rattle.cards.specs.Whole.{manyCard}
 use Rattle.cards.specs.Whole.{addAllCard}
 use Rattle.newcomers.specs.Records.{lookedAt, recordOf, recordPut, storedIn, recordsOf, WideEntry}
 use Rattle.newcomers.proofs.Laws.{length-record}
@@ -99,7 +99,7 @@ part-next {ds} {zs} {new} {i} {r} p h w e f l =
 
 -- the loop's end: what the call over the records answers is what the call over the entries does
 pub part-end : {ds : List NewDevice} {zs : List ℕ} {i : ℕ} (have : ℕ) {k : Card} (file store : List ℕ) {old new : List ℕ} {r : Edited} → Part ds i zs → lookedAt (length ds) ≤ i
-    → WritesBeside k (addDevicesCall have k file (take (lookedAt (length ds) * 24) zs) store) old r new → WritesBeside k (addAllCard have k file ds store) old r new
+    → WritesBeside k (manyCard have k file (take (lookedAt (length ds) * 24) zs) store) old r new → WritesBeside k (addAllCard have k file ds store) old r new
 part-end {ds} {zs} {i} have {k} file store {old} {new} {r} p h d =
     let n : ℕ = lookedAt (length ds) in
     let e : i ≡ n = omega (arith, p .within) in

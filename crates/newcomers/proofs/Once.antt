@@ -8,7 +8,7 @@ use Rattle.aerosnap.specs.declared.NewDevice.{NewDevice}
 use Rattle.cards.specs.declared.Card.{Card}
 use Rattle.cards.specs.declared.Edited.{Edited}
 use Rattle.cards.specs.Cards.{WritesBeside}
-use Rattle.cards.specs.Calls.{addDevicesCall}
+use Rattle.cards.specs.Whole.{manyCard}
 use Rattle.cards.proofs.Once.{beside-once}
 use Rattle.newcomers.specs.Records.{lookedAt, storedIn}
 
@@ -18,6 +18,6 @@ looked-at-once count a b = a ∙ sym b
 pub put-once : (i : ℕ) (d : NewDevice) (old : List ℕ) {r s : ℕ} {new now : List ℕ} → (r ≡ lookedAt (i + 1)) × (new ≡ storedIn i d old) → (s ≡ lookedAt (i + 1)) × (now ≡ storedIn i d old) → (r ≡ s) × (new ≡ now)
 put-once i d old a b = (a .0 ∙ sym (b .0), a .1 ∙ sym (b .1))
 
-pub add-records-once : (card : Card) (records store file old : List ℕ) (n : ℕ) {r p : Edited} {new now : List ℕ} → WritesBeside card (addDevicesCall (length old) card file (take (n * 24) records) store) old r new
-    → WritesBeside card (addDevicesCall (length old) card file (take (n * 24) records) store) old p now → (r ≡ p) × (new ≡ now)
+pub add-records-once : (card : Card) (records store file old : List ℕ) (n : ℕ) {r p : Edited} {new now : List ℕ} → WritesBeside card (manyCard (length old) card file (take (n * 24) records) store) old r new
+    → WritesBeside card (manyCard (length old) card file (take (n * 24) records) store) old p now → (r ≡ p) × (new ≡ now)
 add-records-once card records store file old n a b = beside-once a b

@@ -4,13 +4,14 @@ use mathlib.Core.Bool.{cond}
 use mathlib.Core.List.{List, [], _∷_, _++_}
 use Prim.Native.Nat.{ℕ, _*_, _<_}
 use lib.Dec.{leb, ltb}
+use Rattle.lists.specs.Promises.{arrangedMost}
 use Rattle.wire.specs.Numbers.{bytesOf}
 use Rattle.wire.specs.Parts.{put}
 use Rattle.aerosnap.specs.declared.NewDevice.{NewDevice}
 
 -- of so many entries, how many are looked at: one more than a list holds
 abbrev pub lookedAt : ℕ → ℕ
-lookedAt count = cond (leb count 4097) count 4097
+lookedAt count = cond (leb count arrangedMost) count arrangedMost
 
 -- the record of one new device: u32 id, u16 version, u16 flags, u64 place, u64 length
 abbrev pub recordOf : NewDevice → List ℕ

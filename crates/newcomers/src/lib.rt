@@ -8,7 +8,7 @@ ghost use Prim.Native.Nat.{_+_, _*_, _≤_, _<_, _^_};
 ghost use lib.ListN.{length, take};
 ghost use Rattle.wire.specs.Parts.{Wrote};
 ghost use Rattle.cards.specs.Cards.{WritesBeside};
-ghost use Rattle.cards.specs.Calls.{addDevicesCall};
+ghost use Rattle.cards.specs.Whole.{manyCard};
 ghost use Rattle.newcomers.specs.Records.{lookedAt, recordOf, recordPut, storedIn};
 
 // How many entries of a table are looked at: a list holds 4,096 devices, so the next one is refused, and no entry behind it is met.
@@ -65,7 +65,7 @@ pub fn add_records(
     store: &[u8],
     out: &mut [u8],
 ) -> Edited
-    ensures { λ r. ⌜ WritesBeside card (addDevicesCall (length (now (out .entry))) card (now (file .entry)) (take (n * 24) (now (records .entry))) (now (store .entry))) (now (out .entry)) r (now (out .exit)) ⌝ }
+    ensures { λ r. ⌜ WritesBeside card (manyCard (length (now (out .entry))) card (now (file .entry)) (take (n * 24) (now (records .entry))) (now (store .entry))) (now (out .entry)) r (now (out .exit)) ⌝ }
 {
     if n <= records.len() / 24 {
         return snapshot::add_devices(file, card, &records[..n * 24], store, out);

@@ -94,7 +94,8 @@ fn salvage_by(file: &[u8], index: &mut [u32], out: &mut [u8], losses: &mut [u8])
             place: place as u64,
             losses: 0,
         },
-        Division::Lost(lost) => salvage_in(&file[..], lost, index, out, losses),
+        Division::Whole => salvage_in(&file[..], 0, index, out, losses),
+        Division::Lost(lost, _, _) => salvage_in(&file[..], lost, index, out, losses),
     }
 }
 

@@ -10,16 +10,18 @@ use lib.Seq.{getD-set-same, getD-set-other, drop-at, paste, paste-suc, take-all,
 use lib.Dec.{leb}
 use borrow.Author.Tests.{le-leb, lt-leb, leb-true, leb-false}
 use Rattle.answer.specs.Numbers.{ROOM}
-use Rattle.answer.specs.Outcome.{Outcome, taken, refused, Pass, checked, after}
+use Rattle.answer.specs.Outcome.{Outcome, taken, refused, Pass, checked}
 use Rattle.answer.specs.Calls.{asked}
 use Rattle.answer.proofs.Checks.{pass-checked, checked-pass, asked-stop}
-use Rattle.answer.proofs.Outcomes.{taken-is}
-use Rattle.aerosnap.specs.File.{headerChecks}
-use Rattle.aerosnap.specs.Salvage.{Part, partsOf, allKept, lossRows}
+use Rattle.aerosnap.specs.File.{headerChecks, fileOf}
+use Rattle.aerosnap.specs.Salvage.{Part, partsOf, allKept}
 use Rattle.sections.specs.declared.Division.{Division}
-use Rattle.sections.specs.declared.Division.the-variants.{Fault, Lost}
+use Rattle.sections.specs.declared.Division.the-variants.{Fault}
 use Rattle.sections.specs.Index.{kept}
-use Rattle.sections.specs.Directory.{directoryPlaces, seats, seatOf, Directory, partsIn, divisionOf, IndexAfter, rowsAfter, Divides, Parted, Divided}
+use Rattle.sections.specs.Directory.{directoryPlaces, seats, seatOf, Directory, partsIn, divisionOf, lossesOf, IndexAfter, rowsAfter, Divides, IndexesFile}
+use Rattle.sections.specs.Steps.{Parted, Divided}
+use Rattle.sections.specs.Walks.{walkedFrom}
+use Rattle.answer.specs.declared.Test.{Test}
 
 -- ---- a directory stored
 
@@ -49,7 +51,7 @@ module _ (d old : List ℕ) (l : length d ≡ directoryPlaces) (r : directoryPla
 -- ---- the directory of a file's parts
 
 -- the header's bytes are counted, the directory is stored before the starts
-pub directory-made : (s old d starts rows recs new : List ℕ) (lost : ℕ) → directoryPlaces ≤ length old → Parted s d (drop directoryPlaces old) starts rows recs lost
+pub directory-made : (s old d starts rows recs new : List ℕ) (lost : Division) → directoryPlaces ≤ length old → Parted s d (drop directoryPlaces old) starts rows recs lost
     → new ≡ set d 18 (getD d 18 0 + 16) ++ starts → length starts ≡ length (drop directoryPlaces old) → Directory (partsOf s) old new
 directory-made s old d starts rows recs new lost r v q n =
     let e : List ℕ = set d 18 (getD d 18 0 + 16) in
@@ -68,7 +70,7 @@ directory-made s old d starts rows recs new lost r v q n =
     }
 
 -- the same of what the code lends: the part of the index behind the directory, which comes back in its place
-module _ (s old : List ℕ) (r : directoryPlaces ≤ length old) {d last rows recs : List ℕ} {lost : ℕ} (v : Parted s d (take (length old - directoryPlaces) (drop directoryPlaces old)) last rows recs lost)
+module _ (s old : List ℕ) (r : directoryPlaces ≤ length old) {d last rows recs : List ℕ} {lost : Division} (v : Parted s d (take (length old - directoryPlaces) (drop directoryPlaces old)) last rows recs lost)
     (n : length last ≡ length (take (length old - directoryPlaces) (drop directoryPlaces old))) where
   abbrev behind : List ℕ
   behind = drop directoryPlaces old
@@ -102,7 +104,7 @@ module _ (s old : List ℕ) (r : directoryPlaces ≤ length old) {d last rows re
 
 divides-stop : (s old rows : List ℕ) {n p : ℕ} → partsIn (length old) s ≡ refused n p → Divides s old rows (Fault n p) old rows
 divides-stop s old rows {n} {p} e = record {
-  answers = sym (ap (λ (o : Outcome (List Part)). after o (λ l. taken (length (lossRows 16 l)))) e);
+  answers = sym (ap (divisionOf s) e);
   index = subst (λ (o : Outcome (List Part)). IndexAfter o old old) (sym e) refl;
   records = sym (ap (λ (o : Outcome (List Part)). rowsAfter o rows) e);
 }
@@ -117,11 +119,13 @@ module _ (s old rows : List ℕ) (h : Pass (headerChecks s)) where
   pub divides-room : length old < directoryPlaces → Divides s old rows (Fault ROOM directoryPlaces) old rows
   divides-room i = divides-stop s old rows (whole ∙ rw (lt-leb directoryPlaces (length old) i) refl)
 
-  pub divides-done : directoryPlaces ≤ length old → {new recs : List ℕ} {n : ℕ} → Divided s old new rows recs n → Divides s old rows (Lost n) new recs
-  divides-done i {new} {recs} {n} v =
+  pub divides-done : directoryPlaces ≤ length old → {new recs : List ℕ} {r : Division} → Divided s old new rows recs r → Divides s old rows r new recs
+  unfolding fileOf
+  divides-done i {new} {recs} {r} v =
       let e : partsIn (length old) s ≡ taken (partsOf s) = whole ∙ rw (le-leb directoryPlaces (length old) i) refl in
+      let f : fileOf s ≡ walkedFrom s = pass-checked (headerChecks s) (walkedFrom s) h in
       record {
-        answers = ap taken (v .losses) ∙ sym (ap (λ (o : Outcome (List Part)). after o (λ l. taken (length (lossRows 16 l)))) e);
+        answers = v .losses ∙ sym (ap (divisionOf s) e ∙ ap (λ (o : Outcome (List (List ℕ))). lossesOf o (partsOf s)) f);
         index = subst (λ (o : Outcome (List Part)). IndexAfter o old new) (sym e) (v .index);
         records = v .records ∙ sym (ap (λ (o : Outcome (List Part)). rowsAfter o rows) e);
       }
@@ -161,17 +165,15 @@ directory-once l old new now r a b =
         go false t false p false q true r = let z : i ≡ 17 = omega (arith, leb-false i 16 q, leb-true i 17 r) in rw z (a .sections ∙ sym (b .sections))
         go false t false p false q false r = let z : i ≡ 18 = omega (arith, leb-false i 17 r) in rw z (a .bytes ∙ sym (b .bytes))
 
-pub divides-once : (s old rows : List ℕ) (r p : Division) {new now recs lines : List ℕ} → Divides s old rows r new recs → Divides s old rows p now lines → (r ≡ p) × (new ≡ now) × (recs ≡ lines)
-divides-once s old rows r p {new} {now} a b = (division-once r p (a .answers ∙ sym (b .answers)), indexed (partsIn (length old) s) refl (a .index) (b .index), a .records ∙ sym (b .records))
-  where
-    division-once : (r p : Division) → divisionOf r ≡ divisionOf p → r ≡ p
-    division-once (Fault n p) (Fault m q) e = cc
-    division-once (Fault n p) (Lost m) e = let z : _≡_ {A = ℕ} 0 1 = cc in absurd (omega arith)
-    division-once (Lost n) (Fault m q) e = let z : _≡_ {A = ℕ} 0 1 = cc in absurd (omega arith)
-    division-once (Lost n) (Lost m) e = let z : n ≡ m = taken-is e in cc
+module _ (s old : List ℕ) {new now : List ℕ} where
+  indexed : (o : Outcome (List Part)) → partsIn (length old) s ≡ o → IndexAfter o old new → IndexAfter o old now → new ≡ now
+  indexed (taken l) e x y =
+      let c = checked-pass (headerChecks s) (checked ((leb directoryPlaces (length old), ROOM, directoryPlaces) ∷ []) (taken (partsOf s))) l e .1 in
+      directory-once l old new now (leb-true directoryPlaces (length old) (checked-pass ((leb directoryPlaces (length old), ROOM, directoryPlaces) ∷ []) (taken (partsOf s)) l c .0 .0)) x y
+  indexed (refused n p) e x y = x ∙ sym y
 
-    indexed : (o : Outcome (List Part)) → partsIn (length old) s ≡ o → IndexAfter o old new → IndexAfter o old now → new ≡ now
-    indexed (taken l) e x y =
-        let c = checked-pass (headerChecks s) (checked ((leb directoryPlaces (length old), ROOM, directoryPlaces) ∷ []) (taken (partsOf s))) l e .1 in
-        directory-once l old new now (leb-true directoryPlaces (length old) (checked-pass ((leb directoryPlaces (length old), ROOM, directoryPlaces) ∷ []) (taken (partsOf s)) l c .0 .0)) x y
-    indexed (refused n p) e x y = x ∙ sym y
+  pub divides-once : (rows : List ℕ) {r p : Division} {recs lines : List ℕ} → Divides s old rows r new recs → Divides s old rows p now lines → (r ≡ p) × (new ≡ now) × (recs ≡ lines)
+  divides-once rows a b = (a .answers ∙ sym (b .answers), indexed (partsIn (length old) s) refl (a .index) (b .index), a .records ∙ sym (b .records))
+
+  pub indexes-once : {r p : Test} → IndexesFile s old r new → IndexesFile s old p now → (r ≡ p) × (new ≡ now)
+  indexes-once a b = (a .answers ∙ sym (b .answers), indexed (partsIn (length old) s) refl (a .index) (b .index))

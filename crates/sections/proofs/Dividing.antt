@@ -36,11 +36,17 @@ use Rattle.aerosnap.proofs.Judged.{span}
 use Rattle.aerosnap.proofs.Copies.{secs-count, render-size}
 use Rattle.aerosnap.proofs.Slots.{once-last}
 use Rattle.aerosnap.proofs.Written.{isEmpty, tidy-one}
-use Rattle.sections.specs.Walks.{Marks}
+use Rattle.sections.specs.Walks.{Marks, walkedFrom}
 use Rattle.sections.specs.Index.{startsOf, kept, Keeps}
-use Rattle.sections.specs.Directory.{directoryPlaces, Seat, seats, seatOf, othersIn, writtenSize, seated, tallied, rowsIn, Parted}
+use Rattle.sections.specs.Directory.{directoryPlaces, Seat, seats, seatOf, othersIn, writtenSize, seated, tallied, rowsIn}
+use Rattle.sections.specs.Steps.{FirstOf, divisionFor, Parted}
+use Rattle.sections.specs.declared.Division.{Division}
+use Rattle.answer.specs.declared.Test.{Test}
+use Rattle.answer.specs.declared.Test.the-variants.{Fine}
 use Rattle.sections.proofs.Rules.{keeps-stop}
 use Rattle.sections.proofs.Kept.{whole-fits, kept-fits, kept-last, starts-front, starts-most, kept-less}
+use Rattle.aerosnap.proofs.Turns.{sectionsAt}
+use Rattle.sections.proofs.Firsts.{FirstSo, first-lost, first-kept, first-done}
 use Rattle.sections.proofs.Turns.{none-marked}
 use Rattle.sections.proofs.Seats.{Seating, seating-none, seating-lost, seating-kept}
 
@@ -122,7 +128,7 @@ span-step [] x = omega (arith, length-append (bytesIn x) [])
 span-step (y ∷ l) x = omega (arith, span-step l x, length-append (bytesIn y) (join (map bytesIn (l ++ (x ∷ [])))), length-append (bytesIn y) (join (map bytesIn l)))
 
 -- the parts up to a place are found: n sections are kept, their starts stand first in the places that held `old`, and so many parts are lost, whose records stand first in what held `rows`
-pub record Dividing (s : List ℕ) (at n used lost t : ℕ) (seen d old new rows recs : List ℕ) : Type 0 where
+pub record Dividing (s : List ℕ) (at n used lost t : ℕ) (first : Test) (seen d old new rows recs : List ℕ) : Type 0 where
   pub done : List Part
   pub same : partsOf s ≡ done ++ partsAt (allKept done) s at
   pub place : at ≡ 16 + span done
@@ -131,11 +137,12 @@ pub record Dividing (s : List ℕ) (at n used lost t : ℕ) (seen d old new rows
   pub sound : Sound (allKept done)
   pub count : lost ≡ length (lossRows 16 done)
   pub few : lost ≤ at
+  pub firsts : FirstSo first (walkedFrom s) lost (sectionsAt (64 - n) (allKept done) s at)
   pub seating : Seating done (length old) d
   pub starts : Wrote (kept (length old) (allKept done)) old new used
   pub records : Wrote (rowsIn (length rows) (lossRows 16 done)) rows recs t
 
-pub dividing-start : (s d old rows : List ℕ) → 16 ≤ length s → d ≡ zeros directoryPlaces → Dividing s 16 0 0 0 0 (replicate 9 0) d old old rows rows
+pub dividing-start : (s d old rows : List ℕ) → 16 ≤ length s → d ≡ zeros directoryPlaces → Dividing s 16 0 0 0 0 Fine (replicate 9 0) d old old rows rows
 dividing-start s d old rows h z = record {
   done = [];
   same = refl;
@@ -145,12 +152,13 @@ dividing-start s d old rows h z = record {
   sound = record { few = omega arith; are = tt; once = tt };
   count = refl;
   few = omega arith;
+  firsts = (refl, refl);
   seating = subst (Seating [] (length old)) (sym z) (seating-none (length old));
   starts = none old;
   records = none rows;
 }
 
-module _ {s : List ℕ} {at n used lost t : ℕ} {seen d old new rows recs : List ℕ} (v : Dividing s at n used lost t seen d old new rows recs) where
+module _ {s : List ℕ} {at n used lost t : ℕ} {first : Test} {seen d old new rows recs : List ℕ} (v : Dividing s at n used lost t first seen d old new rows recs) where
   abbrev tail : List ℕ
   tail = take (length new - used) (drop used new)
 
@@ -233,8 +241,8 @@ module _ {s : List ℕ} {at n used lost t : ℕ} {seen d old new rows recs : Lis
       once = v .sound .once;
     }
 
-    pub dividing-done : Parted s d old new rows recs lost
-    dividing-done = record {
+    pub dividing-done : {r : Division} → r ≡ divisionFor first lost → Parted s d old new rows recs r
+    dividing-done {r} e = record {
       long = v .seating .long;
       others = v .seating .others ∙ ap (λ (l : List Part). othersIn (allKept l)) all;
       places = λ i a b. v .seating .places i a b ∙ ap (λ (l : List Part). seatOf (λ x. x .place) i (seats 16 directoryPlaces (length old) l)) all;
@@ -243,8 +251,7 @@ module _ {s : List ℕ} {at n used lost t : ℕ} {seen d old new rows recs : Lis
       bytes = ap (λ (k : ℕ). 16 + k) (v .seating .bytes) ∙ sym (render-size (allKept (v .done)) valid) ∙ ap (λ (l : List Part). length (render (contentOf (allKept l)))) all;
       starts = v .starts .bytes ∙ ap (λ (l : List Part). kept (length old) (allKept l) ++ drop (length (kept (length old) (allKept l))) old) all;
       records = v .records .bytes ∙ ap (λ (l : List Part). rowsIn (length rows) (lossRows 16 l) ++ drop (length (rowsIn (length rows) (lossRows 16 l))) rows) all;
-      losses = v .count ∙ ap (λ (l : List Part). length (lossRows 16 l)) all;
-      few = omega (arith, v .few, v .inside);
+      losses = e ∙ first-done s at (64 - n) lost (allKept (v .done)) h first (v .firsts) (partsOf s) (v .count ∙ ap (λ (l : List Part). length (lossRows 16 l)) all);
       small = omega (arith, dividing-bytes, v .inside);
     }
 
@@ -272,9 +279,9 @@ module _ {s : List ℕ} {at n used lost t : ℕ} {seen d old new rows recs : Lis
     abbrev rtail : List ℕ
     rtail = take (length recs - t) (drop t recs)
 
-    pub dividing-lost : {a p : ℕ} {last : List ℕ} → Told (Stop a p) last → {more : List ℕ} {m : ℕ} → Wrote (whole (length rtail) (lossBytes at w a)) rtail more m
-        → Dividing s (at + w) n used (lost + 1) (t + m) seen d old (back last) rows (take t recs ++ (more ++ drop (length recs - t) (drop t recs)))
-    dividing-lost {a} {p} {last} k {more} {m} so =
+    pub dividing-lost : {a p : ℕ} {last : List ℕ} → Told (Stop a p) last → (r : Test) → FirstOf first s at n a p r → {more : List ℕ} {m : ℕ} → Wrote (whole (length rtail) (lossBytes at w a)) rtail more m
+        → Dividing s (at + w) n used (lost + 1) (t + m) r seen d old (back last) rows (take t recs ++ (more ++ drop (length recs - t) (drop t recs)))
+    dividing-lost {a} {p} {last} k y′ fo {more} {m} so =
         let r = made-stop (readPart (allKept (v .done)) at b) _ (k .answers) in
         let e = parts-lost (allKept (v .done)) s at h r in
         let x : Part = loses a bytes in
@@ -299,6 +306,7 @@ module _ {s : List ℕ} {at n used lost t : ℕ} {seen d old new rows recs : Lis
           sound = subst Sound (sym kk) (v .sound);
           count = omega (arith, v .count, ap length u, length-append (lossRows 16 (v .done)) (y ∷ []));
           few = omega (arith, v .few, dividing-goes .0);
+          firsts = first-lost s at n lost (allKept (v .done)) h (v .marks .count) first y′ (v .firsts) fo r (sectionsAt (64 - n) (allKept g) s (at + w));
           seating = seating-lost (v .seating) a bytes;
           starts = subst (λ (l : List (List ℕ)). Wrote (kept (length old) l) old (back last) used) (sym kk) (subst (λ (l : List ℕ). Wrote (kept (length old) (allKept (v .done))) old l used) (sym f) (v .starts));
           records = subst (λ (l : List ℕ). Wrote l rows (take t recs ++ (more ++ drop (length recs - t) (drop t recs))) (t + m)) c (wrote-tail (v .records) so);
@@ -336,6 +344,9 @@ module _ {s : List ℕ} {at n used lost t : ℕ} {seen d old new rows recs : Lis
       pub sec-room : n < 64
       sec-room = omega (arith, took .room, v .marks .count)
 
+      told-is : told .0 ≡ w
+      told-is = sym (section-fits (allKept (v .done)) at b (fine .1) .1) ∙ sym (ap (λ (f : Bool). cond f (16 + lengthOf b) (length b)) (fine .0)) ∙ sym z
+
       sec-wrote : Wrote (whole (length tail) (startsOf b)) tail last k
       sec-wrote = record { count = told .2; bytes = ends .leaves _ (told .1) }
 
@@ -346,7 +357,7 @@ module _ {s : List ℕ} {at n used lost t : ℕ} {seen d old new rows recs : Lis
       sec-starts = ap startsOf (took .cut) ∙ starts-front (took .e) (took .is) (took .more) ∙ sym (ap startsOf sec-is)
 
       pub dividing-kept : {id : ℕ} → id ≡ leAt 4 s at → {seen′ : List ℕ} → Marks seen′ (allKept (v .done) ++ (sec ∷ [])) (n + 1)
-          → Dividing s (at + w) (n + 1) (used + k) lost t seen′ (tallied (writtenSize id w) (seated id at (directoryPlaces + used) d)) old (back last) rows recs
+          → Dividing s (at + w) (n + 1) (used + k) lost t first seen′ (tallied (writtenSize id w) (seated id at (directoryPlaces + used) d)) old (back last) rows recs
       dividing-kept {id} i {seen′} m =
           let e = parts-kept (allKept (v .done)) s at h (told .1) in
           let x : Part = keeps sec in
@@ -374,6 +385,7 @@ module _ {s : List ℕ} {at n used lost t : ℕ} {seen d old new rows recs : Lis
             });
             count = v .count ∙ sym (ap length r);
             few = omega (arith, v .few, dividing-goes .0);
+            firsts = subst (λ (l : List (List ℕ)). FirstSo first (walkedFrom s) lost (sectionsAt (64 - (n + 1)) l s (at + w))) (sym kk) (first-kept s at n lost (allKept (v .done)) h (v .marks .count) first (v .firsts) sec-room (fine .1) told-is (ap (λ (j : ℕ). take j b) (told-is ∙ z)));
             seating = seating-kept (v .seating) sec sec-section new-one (sym (sec-id i)) (v .place) (ap (λ (j : ℕ). directoryPlaces + j) (v .starts .count)) (sym bytes-long);
             starts = subst (λ (l : List (List ℕ)). Wrote (kept (length old) l) old (back last) (used + k)) (sym kk) (subst (λ (bs : List ℕ). Wrote bs old (back last) (used + k)) y (wrote-tail (v .starts) sec-wrote));
             records = subst (λ (l : List (List ℕ)). Wrote (rowsIn (length rows) l) rows recs t) (sym r) (v .records);

@@ -11,3 +11,4 @@ pub mod Dividing
 pub mod Directories
 pub mod Needed
 pub mod Directed
+pub mod Firsts

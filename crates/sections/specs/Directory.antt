@@ -7,15 +7,17 @@ use Prim.Native.Nat.{ℕ, _+_, _-_, _≤_}
 use lib.Dec.{leb, eqb}
 use lib.ListN.{length, drop, getD, set}
 use Rattle.answer.specs.Numbers.{ROOM}
-use Rattle.answer.specs.Outcome.{Outcome, taken, refused, checked, after}
+use Rattle.answer.specs.Outcome.{Outcome, taken, refused, checked}
+use Rattle.answer.specs.declared.Test.{Test}
+use Rattle.answer.specs.declared.Test.the-variants as test
 use Rattle.order.specs.Keyed.{weigh}
 use Rattle.lists.specs.Lists.{whole}
 use Rattle.aerosnap.specs.Known.{known}
-use Rattle.aerosnap.specs.File.{headerChecks, idOf}
+use Rattle.aerosnap.specs.File.{headerChecks, idOf, fileOf}
 use Rattle.aerosnap.specs.Content.{contentOf, secs, render}
 use Rattle.aerosnap.specs.Salvage.{Part, keeps, loses, partsOf, allKept, lossRows}
 use Rattle.sections.specs.declared.Division.{Division}
-use Rattle.sections.specs.declared.Division.the-variants.{Fault, Lost}
+use Rattle.sections.specs.declared.Division.the-variants.{Fault, Whole, Lost}
 use Rattle.sections.specs.Index.{startsOf, kept, isListId}
 
 -- the places of an index that its directory takes
@@ -75,9 +77,14 @@ rowsIn have (r ∷ l) = whole have r ++ rowsIn (have - length (whole have r)) l
 abbrev pub partsIn : ℕ → List ℕ → Outcome (List Part)
 partsIn have s = checked (headerChecks s) (checked ((leb directoryPlaces have, ROOM, directoryPlaces) ∷ []) (taken (partsOf s)))
 
-abbrev pub divisionOf : Division → Outcome ℕ
-divisionOf (Fault n p) = refused n p
-divisionOf (Lost n) = taken n
+-- what is answered of parts: nothing is lost where the reader takes the file, else how many parts are, and the reader's refusal
+abbrev pub lossesOf : Outcome (List (List ℕ)) → List Part → Division
+lossesOf (taken l) parts = Whole
+lossesOf (refused n p) parts = Lost (length (lossRows 16 parts)) n p
+
+abbrev pub divisionOf : List ℕ → Outcome (List Part) → Division
+divisionOf s (taken l) = lossesOf (fileOf s) l
+divisionOf s (refused n p) = Fault n p
 
 -- the lent places and bytes afterwards; a refusal leaves them as they were
 abbrev pub IndexAfter : Outcome (List Part) → List ℕ → List ℕ → Type 0
@@ -88,28 +95,19 @@ abbrev pub rowsAfter : Outcome (List Part) → List ℕ → List ℕ
 rowsAfter (taken l) old = rowsIn (length old) (lossRows 16 l) ++ drop (length (rowsIn (length old) (lossRows 16 l))) old
 rowsAfter (refused n p) old = old
 
--- the promise of the call that finds the parts of s: how many are lost, the index that held `old`, and as many records as stand whole in the buffer that held `rows`
+-- the promise of the call that finds the parts of s: what is lost, the index that held `old`, and as many records as stand whole in the buffer that held `rows`
 pub record Divides (s old rows : List ℕ) (r : Division) (new after-rows : List ℕ) : Type 0 where
-  pub answers : divisionOf r ≡ after (partsIn (length old) s) (λ l. taken (length (lossRows 16 l)))
+  pub answers : r ≡ divisionOf s (partsIn (length old) s)
   pub index : IndexAfter (partsIn (length old) s) old new
   pub records : after-rows ≡ rowsAfter (partsIn (length old) s) rows
 
--- the same by its parts: the directory d alone, and the starts and records in what held `old` and `rows`. The bytes of the header are not counted yet.
-pub record Parted (s d old new rows after-rows : List ℕ) (lost : ℕ) : Type 0 where
-  pub long : length d ≡ directoryPlaces
-  pub others : getD d 0 0 ≡ othersIn (allKept (partsOf s))
-  pub places : (i : ℕ) → 1 ≤ i → i ≤ 8 → getD d i 0 ≡ seatOf (λ x. x .place) i (seats 16 directoryPlaces (length old) (partsOf s))
-  pub firsts : (i : ℕ) → 1 ≤ i → i ≤ 8 → getD d (i + 8) 0 ≡ seatOf (λ x. x .first) i (seats 16 directoryPlaces (length old) (partsOf s))
-  pub sections : getD d 17 0 ≡ length (secs (contentOf (allKept (partsOf s))))
-  pub bytes : 16 + getD d 18 0 ≡ length (render (contentOf (allKept (partsOf s))))
-  pub starts : new ≡ kept (length old) (allKept (partsOf s)) ++ drop (length (kept (length old) (allKept (partsOf s)))) old
-  pub records : after-rows ≡ rowsIn (length rows) (lossRows 16 (partsOf s)) ++ drop (length (rowsIn (length rows) (lossRows 16 (partsOf s)))) rows
-  pub losses : lost ≡ length (lossRows 16 (partsOf s))
-  pub few : lost ≤ length s
-  pub small : getD d 18 0 + 16 ≤ length s
+-- the same as a verdict
+abbrev pub verdictOf : Division → Test
+verdictOf (Fault n p) = test.Fault n p
+verdictOf Whole = test.Fine
+verdictOf (Lost k n p) = test.Fault n p
 
--- the same of the whole index
-pub record Divided (s old new rows after-rows : List ℕ) (lost : ℕ) : Type 0 where
-  pub index : Directory (partsOf s) old new
-  pub records : after-rows ≡ rowsIn (length rows) (lossRows 16 (partsOf s)) ++ drop (length (rowsIn (length rows) (lossRows 16 (partsOf s)))) rows
-  pub losses : lost ≡ length (lossRows 16 (partsOf s))
+-- the promise of the call that makes the index of a file that is taken
+pub record IndexesFile (s old : List ℕ) (r : Test) (new : List ℕ) : Type 0 where
+  pub answers : r ≡ verdictOf (divisionOf s (partsIn (length old) s))
+  pub index : IndexAfter (partsIn (length old) s) old new

@@ -41,7 +41,8 @@ ghost use Rattle.payloads.specs.Starts.{starts};
 ghost use Rattle.sections.specs.Walks.{Marks, walkedFrom, sectionsIn, Read, placeOf};
 ghost use Rattle.sections.specs.Index.{startsOf, firstOf, isListId, countIn, counts, Keeps, Scanned, spotOf, Spotted};
 ghost use Rattle.sections.specs.Places.{placesFor};
-ghost use Rattle.sections.specs.Directory.{directoryPlaces, writtenSize, seated, tallied, Parted, Divided, Divides};
+ghost use Rattle.sections.specs.Steps.{FirstOf, divisionFor, Parted, Divided};
+ghost use Rattle.sections.specs.Directory.{directoryPlaces, writtenSize, seated, tallied, Divides, IndexesFile};
 
 // A place and a number of starts, or a fault.
 pub enum Spot {
@@ -406,10 +407,11 @@ pub fn places_for(file: &[u8], most: usize) -> Places
 // the starts of its list begin, then how many sections and bytes the canonical form has.
 pub const DIRECTORY: usize = 19;
 
-// The first fault of the header, or how many parts of the file are lost.
+// The first fault of the header; else nothing of the file is lost, or so many parts, and then the first fault that the reader finds.
 pub enum Division {
     Fault(u32, usize),
-    Lost(usize),
+    Whole,
+    Lost(usize, u32, usize),
 }
 
 // How long the part at a place is: a section that fits in the file, or else all that is left.
@@ -504,8 +506,38 @@ fn enter(id: u32, at: usize, w: usize, used: usize, dir: &mut [u32])
     tally(written_size(id, w) as u32, dir);
 }
 
-// The parts behind a header that is as it should be: how many are lost. The directory is filled, the starts of each list go into the tail of the starts, and the record of each loss into the tail of the records.
-fn find_parts(s: &[u8], dir: &mut [u32], starts: &mut [u32], losses: &mut [u8]) -> usize
+// The first fault of a file, where a part is lost at a place after n sections that are kept: the one that was found before, or what the reader says of the part. It counts a section before it asks whether its
+// payload fits.
+fn first_of(first: Test, s: &[u8], at: usize, n: usize, number: u32, place: usize) -> Test
+    requires { ⌜ at ≤ length (now s) ⌝ }
+    ensures { λ r. ⌜ FirstOf first (now (s .entry)) at n number place r ⌝ }
+{
+    match first {
+        Test::Fault(earlier, spot) => Test::Fault(earlier, spot),
+        Test::Fine => {
+            if n < 64 {
+                return Test::Fault(number, place);
+            }
+            if s.len() - at < 16 {
+                return Test::Fault(number, place);
+            }
+            Test::Fault(MANY, at)
+        }
+    }
+}
+
+// What is answered of the parts of a file, so many of which are lost.
+fn division_by(first: Test, lost: usize) -> Division
+    ensures { λ r. ⌜ r ≡ divisionFor first lost ⌝ }
+{
+    match first {
+        Test::Fault(number, place) => Division::Lost(lost, number, place),
+        Test::Fine => Division::Whole,
+    }
+}
+
+// The parts behind a header that is as it should be: how many are lost, and the file's first fault. The directory is filled, the starts of each list go into the tail of the starts, and the record of each loss into the tail of the records.
+fn find_parts(s: &[u8], dir: &mut [u32], starts: &mut [u32], losses: &mut [u8]) -> Division
     requires { ⌜ (16 ≤ length (now s)) × (length (now s) ≤ fileMost) × (now dir ≡ zeros directoryPlaces) ⌝ }
     ensures { λ r. ⌜ Parted (now (s .entry)) (now (dir .exit)) (now (starts .entry)) (now (starts .exit)) (now (losses .entry)) (now (losses .exit)) r ⌝ }
 {
@@ -515,11 +547,13 @@ fn find_parts(s: &[u8], dir: &mut [u32], starts: &mut [u32], losses: &mut [u8]) 
     let mut used = 0;
     let mut lost = 0;
     let mut t = 0;
+    let mut first = Test::Fine;
     while at < s.len() {
         let w = part_length(s, at);
         match part_at(s, at, n, &seen, &mut starts[used..]) {
-            Piece::Stop(number, _) => {
+            Piece::Stop(number, place) => {
                 t += put_loss(at, w, number, &mut losses[t..]);
+                first = first_of(first, s, at, n, number, place);
                 lost += 1;
                 at += w;
             }
@@ -533,7 +567,7 @@ fn find_parts(s: &[u8], dir: &mut [u32], starts: &mut [u32], losses: &mut [u8]) 
             }
         }
     }
-    lost
+    division_by(first, lost)
 }
 
 // A number of the directory of an index, 0 past the end.
@@ -559,18 +593,18 @@ fn put_directory(dir: &[u32], index: &mut [u32])
 }
 
 // The parts of a file whose header is as it should be, for an index that has room for the directory.
-fn divide_in(file: &[u8], index: &mut [u32], losses: &mut [u8]) -> usize
+fn divide_in(file: &[u8], index: &mut [u32], losses: &mut [u8]) -> Division
     requires { ⌜ (16 ≤ length (now file)) × (length (now file) ≤ fileMost) × (directoryPlaces ≤ length (now index)) ⌝ }
     ensures { λ r. ⌜ Divided (now (file .entry)) (now (index .entry)) (now (index .exit)) (now (losses .entry)) (now (losses .exit)) r ⌝ }
 {
     let mut dir = [0u32; 19];
-    let lost = find_parts(file, &mut dir, &mut index[DIRECTORY..], losses);
+    let r = find_parts(file, &mut dir, &mut index[DIRECTORY..], losses);
     dir[18] += 16;
     put_directory(&dir, index);
-    lost
+    r
 }
 
-// What is kept of a file and what is lost: how many parts are lost, or the first fault of the header; an index that has no room for the directory is refused. The index then holds the directory and the
+// What is kept of a file and what is lost: how many parts are lost, and the first fault that the reader finds; or the first fault of the header. An index that has no room for the directory is refused. The index then holds the directory and the
 // starts of the lists that are kept, as far as there is room for whole lists, and `losses` the records of what is lost, as far as there is room for whole records. A refusal leaves both as they were.
 pub fn divide(file: &[u8], index: &mut [u32], losses: &mut [u8]) -> Division
     ensures { λ r. ⌜ Divides (now (file .entry)) (now (index .entry)) (now (losses .entry)) r (now (index .exit)) (now (losses .exit)) ⌝ }
@@ -581,7 +615,19 @@ pub fn divide(file: &[u8], index: &mut [u32], losses: &mut [u8]) -> Division
             if index.len() < DIRECTORY {
                 return Division::Fault(ROOM, DIRECTORY);
             }
-            Division::Lost(divide_in(&file[..], index, losses))
+            divide_in(&file[..], index, losses)
         }
+    }
+}
+
+// The index of a file that is taken, with its directory, or the file's first fault; an index that has no room for the directory is refused. The index is left as by `divide`.
+pub fn index_file(file: &[u8], index: &mut [u32]) -> Test
+    ensures { λ r. ⌜ IndexesFile (now (file .entry)) (now (index .entry)) r (now (index .exit)) ⌝ }
+{
+    let mut none = [0u8; 1];
+    match divide(&file[..], index, &mut none[..0]) {
+        Division::Fault(number, place) => Test::Fault(number, place),
+        Division::Whole => Test::Fine,
+        Division::Lost(_, number, place) => Test::Fault(number, place),
     }
 }

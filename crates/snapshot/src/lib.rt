@@ -32,7 +32,8 @@ ghost use Rattle.aerosnap.specs.Calls.{checkCall, sectionsCall, devicesCall, di
 ghost use Rattle.aerosnap.specs.Salvage.{salvage};
 ghost use Rattle.salvage.specs.Salvaging.{Salvages};
 ghost use Rattle.cards.specs.Cards.{openAnswer, WritesBeside};
-ghost use Rattle.cards.specs.Calls.{openCall, addDeviceCall, addDevicesCall, addDiskCall, removeDeviceCall, removeDiskCall, replaceDeviceCall};
+ghost use Rattle.cards.specs.Calls.{openCall, addDeviceCall, addDiskCall, removeDeviceCall, removeDiskCall, replaceDeviceCall};
+ghost use Rattle.cards.specs.Whole.{manyCard};
 ghost use Rattle.sections.specs.Index.{HoldsStarts};
 ghost use Rattle.snapshot.specs.Walks.{Lists};
 ghost use Rattle.snapshot.specs.MetaSection.{silent, metaAt, metaCall, asMeta};
@@ -421,7 +422,7 @@ pub fn add_device(
 
 // The canonical form of a file's content and the devices of a table more: a record of 24 bytes for each, whose payload lies in the second buffer.
 pub fn add_devices(file: &[u8], card: Card, table: &[u8], store: &[u8], out: &mut [u8]) -> Edited
-    ensures { λ r. ⌜ WritesBeside card (addDevicesCall (length (now (out .entry))) card (now (file .entry)) (now (table .entry)) (now (store .entry))) (now (out .entry)) r (now (out .exit)) ⌝ }
+    ensures { λ r. ⌜ WritesBeside card (manyCard (length (now (out .entry))) card (now (file .entry)) (now (table .entry)) (now (store .entry))) (now (out .entry)) r (now (out .exit)) ⌝ }
 {
     edits::added(card, table, store, file, out)
 }

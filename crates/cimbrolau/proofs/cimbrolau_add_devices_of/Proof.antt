@@ -58,7 +58,7 @@ use Rattle.aerosnap.proofs.NewDevice.Laws as T′
 use Rattle.cards.specs.declared.Card.{Card}
 use Rattle.cards.specs.declared.Edited.{Edited}
 use Rattle.cards.specs.Cards.{WritesBeside}
-use Rattle.cards.specs.Calls.{addDevicesCall}
+use Rattle.cards.specs.Whole.{manyCard}
 use Rattle.cards.specs.Whole.{addAllCard}
 use Rattle.cards.proofs.Card as C
 use Rattle.cards.proofs.Card.Laws as C′
@@ -357,7 +357,7 @@ module _ {M : Type 1} (𝓤 : URA M) (H : Heap 𝓤) (A : Atoms 𝓤) (W : Given
             by ! (exits r w (ws .1 .1 .1 .1 .1 .0) l (part-end (length os) fs ps p (ltb-false i m over) e))))))))))
           where
             Answers : Edited → List ℕ → Type 0
-            Answers r l = WritesBeside k (addDevicesCall (length os) k fs (take (m * 24) zs) ps) os r l
+            Answers r l = WritesBeside k (manyCard (length os) k fs (take (m * 24) zs) ps) os r l
 
         turns : (z : Bool) → ltb i m ≡ z → Sq W (At (i, (zs, p))) (runs (𝓣 .C) (𝓣 .Λ) En body.turn-1 (anyQ (Turned (i, (zs, p)))))
         turns true less = more less

@@ -1,5 +1,5 @@
 use Rattle.sections.proofs.Directories.{middle-long, index-made}
-use Rattle.sections.specs.Directory.{Parted}
+use Rattle.sections.specs.Steps.{Parted}
 use mathlib.Core.Path.{_∙_}
 use Prim.Native.Nat.{_-_}
 use lib.ListN.{length, take, drop, length-set}

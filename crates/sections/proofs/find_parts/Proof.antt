@@ -11,10 +11,10 @@ use Rattle.sections.proofs.find_parts.Statement.{statement}
 use Rattle.sections.proofs.find_parts.Tie as tie
 
 abbrev Inv-loop : tie.InvT-loop
-Inv-loop s dir₀ starts₀ losses₀ seen₀ at₀ n₀ used₀ lost₀ t₀ dir starts losses seen at n used lost t = Dividing s at n used lost t seen dir starts₀ starts losses₀ losses
+Inv-loop s dir₀ starts₀ losses₀ seen₀ at₀ n₀ used₀ lost₀ t₀ first₀ dir starts losses seen at n used lost t first = Dividing s at n used lost t first seen dir starts₀ starts losses₀ losses
 
 abbrev μ-loop : tie.MeasureT-loop
-μ-loop s dir₀ starts₀ losses₀ seen₀ at₀ n₀ used₀ lost₀ t₀ dir starts losses seen at n used lost t = length s - at
+μ-loop s dir₀ starts₀ losses₀ seen₀ at₀ n₀ used₀ lost₀ t₀ first₀ dir starts losses seen at n used lost t first = length s - at
 
 -- what the call said that read the part at the place
 abbrev Read : Type 0
@@ -23,7 +23,7 @@ Read = tie.After-part-at Inv-loop μ-loop
 abbrev start : Read → tie.Start Inv-loop μ-loop
 start c = c .before .before .before .before .before .before .before .before .before .before
 
-abbrev now : (c : Read) → let l = c .before .before .before .before .before .loop in let a = start c .args in Dividing (a .s .now) (l .at) (l .n) (l .used) (l .lost) (l .t) (l .seen) (l .dir) (a .starts .now) (l .starts) (a .losses .now) (l .losses)
+abbrev now : (c : Read) → let l = c .before .before .before .before .before .loop in let a = start c .args in Dividing (a .s .now) (l .at) (l .n) (l .used) (l .lost) (l .t) (l .first) (l .seen) (l .dir) (a .starts .now) (l .starts) (a .losses .now) (l .losses)
 now c = c .before .before .before .before .before .loop .inv
 
 told : (c : Read) {r : Piece} → c .part-at .result ≡ r → Told (now c) r (c .part-at .last .1 .1 .1 .1 .0)
@@ -91,20 +91,23 @@ add-t c =
     let l = c .before .before .before .before .before .before .before .before .before .before .before .before .before .before .loop in
     omega (arith, dividing-more (l .inv) (lossBytes (l .at) (c .before .before .before .before .before .before .before .before .before .before .before .before .part-length .result) (c .before .before .before .before .before .number .given .0 .0)) (c .before .before .put-loss .ensures .count), dividing-rows (l .inv))
 
+first-of-requires : tie.Need-first-of-requires Inv-loop μ-loop
+first-of-requires c κs = c .before .before .before .before .before .before .before .before .before .before .before .before .before .before .loop .inv .inside
+
 add-lost : tie.Need-add-lost Inv-loop μ-loop
-add-lost c = let j = gone (c .before .before) .before .before .before .before in omega (arith, now j .few, now j .inside, start j .pre .1)
+add-lost c = let j = gone (c .before .before .before) .before .before .before .before in omega (arith, now j .few, now j .inside, start j .pre .1)
 
 add-at : tie.Need-add-at Inv-loop μ-loop
-add-at c = let j = gone (c .before .before) .before .before .before .before in omega (arith, goes j .1, start j .pre .1)
+add-at c = let j = gone (c .before .before .before) .before .before .before .before in omega (arith, goes j .1, start j .pre .1)
 
 loop-less : tie.Need-loop-less Inv-loop μ-loop
-loop-less c = let j = gone (c .before .before) .before .before .before .before in omega (arith, goes j .0, goes j .1)
+loop-less c = let j = gone (c .before .before .before) .before .before .before .before in omega (arith, goes j .0, goes j .1)
 
 loop-again : tie.Need-loop-again Inv-loop μ-loop
 loop-again c =
-    let k = gone (c .before .before) in
+    let k = gone (c .before .before .before) in
     let j = k .before .before .before .before in
-    dividing-lost (now j) (j .before .before .before .before .loop-test .taken) (j .before .before .before .part-length .ensures) (lost k) (c .before .before .put-loss .ensures)
+    dividing-lost (now j) (j .before .before .before .before .loop-test .taken) (j .before .before .before .part-length .ensures) (lost k) (c .first-of .result) (c .first-of .ensures) (c .before .before .before .put-loss .ensures)
 
 enter-requires : tie.Need-enter-requires Inv-loop μ-loop
 enter-requires c κs =
@@ -137,16 +140,16 @@ loop-again-2 c =
     rw (c .before .before .before .before .enter .ensures) (dividing-kept v h z (kept k) i m)
 
 same-length : tie.Need-same-length Inv-loop μ-loop
-same-length c = c .before .loop .inv .seating .long ∙ sym (ap length (c .before .before .before .before .before .before .pre .2))
+same-length c = c .before .before .loop .inv .seating .long ∙ sym (ap length (c .before .before .before .before .before .before .before .pre .2))
 
 same-length-2 : tie.Need-same-length-2 Inv-loop μ-loop
-same-length-2 c = dividing-long (c .before .loop .inv)
+same-length-2 c = dividing-long (c .before .before .loop .inv)
 
 same-length-3 : tie.Need-same-length-3 Inv-loop μ-loop
-same-length-3 c = dividing-rows (c .before .loop .inv)
+same-length-3 c = dividing-rows (c .before .before .loop .inv)
 
 returns : tie.Need-returns Inv-loop μ-loop
-returns c = dividing-done (c .before .loop .inv) (c .loop-test .left) (c .before .before .before .before .before .before .pre .1)
+returns c = dividing-done (c .before .before .loop .inv) (c .before .loop-test .left) (c .before .before .before .before .before .before .before .pre .1) (c .division-by .ensures)
 
 pub find-parts-spec : {M : Type 1} → statement M
 find-parts-spec =
@@ -167,6 +170,7 @@ find-parts-spec =
     (λ c. omega arith)
     (λ c κs. search needs)
     add-t
+    first-of-requires
     add-lost
     add-at
     loop-less
@@ -180,6 +184,7 @@ find-parts-spec =
     add-at-2
     loop-less-2
     loop-again-2
+    (λ c κs. search needs)
     same-length
     same-length-2
     same-length-3
