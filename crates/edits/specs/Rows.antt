@@ -18,7 +18,8 @@ use Rattle.order.specs.Keyed.{Every}
 use Rattle.entries.specs.Kinds.{devices}
 use Rattle.lists.specs.declared.Found.{Found}
 use Rattle.lists.specs.declared.Found.the-variants.{There, Free}
-use Rattle.lists.specs.Promises.{findIn, arrangedMost}
+use Rattle.sorting.specs.Sorting.{arrangedMost}
+use Rattle.lists.specs.Promises.{findIn}
 use Rattle.aerosnap.specs.declared.NewDevice.{NewDevice}
 use Rattle.aerosnap.specs.declared.Side.the-variants.{OfDevices}
 use Rattle.aerosnap.specs.File.{fileMost, sectionsMost}

@@ -22,6 +22,7 @@ use entries::IMAGE_MOST;
 use entries::Kind;
 use entries::PAYLOAD_MOST;
 use entries::device_key;
+use entries::device_length;
 use entries::key_at;
 use entries::length_at;
 use entries::most_of;
@@ -1337,7 +1338,7 @@ fn payload_sum(p: &[u8], starts: &[u32]) -> usize
     let mut n = 0;
     while i < starts.len() {
         let at = starts[i] as usize;
-        n += length_at(Kind::Devices, p, at) - 16;
+        n += device_length(p, at) - 16;
         i += 1;
     }
     n

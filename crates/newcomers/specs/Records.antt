@@ -4,7 +4,7 @@ use mathlib.Core.Bool.{cond}
 use mathlib.Core.List.{List, [], _∷_, _++_}
 use Prim.Native.Nat.{ℕ, _*_, _<_}
 use lib.Dec.{leb, ltb}
-use Rattle.lists.specs.Promises.{arrangedMost}
+use Rattle.sorting.specs.Sorting.{arrangedMost}
 use Rattle.wire.specs.Numbers.{bytesOf}
 use Rattle.wire.specs.Parts.{put}
 use Rattle.aerosnap.specs.declared.NewDevice.{NewDevice}
