@@ -38,7 +38,7 @@ use Rattle.aerosnap.proofs.Slots.{once-last}
 use Rattle.aerosnap.proofs.Written.{isEmpty, tidy-one}
 use Rattle.sections.specs.Walks.{Marks, walkedFrom}
 use Rattle.sections.specs.Index.{startsOf, kept, Keeps}
-use Rattle.sections.specs.Directory.{directoryPlaces, Seat, seats, seatOf, othersIn, writtenSize, seated, tallied, rowsIn}
+use Rattle.sections.specs.Directory.{directoryPlaces, Seat, seats, seatOf, othersIn, writtenSize, seated, tallied, lossRowsIn}
 use Rattle.sections.specs.Steps.{FirstOf, divisionFor, Parted}
 use Rattle.sections.specs.declared.Division.{Division}
 use Rattle.answer.specs.declared.Test.{Test}
@@ -86,22 +86,22 @@ loss-put old at n k h so =
     let i : length (lossBytes at n k) ≤ length old = omega (arith, length-loss at n k) in
     rw (le-leb (length (lossBytes at n k)) (length old) i) so
 
-pub rows-fit : (have : ℕ) (l : List (List ℕ)) → length (rowsIn have l) ≤ have
+pub rows-fit : (have : ℕ) (l : List (List ℕ)) → length (lossRowsIn have l) ≤ have
 rows-fit have [] = omega arith
 rows-fit have (r ∷ l) =
     let w : List ℕ = whole have r in
-    omega (arith, length-append w (rowsIn (have - length w) l), whole-fits have r, rows-fit (have - length w) l)
+    omega (arith, length-append w (lossRowsIn (have - length w) l), whole-fits have r, rows-fit (have - length w) l)
 
-rows-last : (have : ℕ) (l : List (List ℕ)) (r : List ℕ) → rowsIn have (l ++ (r ∷ [])) ≡ rowsIn have l ++ whole (have - length (rowsIn have l)) r
+rows-last : (have : ℕ) (l : List (List ℕ)) (r : List ℕ) → lossRowsIn have (l ++ (r ∷ [])) ≡ lossRowsIn have l ++ whole (have - length (lossRowsIn have l)) r
 rows-last have [] r = append-nil (whole have r) ∙ ap (λ (m : ℕ). whole m r) (omega arith)
 rows-last have (x ∷ l) r =
     let w : List ℕ = whole have x in
-    let k : List ℕ = rowsIn (have - length w) l in
+    let k : List ℕ = lossRowsIn (have - length w) l in
     let n : have - length w - length k ≡ have - length (w ++ k) = omega (arith, length-append w k) in
     ap (λ (t : List ℕ). w ++ t) (rows-last (have - length w) l r ∙ ap (λ (m : ℕ). k ++ whole m r) n)
     ∙ sym (append-assoc w k (whole (have - length (w ++ k)) r))
 
-pub rows-all : (have : ℕ) (l : List (List ℕ)) → length (join l) ≤ have → rowsIn have l ≡ join l
+pub rows-all : (have : ℕ) (l : List (List ℕ)) → length (join l) ≤ have → lossRowsIn have l ≡ join l
 rows-all have [] h = refl
 rows-all have (r ∷ l) h =
     let n = length-append r (join l) in
@@ -140,7 +140,7 @@ pub record Dividing (s : List ℕ) (at n used lost t : ℕ) (first : Test) (seen
   pub firsts : FirstSo first (walkedFrom s) lost (sectionsAt (64 - n) (allKept done) s at)
   pub seating : Seating done (length old) d
   pub starts : Wrote (kept (length old) (allKept done)) old new used
-  pub records : Wrote (rowsIn (length rows) (lossRows 16 done)) rows recs t
+  pub records : Wrote (lossRowsIn (length rows) (lossRows 16 done)) rows recs t
 
 pub dividing-start : (s d old rows : List ℕ) → 16 ≤ length s → d ≡ zeros directoryPlaces → Dividing s 16 0 0 0 0 Fine (replicate 9 0) d old old rows rows
 dividing-start s d old rows h z = record {
@@ -250,7 +250,7 @@ module _ {s : List ℕ} {at n used lost t : ℕ} {first : Test} {seen d old new 
       sections = v .seating .sections ∙ sym (secs-count (allKept (v .done)) valid) ∙ ap (λ (l : List Part). length (secs (contentOf (allKept l)))) all;
       bytes = ap (λ (k : ℕ). 16 + k) (v .seating .bytes) ∙ sym (render-size (allKept (v .done)) valid) ∙ ap (λ (l : List Part). length (render (contentOf (allKept l)))) all;
       starts = v .starts .bytes ∙ ap (λ (l : List Part). kept (length old) (allKept l) ++ drop (length (kept (length old) (allKept l))) old) all;
-      records = v .records .bytes ∙ ap (λ (l : List Part). rowsIn (length rows) (lossRows 16 l) ++ drop (length (rowsIn (length rows) (lossRows 16 l))) rows) all;
+      records = v .records .bytes ∙ ap (λ (l : List Part). lossRowsIn (length rows) (lossRows 16 l) ++ drop (length (lossRowsIn (length rows) (lossRows 16 l))) rows) all;
       losses = e ∙ first-done s at (64 - n) lost (allKept (v .done)) h first (v .firsts) (partsOf s) (v .count ∙ ap (λ (l : List Part). length (lossRows 16 l)) all);
       small = omega (arith, dividing-bytes, v .inside);
     }
@@ -289,8 +289,8 @@ module _ {s : List ℕ} {at n used lost t : ℕ} {first : Test} {seen d old new 
         let kk : allKept g ≡ allKept (v .done) = kept-step (v .done) x ∙ append-nil (allKept (v .done)) in
         let y : List ℕ = lossBytes at w a in
         let u : lossRows 16 g ≡ lossRows 16 (v .done) ++ (y ∷ []) = loss-last (v .done) 16 x ∙ cc (v .place, bytes-long) in
-        let o : length rtail ≡ length rows - length (rowsIn (length rows) (lossRows 16 (v .done))) = length-tail t recs ∙ omega (arith, dividing-rows, v .records .count) in
-        let c : rowsIn (length rows) (lossRows 16 (v .done)) ++ whole (length rtail) y ≡ rowsIn (length rows) (lossRows 16 g) = cc (o, rows-last (length rows) (lossRows 16 (v .done)) y, u) in
+        let o : length rtail ≡ length rows - length (lossRowsIn (length rows) (lossRows 16 (v .done))) = length-tail t recs ∙ omega (arith, dividing-rows, v .records .count) in
+        let c : lossRowsIn (length rows) (lossRows 16 (v .done)) ++ whole (length rtail) y ≡ lossRowsIn (length rows) (lossRows 16 g) = cc (o, rows-last (length rows) (lossRows 16 (v .done)) y, u) in
         let f : back last ≡ new = ap back (k .stays a p r) ∙ restored in
         record {
           done = g;
@@ -388,5 +388,5 @@ module _ {s : List ℕ} {at n used lost t : ℕ} {first : Test} {seen d old new 
             firsts = subst (λ (l : List (List ℕ)). FirstSo first (walkedFrom s) lost (sectionsAt (64 - (n + 1)) l s (at + w))) (sym kk) (first-kept s at n lost (allKept (v .done)) h (v .marks .count) first (v .firsts) sec-room (fine .1) told-is (ap (λ (j : ℕ). take j b) (told-is ∙ z)));
             seating = seating-kept (v .seating) sec sec-section new-one (sym (sec-id i)) (v .place) (ap (λ (j : ℕ). directoryPlaces + j) (v .starts .count)) (sym bytes-long);
             starts = subst (λ (l : List (List ℕ)). Wrote (kept (length old) l) old (back last) (used + k)) (sym kk) (subst (λ (bs : List ℕ). Wrote bs old (back last) (used + k)) y (wrote-tail (v .starts) sec-wrote));
-            records = subst (λ (l : List (List ℕ)). Wrote (rowsIn (length rows) l) rows recs t) (sym r) (v .records);
+            records = subst (λ (l : List (List ℕ)). Wrote (lossRowsIn (length rows) l) rows recs t) (sym r) (v .records);
           }

@@ -69,9 +69,9 @@ pub record Directory (l : List Part) (old new : List ℕ) : Type 0 where
   pub starts : drop directoryPlaces new ≡ kept (length old - directoryPlaces) (allKept l) ++ drop (length (kept (length old - directoryPlaces) (allKept l))) (drop directoryPlaces old)
 
 -- records one after another, for a buffer that holds so many bytes: each wholly or not at all
-abbrev pub rowsIn : ℕ → List (List ℕ) → List ℕ
-rowsIn have [] = []
-rowsIn have (r ∷ l) = whole have r ++ rowsIn (have - length (whole have r)) l
+abbrev pub lossRowsIn : ℕ → List (List ℕ) → List ℕ
+lossRowsIn have [] = []
+lossRowsIn have (r ∷ l) = whole have r ++ lossRowsIn (have - length (whole have r)) l
 
 -- the parts of a file whose header has no fault, for an index that has room for the directory
 abbrev pub partsIn : ℕ → List ℕ → Outcome (List Part)
@@ -92,7 +92,7 @@ IndexAfter (taken l) old new = Directory l old new
 IndexAfter (refused n p) old new = new ≡ old
 
 abbrev pub rowsAfter : Outcome (List Part) → List ℕ → List ℕ
-rowsAfter (taken l) old = rowsIn (length old) (lossRows 16 l) ++ drop (length (rowsIn (length old) (lossRows 16 l))) old
+rowsAfter (taken l) old = lossRowsIn (length old) (lossRows 16 l) ++ drop (length (lossRowsIn (length old) (lossRows 16 l))) old
 rowsAfter (refused n p) old = old
 
 -- the promise of the call that finds the parts of s: what is lost, the index that held `old`, and as many records as stand whole in the buffer that held `rows`

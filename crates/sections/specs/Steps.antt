@@ -15,7 +15,7 @@ use Rattle.sections.specs.declared.Division.{Division}
 use Rattle.sections.specs.declared.Division.the-variants.{Lost, Whole}
 use Rattle.sections.specs.Walks.{walkedFrom, Read}
 use Rattle.sections.specs.Index.{startsOf, kept}
-use Rattle.sections.specs.Directory.{directoryPlaces, seats, seatOf, othersIn, rowsIn, lossesOf, Directory}
+use Rattle.sections.specs.Directory.{directoryPlaces, seats, seatOf, othersIn, lossRowsIn, lossesOf, Directory}
 
 -- the sections that are kept of a file
 abbrev pub held : List ℕ → List (List ℕ)
@@ -70,12 +70,12 @@ pub record Parted (s d old new rows after-rows : List ℕ) (r : Division) : Type
   pub sections : getD d 17 0 ≡ length (secs (contentOf (allKept (partsOf s))))
   pub bytes : 16 + getD d 18 0 ≡ length (render (contentOf (allKept (partsOf s))))
   pub starts : new ≡ kept (length old) (allKept (partsOf s)) ++ drop (length (kept (length old) (allKept (partsOf s)))) old
-  pub records : after-rows ≡ rowsIn (length rows) (lossRows 16 (partsOf s)) ++ drop (length (rowsIn (length rows) (lossRows 16 (partsOf s)))) rows
+  pub records : after-rows ≡ lossRowsIn (length rows) (lossRows 16 (partsOf s)) ++ drop (length (lossRowsIn (length rows) (lossRows 16 (partsOf s)))) rows
   pub losses : r ≡ lossesOf (walkedFrom s) (partsOf s)
   pub small : getD d 18 0 + 16 ≤ length s
 
 -- the same of the whole index
 pub record Divided (s old new rows after-rows : List ℕ) (r : Division) : Type 0 where
   pub index : Directory (partsOf s) old new
-  pub records : after-rows ≡ rowsIn (length rows) (lossRows 16 (partsOf s)) ++ drop (length (rowsIn (length rows) (lossRows 16 (partsOf s)))) rows
+  pub records : after-rows ≡ lossRowsIn (length rows) (lossRows 16 (partsOf s)) ++ drop (length (lossRowsIn (length rows) (lossRows 16 (partsOf s)))) rows
   pub losses : r ≡ lossesOf (walkedFrom s) (partsOf s)
