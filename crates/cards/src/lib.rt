@@ -1,4 +1,6 @@
 // The card: what the tablet shows of a canonical file, and how its numbers move with an edit. Nothing below an edit knows of it.
+use aerosnap::DEVICES_MOST;
+use aerosnap::SECTIONS_MOST;
 use lists::FILE_MOST;
 ghost use mathlib.Core.Path.{_≡_};
 ghost use mathlib.Core.Bool.{true, _&&_};
@@ -36,11 +38,11 @@ const SHORTEST: u64 = 16;
 
 const LONGEST: u64 = FILE_MOST as u64;
 
-const SECTIONS_MOST: u64 = 64;
+const MOST_SECTIONS: u64 = SECTIONS_MOST as u64;
 
-const DEVICES_MOST: u64 = 4096;
+const MOST_DEVICES: u64 = 4096;
 
-const PAYLOADS_MOST: u64 = 268435456;
+const MOST_PAYLOADS: u64 = DEVICES_MOST as u64;
 
 // Whether a number that grows by d stays within lo and hi. No sum is formed, so none wraps.
 fn is_raised(lo: u64, hi: u64, d: u64, n: u64) -> bool
@@ -102,13 +104,13 @@ pub fn move_by(card: Card, a: Card, b: Card) -> Moved
     if !is_within(SHORTEST, LONGEST, a.length, b.length, card.length) {
         return Moved::Out;
     }
-    if !is_within(0, SECTIONS_MOST, a.sections, b.sections, card.sections) {
+    if !is_within(0, MOST_SECTIONS, a.sections, b.sections, card.sections) {
         return Moved::Out;
     }
-    if !is_within(0, DEVICES_MOST, a.devices, b.devices, card.devices) {
+    if !is_within(0, MOST_DEVICES, a.devices, b.devices, card.devices) {
         return Moved::Out;
     }
-    if !is_within(0, PAYLOADS_MOST, a.payloads, b.payloads, card.payloads) {
+    if !is_within(0, MOST_PAYLOADS, a.payloads, b.payloads, card.payloads) {
         return Moved::Out;
     }
     Moved::To(Card {

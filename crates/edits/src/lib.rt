@@ -1,6 +1,7 @@
 // Edits of a snapshot file beside a card: a device or a disk more, one fewer, a payload exchanged, or the devices of a table; and the card of a file. An edit is planned whole before the first byte is written. The file
 // is written by the directory of its index, each section into the tail of the output from where the last one ended, and the new entry between those of its list.
 // Slices that are handed on as `&s[..]` go in registers (decision 38).
+use aerosnap::SECTIONS_MOST;
 use aerosnap::Side;
 use answer::ABSENT;
 use answer::Answer;
@@ -424,7 +425,7 @@ fn bounds(most: usize, id: u32, entries: usize, bytes: usize, size: Extent, have
     if !sections::small(id, bytes) {
         return Test::Fault(LIMIT, 0);
     }
-    if 64 < size.sections {
+    if SECTIONS_MOST < size.sections {
         return Test::Fault(MANY, 0);
     }
     if FILE_MOST < size.bytes {

@@ -12,7 +12,8 @@ use Rattle.answer.proofs.Checks.{checked-after}
 use Rattle.answer.proofs.Outcomes.{taken-is, taken-refused}
 use Rattle.entries.specs.Kinds.{Description}
 use Rattle.entries.proofs.Lawful.{Lawful}
-use Rattle.lists.specs.Lists.{listAt, partChecks, listOf, whole, indexOf}
+use Rattle.lists.specs.Lists.{listAt, partChecks, whole, indexOf}
+use Rattle.lists.specs.Steps.{listOf}
 use Rattle.lists.specs.Promises.{Indexed}
 use Rattle.lists.proofs.Taken.{list-sound}
 use Rattle.lists.proofs.Ordered.{index-length}

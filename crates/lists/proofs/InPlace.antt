@@ -23,9 +23,9 @@ use Rattle.answer.proofs.Outcomes.{done-stop, done-taken, taken-refused}
 use Rattle.wire.specs.Numbers.{leAt}
 use Rattle.entries.specs.Kinds.{Description}
 use Rattle.entries.proofs.Lawful.{Lawful}
-use Rattle.lists.specs.Lists.{listAt, partChecks, listOf, whole, indexOf}
-use Rattle.lists.specs.Promises.{zeros, MayWrite, Indexed}
-use Rattle.lists.specs.Steps.{Room, Gathered, Restored}
+use Rattle.lists.specs.Lists.{listAt, partChecks, whole, indexOf}
+use Rattle.lists.specs.Steps.{listOf, MayWrite, Room, Gathered, Restored}
+use Rattle.lists.specs.Promises.{zeros, Indexed}
 use Rattle.lists.proofs.Exits.{part-fine}
 use Rattle.lists.proofs.Ordered.{index-length}
 use Rattle.lists.proofs.Callers.{list-then}

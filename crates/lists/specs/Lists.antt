@@ -88,10 +88,6 @@ fileMost = 1073741824
 abbrev pub partChecks : List ℕ → Checks
 partChecks s = (leb (length s) fileMost, SIZE, 0) ∷ []
 
--- the list that a slice is, if it is no longer than a file may be
-abbrev pub listOf : Description → List ℕ → Outcome (List ℕ)
-listOf d s = checked (partChecks s) (listAt d s)
-
 -- all of l, or none where it has more than so many
 abbrev pub whole : ℕ → List ℕ → List ℕ
 whole have l = cond (leb (length l) have) l []

@@ -27,11 +27,6 @@ abbrev pub lentAfter : Outcome (List ℕ) → List ℕ → List ℕ
 lentAfter (taken l) old = l ++ drop (length l) old
 lentAfter (refused n p) old = old
 
--- places may be written over before it is known what the outcome is: they hold nothing, so that clearing them is to leave them as they were, or it is no refusal
-abbrev pub MayWrite : {A : Type 0} → Outcome A → List ℕ → Test → Type 0
-MayWrite o old (Fault n p) = o ≡ refused n p
-MayWrite {A} o old Fine = (old ≡ zeros (length old)) ⊎ ((a : A) × (o ≡ taken a))
-
 -- the promise of the call that indexes a list: how many starts, and the starts in the lent places that held `old`
 pub record Indexed (o : Outcome (List ℕ)) (old : List ℕ) (r : Piece) (new : List ℕ) : Type 0 where
   pub answers : pieceOf r ≡ after o (λ l. taken (length l))

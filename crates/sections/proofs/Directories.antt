@@ -19,8 +19,7 @@ use Rattle.sections.specs.declared.Division.{Division}
 use Rattle.sections.specs.declared.Division.the-variants.{Fault}
 use Rattle.sections.specs.Index.{kept}
 use Rattle.sections.specs.Directory.{directoryPlaces, seats, seatOf, Directory, partsIn, divisionOf, lossesOf, IndexAfter, rowsAfter, Divides, IndexesFile}
-use Rattle.sections.specs.Steps.{Parted, Divided}
-use Rattle.sections.specs.Walks.{walkedFrom}
+use Rattle.sections.specs.Steps.{Parted, Divided, walkedFrom}
 use Rattle.answer.specs.declared.Test.{Test}
 
 -- ---- a directory stored

@@ -36,10 +36,9 @@ use Rattle.aerosnap.proofs.Judged.{span}
 use Rattle.aerosnap.proofs.Copies.{secs-count, render-size}
 use Rattle.aerosnap.proofs.Slots.{once-last}
 use Rattle.aerosnap.proofs.Written.{isEmpty, tidy-one}
-use Rattle.sections.specs.Walks.{Marks, walkedFrom}
-use Rattle.sections.specs.Index.{startsOf, kept, Keeps}
-use Rattle.sections.specs.Directory.{directoryPlaces, Seat, seats, seatOf, othersIn, writtenSize, seated, tallied, lossRowsIn}
-use Rattle.sections.specs.Steps.{FirstOf, divisionFor, Parted}
+use Rattle.sections.specs.Steps.{walkedFrom, Marks, Keeps, tallied, seated, writtenSize, FirstOf, divisionFor, Parted}
+use Rattle.sections.specs.Index.{startsOf, kept}
+use Rattle.sections.specs.Directory.{directoryPlaces, Seat, seats, seatOf, othersIn, lossRowsIn}
 use Rattle.sections.specs.declared.Division.{Division}
 use Rattle.answer.specs.declared.Test.{Test}
 use Rattle.answer.specs.declared.Test.the-variants.{Fine}

@@ -18,9 +18,8 @@ use Rattle.aerosnap.specs.Salvage.{Part, partsOf, lossRows, readPart}
 use Rattle.aerosnap.proofs.Turns.{sectionsAt, walk-end, walk-stop, walk-next}
 use Rattle.sections.specs.declared.Division.{Division}
 use Rattle.sections.specs.declared.Division.the-variants.{Lost, Whole}
-use Rattle.sections.specs.Walks.{walkedFrom}
+use Rattle.sections.specs.Steps.{walkedFrom, FirstFound, FirstOf, divisionFor}
 use Rattle.sections.specs.Directory.{lossesOf}
-use Rattle.sections.specs.Steps.{FirstFound, FirstOf, divisionFor}
 
 -- ---- the reader's own answer
 

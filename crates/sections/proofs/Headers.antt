@@ -21,8 +21,9 @@ use Rattle.wire.specs.Parts.{same}
 use Rattle.wire.proofs.Letters.{same-number}
 use Rattle.aerosnap.specs.File.{fileMost, letters, headerChecks, fileOf}
 use Rattle.aerosnap.proofs.Turns.{file-header}
-use Rattle.lists.specs.Promises.{MayWrite}
-use Rattle.sections.specs.Walks.{walkedFrom, counted}
+use Rattle.lists.specs.Steps.{MayWrite}
+use Rattle.sections.specs.Walks.{counted}
+use Rattle.sections.specs.Steps.{walkedFrom}
 use Rattle.sections.specs.Index.{Scanned}
 
 -- a number that was read, against the one that must stand there

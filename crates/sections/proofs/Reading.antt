@@ -27,7 +27,8 @@ use Rattle.aerosnap.specs.File.{fileOf}
 use Rattle.sections.specs.declared.Spot.{Spot}
 use Rattle.sections.specs.declared.Spot.the-variants.{At}
 use Rattle.sections.specs.Walks.{sectionsIn, Read}
-use Rattle.sections.specs.Index.{kept, keptIn, HoldsStarts, startsOf, Reading, firstOf, spotOf, Spotted}
+use Rattle.sections.specs.Index.{kept, keptIn, startsOf, Reading, firstOf, spotOf, Spotted}
+use Rattle.sections.specs.Steps.{HoldsStarts}
 use Rattle.sections.proofs.Found.{Sited, spot-taken, Here}
 use Rattle.sections.proofs.Kept.{kept-all, its-payload, its-body, listed-id, starts-count}
 

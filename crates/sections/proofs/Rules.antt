@@ -27,8 +27,8 @@ use Rattle.aerosnap.specs.Payloads.{bodyOf, payload}
 use Rattle.aerosnap.specs.File.{sectionsMost, slotOf, knownChecks, ruled, sectionOf}
 use Rattle.aerosnap.proofs.Bodies.{lawful-body, payload-within}
 use Rattle.payloads.specs.Starts.{starts, keptOf}
-use Rattle.sections.specs.Walks.{Marks}
-use Rattle.sections.specs.Index.{startsOf, Keeps}
+use Rattle.sections.specs.Steps.{Marks, Keeps}
+use Rattle.sections.specs.Index.{startsOf}
 use Rattle.sections.proofs.Kept.{body-other}
 
 -- ---- a known section

@@ -26,7 +26,8 @@ use Rattle.aerosnap.proofs.Judged.{span}
 use Rattle.aerosnap.proofs.Slots.{known-range}
 use Rattle.aerosnap.proofs.Written.{isEmptyBy, isEmpty, tidy-one}
 use Rattle.sections.specs.Index.{startsOf, kept, isListId}
-use Rattle.sections.specs.Directory.{directoryPlaces, Seat, seats, seatOf, othersIn, writtenSize, seated, tallied}
+use Rattle.sections.specs.Directory.{directoryPlaces, Seat, seats, seatOf, othersIn}
+use Rattle.sections.specs.Steps.{tallied, seated, writtenSize}
 use Rattle.sections.proofs.Kept.{listed-id}
 
 -- ---- seats

@@ -26,10 +26,12 @@ use Rattle.aerosnap.proofs.Sections.{id-front, length-front, section-sound}
 use Rattle.aerosnap.proofs.Turns.{sectionsAt, walk-end, walk-stop, walk-next}
 use Rattle.lists.specs.Lists.{whole}
 use Rattle.answer.specs.declared.Test.the-variants.{Fine}
-use Rattle.lists.specs.Promises.{zeros, lentAfter, MayWrite}
+use Rattle.lists.specs.Promises.{zeros, lentAfter}
+use Rattle.lists.specs.Steps.{MayWrite}
 use Rattle.lists.proofs.InPlace.{cleared}
-use Rattle.sections.specs.Walks.{Marks, counted, walkedFrom}
-use Rattle.sections.specs.Index.{startsOf, kept, keptIn, Keeps, Scanned}
+use Rattle.sections.specs.Walks.{counted}
+use Rattle.sections.specs.Steps.{walkedFrom, Marks, Keeps}
+use Rattle.sections.specs.Index.{startsOf, kept, keptIn, Scanned}
 use Rattle.sections.proofs.Kept.{whole-fits, kept-fits, kept-last, starts-front}
 
 -- ---- marks

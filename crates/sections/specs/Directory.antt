@@ -45,18 +45,6 @@ seatOf f i (x ∷ l) = cond (eqb (x .id) i) (f x) (seatOf f i l)
 abbrev pub othersIn : List (List ℕ) → ℕ
 othersIn l = weigh (λ e. cond (known (idOf e)) 0 1) l
 
--- how many bytes are written of a section of w bytes: none of a list whose payload is its count alone
-abbrev pub writtenSize : ℕ → ℕ → ℕ
-writtenSize id w = cond (isListId id && eqb w 20) 0 w
-
--- a directory with one section more: a known one at its id, another counted
-abbrev pub seated : ℕ → ℕ → ℕ → List ℕ → List ℕ
-seated id at first d = cond (known id) (set (set d id at) (id + 8) first) (set d 0 (getD d 0 0 + 1))
-
--- and the sections and bytes that are written
-abbrev pub tallied : ℕ → List ℕ → List ℕ
-tallied size d = set (set d 17 (getD d 17 0 + cond (eqb size 0) 0 1)) 18 (getD d 18 0 + size)
-
 -- The index that held `old` after the parts l were found: how many other sections there are; where each known one starts and where the starts of its list begin;
 -- how many sections and bytes the canonical form of what is kept has; and the starts.
 pub record Directory (l : List Part) (old new : List ℕ) : Type 0 where

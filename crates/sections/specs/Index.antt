@@ -58,20 +58,10 @@ pub record Reading (l : List (List ℕ)) (index : List ℕ) (used : ℕ) : Type 
   pub inside : used ≤ length index
   pub same : drop used index ≡ flat startsOf l ++ rest
 
--- so many places hold all starts of s, where it is a file that is taken
-abbrev pub HoldsStarts : List ℕ → ℕ → Type 0
-HoldsStarts s n = (l : List (List ℕ)) → fileOf s ≡ taken l → length (flat startsOf l) ≤ n
-
 -- how many entries the at most n sections of b say that they have, up to one that does not fit
 unfoldable pub counts : ℕ → List ℕ → ℕ
 counts zero b = 0
 counts (suc n) b = cond (fitsIn b) (countIn b + counts n (drop (16 + lengthOf b) b)) 0
-
--- a section read, of which the outcome is o, and its starts k kept: how many, or the fault; and unless there is one, they stand first in the lent places that held `old`, which a fault leaves as they were
-pub record Keeps {A : Type 0} (o : Outcome A) (k old : List ℕ) (r : Piece) (new : List ℕ) : Type 0 where
-  pub answers : pieceOf r ≡ after o (λ _. taken (length k))
-  pub leaves : (a : A) → o ≡ taken a → new ≡ k ++ drop (length k) old
-  pub stays : (n p : ℕ) → o ≡ refused n p → new ≡ old
 
 -- the promise of the call that reads sections: how many there are, and their starts in the lent places that held `old`
 pub record Scanned (o : Outcome (List (List ℕ))) (old : List ℕ) (r : Piece) (new : List ℕ) : Type 0 where

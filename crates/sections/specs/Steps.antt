@@ -1,21 +1,58 @@
--- For contracts of private functions, here and in the crates that write by a directory: what is asked of an index, and what the parts of the code give that find the parts of a file.
+-- For contracts of private functions, here and in the crates that write by a directory: what is asked of an index, and what the parts of the code give that walk over a file and find its parts.
 -- Assumes nothing.
 use mathlib.Core.Path.{_≡_}
-use mathlib.Core.List.{List, _++_}
+use mathlib.Core.Bool.{cond, _&&_}
+use mathlib.Core.List.{List, [], _++_}
 use Prim.Native.Nat.{ℕ, _+_, _-_, _≤_}
-use lib.ListN.{length, drop, getD}
-use Rattle.answer.specs.Outcome.{refused, Pass}
+use lib.Dec.{eqb}
+use lib.ListN.{length, drop, getD, set}
+use Rattle.answer.specs.Outcome.{Outcome, taken, refused, Pass, after}
+use Rattle.answer.specs.Calls.{pieceOf}
+use Rattle.answer.specs.declared.Piece.{Piece}
 use Rattle.answer.specs.declared.Test.{Test}
 use Rattle.answer.specs.declared.Test.the-variants.{Fault, Fine}
-use Rattle.order.specs.Keyed.{flat}
-use Rattle.aerosnap.specs.File.{headerChecks, sectionOf}
+use Rattle.order.specs.Keyed.{flat, has}
+use Rattle.aerosnap.specs.Known.{known}
+use Rattle.aerosnap.specs.File.{headerChecks, sectionsMost, slotOf, sectionOf, sections, fileOf}
 use Rattle.aerosnap.specs.Salvage.{readPart, partsOf, allKept, lossRows}
 use Rattle.aerosnap.specs.Content.{contentOf, secs, render}
 use Rattle.sections.specs.declared.Division.{Division}
 use Rattle.sections.specs.declared.Division.the-variants.{Lost, Whole}
-use Rattle.sections.specs.Walks.{walkedFrom, Read}
-use Rattle.sections.specs.Index.{startsOf, kept}
+use Rattle.sections.specs.Walks.{Read}
+use Rattle.sections.specs.Index.{startsOf, kept, isListId}
 use Rattle.sections.specs.Directory.{directoryPlaces, seats, seatOf, othersIn, lossRowsIn, lossesOf, Directory}
+
+-- the marks say which slots are taken by the n sections before
+pub record Marks (m : List ℕ) (before : List (List ℕ)) (n : ℕ) : Type 0 where
+  pub long : length m ≡ 9
+  pub count : n ≡ length before
+  pub says : (i : ℕ) → 1 ≤ i → i ≤ 8 → has slotOf i before ≡ eqb (getD m i 0) 1
+
+-- the sections behind the header
+abbrev pub walkedFrom : List ℕ → Outcome (List (List ℕ))
+walkedFrom s = sections sectionsMost [] 16 (drop 16 s)
+
+-- a section read, of which the outcome is o, and its starts k kept: how many, or the fault; and unless there is one, they stand first in the lent places that held `old`, which a fault leaves as they were
+pub record Keeps {A : Type 0} (o : Outcome A) (k old : List ℕ) (r : Piece) (new : List ℕ) : Type 0 where
+  pub answers : pieceOf r ≡ after o (λ _. taken (length k))
+  pub leaves : (a : A) → o ≡ taken a → new ≡ k ++ drop (length k) old
+  pub stays : (n p : ℕ) → o ≡ refused n p → new ≡ old
+
+-- so many places hold all starts of s, where it is a file that is taken
+abbrev pub HoldsStarts : List ℕ → ℕ → Type 0
+HoldsStarts s n = (l : List (List ℕ)) → fileOf s ≡ taken l → length (flat startsOf l) ≤ n
+
+-- how many bytes are written of a section of w bytes: none of a list whose payload is its count alone
+abbrev pub writtenSize : ℕ → ℕ → ℕ
+writtenSize id w = cond (isListId id && eqb w 20) 0 w
+
+-- a directory with one section more: a known one at its id, another counted
+abbrev pub seated : ℕ → ℕ → ℕ → List ℕ → List ℕ
+seated id at first d = cond (known id) (set (set d id at) (id + 8) first) (set d 0 (getD d 0 0 + 1))
+
+-- and the sections and bytes that are written
+abbrev pub tallied : ℕ → List ℕ → List ℕ
+tallied size d = set (set d 17 (getD d 17 0 + cond (eqb size 0) 0 1)) 18 (getD d 18 0 + size)
 
 -- the sections that are kept of a file
 abbrev pub held : List ℕ → List (List ℕ)

@@ -11,19 +11,9 @@ use Rattle.order.specs.Keyed.{has}
 use Rattle.aerosnap.specs.File.{sectionsMost, slotOf, sections, fileOf}
 use Rattle.aerosnap.specs.Content.{isId}
 
--- the marks say which slots are taken by the n sections before
-pub record Marks (m : List ℕ) (before : List (List ℕ)) (n : ℕ) : Type 0 where
-  pub long : length m ≡ 9
-  pub count : n ≡ length before
-  pub says : (i : ℕ) → 1 ≤ i → i ≤ 8 → has slotOf i before ≡ eqb (getD m i 0) 1
-
 -- how many sections were found
 abbrev pub counted : Outcome (List (List ℕ)) → Outcome ℕ
 counted r = after r (λ l. taken (length l))
-
--- the sections behind the header
-abbrev pub walkedFrom : List ℕ → Outcome (List (List ℕ))
-walkedFrom s = sections sectionsMost [] 16 (drop 16 s)
 
 -- the sections of a file; of one that is refused, none
 abbrev pub sectionsIn : List ℕ → List (List ℕ)

@@ -1,5 +1,7 @@
 // The sections of a snapshot file: the header, one step of the walk, the walk up to the end of the file, and where a section stands in a file that is taken.
 // Slices that are handed on as `&s[..]` go in registers (decision 38).
+use aerosnap::DEVICES_MOST;
+use aerosnap::SECTIONS_MOST;
 use answer::CUT;
 use answer::ENDIAN;
 use answer::LIMIT;
@@ -30,7 +32,8 @@ ghost use Rattle.answer.specs.Calls.{testOf, asked};
 ghost use Rattle.wire.specs.Numbers.{leAt};
 ghost use Rattle.answer.specs.declared.Test.the-variants.{Fine};
 ghost use Rattle.lists.specs.Lists.{whole};
-ghost use Rattle.lists.specs.Promises.{zeros, MayWrite};
+ghost use Rattle.lists.specs.Promises.{zeros};
+ghost use Rattle.lists.specs.Steps.{MayWrite};
 ghost use Rattle.wire.specs.Parts.{Wrote};
 ghost use Rattle.aerosnap.specs.Known as known;
 ghost use Rattle.aerosnap.specs.Payloads.{bodyOf};
@@ -38,20 +41,17 @@ ghost use Rattle.aerosnap.specs.File.{fileMost, devicesMost, headerChecks, idOf
 ghost use Rattle.aerosnap.specs.File as file;
 ghost use Rattle.aerosnap.specs.Salvage.{partLength, readPart, lossBytes};
 ghost use Rattle.payloads.specs.Starts.{starts};
-ghost use Rattle.sections.specs.Walks.{Marks, walkedFrom, sectionsIn, Read, placeOf};
-ghost use Rattle.sections.specs.Index.{startsOf, firstOf, isListId, countIn, counts, Keeps, Scanned, spotOf, Spotted};
+ghost use Rattle.sections.specs.Walks.{sectionsIn, Read, placeOf};
+ghost use Rattle.sections.specs.Steps.{walkedFrom, Marks, Keeps, FirstOf, divisionFor, Parted, Divided, tallied, seated, writtenSize};
+ghost use Rattle.sections.specs.Index.{startsOf, firstOf, isListId, countIn, counts, Scanned, spotOf, Spotted};
 ghost use Rattle.sections.specs.Places.{placesFor};
-ghost use Rattle.sections.specs.Steps.{FirstOf, divisionFor, Parted, Divided};
-ghost use Rattle.sections.specs.Directory.{directoryPlaces, writtenSize, seated, tallied, Divides, IndexesFile};
+ghost use Rattle.sections.specs.Directory.{directoryPlaces, Divides, IndexesFile};
 
 // A place and a number of starts, or a fault.
 pub enum Spot {
     Fault(u32, usize),
     At(usize, usize),
 }
-
-// The bound of the payload of DEVICES.
-const DEVICES_MOST: usize = 268435456;
 
 // `AEROSNAP`, as the number that the letters are in the file.
 const LETTERS: u64 = 0x50414E534F524541;
@@ -177,7 +177,7 @@ fn section_at(s: &[u8], at: usize, n: usize, seen: &[u8; 9], index: &mut [u32]) 
     if s.len() - at < 16 {
         return Piece::Stop(CUT, at);
     }
-    if 64 <= n {
+    if SECTIONS_MOST <= n {
         return Piece::Stop(MANY, at);
     }
     let w = u64_at(s, at + 8);
@@ -515,7 +515,7 @@ fn first_of(first: Test, s: &[u8], at: usize, n: usize, number: u32, place: usiz
     match first {
         Test::Fault(earlier, spot) => Test::Fault(earlier, spot),
         Test::Fine => {
-            if n < 64 {
+            if n < SECTIONS_MOST {
                 return Test::Fault(number, place);
             }
             if s.len() - at < 16 {

@@ -34,7 +34,7 @@ ghost use Rattle.salvage.specs.Salvaging.{Salvages};
 ghost use Rattle.cards.specs.Cards.{openAnswer, WritesBeside};
 ghost use Rattle.cards.specs.Calls.{openCall, addDeviceCall, addDiskCall, removeDeviceCall, removeDiskCall, replaceDeviceCall};
 ghost use Rattle.cards.specs.Whole.{manyCard};
-ghost use Rattle.sections.specs.Index.{HoldsStarts};
+ghost use Rattle.sections.specs.Steps.{HoldsStarts};
 ghost use Rattle.snapshot.specs.Walks.{Lists};
 ghost use Rattle.snapshot.specs.MetaSection.{silent, metaAt, metaCall, asMeta};
 

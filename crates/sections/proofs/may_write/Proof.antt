@@ -1,7 +1,7 @@
 use mathlib.Core.Path.{refl}
 use mathlib.Core.Logic.{inl}
 use Rattle.answer.specs.declared.Piece.the-variants.{Stop, Ends}
-use Rattle.sections.specs.Walks.{walkedFrom}
+use Rattle.sections.specs.Steps.{walkedFrom}
 use Rattle.sections.proofs.Headers.{judged-first}
 use borrow.Author.Needs.{needs}
 use Rattle.sections.proofs.may_write.Statement.{statement}

@@ -1,6 +1,6 @@
 use Rattle.answer.proofs.Checks.{left-pass, left-fail}
 use Rattle.sections.proofs.Rules.{Ruling, ruled-all, ruled-fault, ruled-fine, some-flags, zero-flags, Took, read-stop, read-stays, read-took, fault-place, keeps-stop, keeps-done, marked, unmarked}
-use Rattle.sections.specs.Walks.{Marks}
+use Rattle.sections.specs.Steps.{Marks}
 use Rattle.aerosnap.specs.Payloads.{bodyOf, payload}
 use Rattle.lists.specs.Lists.{partChecks}
 use Rattle.answer.specs.Outcome.{refused, checked}

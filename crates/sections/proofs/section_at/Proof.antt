@@ -1,5 +1,5 @@
 use Rattle.sections.proofs.Rules.{Framing, framing-all, section-rules, keeps-stop}
-use Rattle.sections.specs.Walks.{Marks}
+use Rattle.sections.specs.Steps.{Marks}
 use Rattle.answer.proofs.Checks.{left-pass, left-fail}
 use borrow.Author.Tests.{le-leb, lt-leb, le-ltb, lt-ltb}
 use lib.ListN.{length}
