@@ -1,6 +1,8 @@
 // What a call answers: the number and the place of its first refusal, or 0 and the bytes that it wrote.
 // The numbers are those of document 01's table. Public calls answer by `Answer`; readers inside the library by `Piece` and `Test`,
 // whose places are places of a slice.
+#![tactic(auto)]
+
 ghost use Rattle.std.specs.Prelude.{◌≡◌};
 ghost use Rattle.answer.specs.Calls.{piece_of, test_of, verdict, asked};
 ghost use Rattle.answer.specs.Outcome.{room};
