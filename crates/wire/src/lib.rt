@@ -1,5 +1,7 @@
 // Little-endian numbers and parts of byte slices: reading, storing, copying.
 // Every function takes every input. A byte past the end reads as 0; what does not fit is not written at all.
+#![tactic(auto)]
+
 ghost use Rattle.std.specs.Prelude.{◌≡◌, ◌+◌, ◌-◌, ◌≤◌, ◌<◌, leb, length, drop};
 ghost use Rattle.wire.specs.Numbers.{le_at, bytes_of};
 ghost use Rattle.wire.specs.Parts.{splice, put};
