@@ -11,7 +11,6 @@ use lib.ListN.{length, get_or, take, drop, length-drop, drop_of_length-le, take-
 use lib.Seq.{drop-cons, drop-drop, length-take-le}
 use borrow.Author.Count.{below_more}
 use borrow.Author.Tests.{ltb-true, ltb-false}
-use Rattle.utf8.specs.declared.Found.{Found}
 use Rattle.utf8.specs.declared.Found.TheVariants.{Whole, Broken}
 use Rattle.utf8.specs.declared.Reach.{Reach}
 use Rattle.utf8.specs.declared.Reach.TheVariants.{Ends, Breaks}
@@ -19,7 +18,6 @@ use Rattle.utf8.specs.Grammar.{Range, ◌⋯◌, tails, InRange}
 use Rattle.utf8.specs.Scan.{Next, Stop, lead_of, after_of, onward, ended_at, scan_from, scan}
 use Rattle.utf8.specs.Steps.{AtMost, scan_at, Passes, Reaches, ends, breaks}
 use Rattle.utf8.proofs.Table.{in_among, out_among, hit}
-use Rattle.utf8.proofs.Whole.{never}
 
 -- ---- the loop over all bytes: none of the first i is above top
 pub record Topped (s : List ℕ) (i top : ℕ) : Type 0 where

@@ -1,7 +1,7 @@
 -- The scan finds bytes whole exactly if the grammar makes them. Assumes nothing.
-use Prim.Native.Nat.{ℕ, zero, suc, ◌≤◌}
+use Prim.Native.Nat.{ℕ, suc, ◌≤◌}
 use mathlib.Core.Path.{◌≡◌, refl, sym}
-use mathlib.Core.Logic.{◌⊎◌, inl, inr}
+use mathlib.Core.Logic.{inl, inr}
 use mathlib.Core.List.{List, [], ◌∷◌, ◌++◌}
 use native.Mathlib.Omega.{arith}
 use Rattle.utf8.specs.declared.Found.TheVariants.{Whole, Broken}
@@ -35,6 +35,7 @@ data Led (n : ℕ) (l : List Alternative) : List ℕ → Type 0 where
 led : (n : ℕ) (l : List Alternative) (c : List ℕ) → Ascend n l → OneOf l c → Led n l c
 led n [] c k o = absurd o
 led n (a ∷ l) (b ∷ t) k (inl (byte h f)) = leads {b = b} {rs = a.rest} (omega (arith, k.0, h.low)) (rw (in_among h)) f
+led n (a ∷ l) [] k (inl x) = elim x [ ]
 led n (a ∷ l) c k (inr o) = go (led (suc a.first.to) l c k.2 o)
   where
     go : {c : List ℕ} → Led (suc a.first.to) l c → Led n (a ∷ l) c

@@ -1,5 +1,7 @@
 // UTF-8 as in RFC 3629: whether bytes are a text, and if not, the first place at which no text continues.
 // Slices that are handed on as `&s[..]` go in registers (decision 38).
+#![tactic(auto)]
+
 ghost use Rattle.std.specs.Prelude.{◌≡◌, true, [], ◌∷◌, ◌+◌, ◌≤◌, ◌<◌, length};
 ghost use Rattle.utf8.specs.Grammar.{◌⋯◌, tails as tailsOf, text_of, Reads};
 ghost use Rattle.utf8.specs.Scan.{scan, is_text};
