@@ -9,16 +9,16 @@ use lib.ListN.{length, take, drop, get_or, length-drop, length-take, length-appe
 use lib.Seq.{length-take-le}
 use lib.Dec.{leb, eqb}
 use borrow.Author.Tests.{leb-true, le-leb, lt-leb}
-use Rattle.answer.specs.Numbers.{SHAPE, TEXT, VALUE}
+use Rattle.answer.specs.Numbers.{SHAPE, VALUE}
 use Rattle.answer.specs.Outcome.{Outcome, taken, refused, Checks, checked, Pass, after, moved}
 use Rattle.answer.proofs.Checks.{checked-pass, pass-checked, checked-append}
 use Rattle.answer.proofs.Outcomes.{shift_taken, moved_taken}
 use Rattle.wire.specs.Numbers.{le_at}
 use Rattle.wire.proofs.Numbers.{le_at_here, le_at-one}
-use Rattle.format.specs.Format.{Asks, any, Format, sized, option, pair, bytes, at_most, blob, utf8, text, read, Is, option_checks, sized_checks}
+use Rattle.format.specs.Format.{Asks, any, Format, sized, option, pair, bytes, read, Is, option_checks, sized_checks}
 use Rattle.format.specs.Places.{read_at, present_at}
 use Rattle.format.proofs.Meaning.{sound, least_le}
-use Rattle.format.proofs.Placed.{pair-at, option_at, asked_at, sized_at}
+use Rattle.format.proofs.Placed.{pair-at, option_at, asked_at}
 
 module _ (s : List ℕ) (at : ℕ) where
   -- ---- a block

@@ -1,5 +1,7 @@
 // Readers of pieces at a place of a slice: a block, a sized piece, a text, a presence byte.
 // Each takes every slice and every place, and promises what the format's one reader finds there.
+#![tactic(auto)]
+
 ghost use Rattle.std.specs.Prelude.{◌≡◌, ◌+◌, ◌≤◌, length};
 ghost use Rattle.answer.specs.Calls.{piece_of};
 ghost use Rattle.wire.specs.Numbers.{le_at};
