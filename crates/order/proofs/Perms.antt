@@ -1,8 +1,8 @@
 -- What a permutation leaves as it is.
 -- Assumes nothing.
-use mathlib.Core.Path.{◌≡◌, refl, sym, ◌∙◌, ap}
+use mathlib.Core.Path.{◌≡◌, refl, sym, ◌∙◌, ap, subst}
 use mathlib.Core.List.Permᴰ
-use mathlib.Core.List.{List, ◌++◌, append_assoc, Permᴰ, Perm, perm-append_right_iff}
+use mathlib.Core.List.{List, ◌∷◌, ◌++◌, append_assoc, Permᴰ, Perm, perm-append_right_iff}
 use Prim.Native.Nat.{ℕ}
 use native.Mathlib.Omega.{arith}
 use lib.ListN.{length}
@@ -25,10 +25,14 @@ module _ {E : Type 0} where
   every_perm P (Permᴰ.swap e f) h = rw (← e, ← f) (h.1.0, (h.0, h.1.1))
   every_perm P (Permᴰ.trans p q) h = every_perm P q (every_perm P p h)
 
+  swap_apart : (key : E → ℕ) (l : List E) {a a' b b' : E} → a ≡ a' → b ≡ b' → Apart key (a ∷ b ∷ l) → Apart key (b' ∷ a' ∷ l)
+  swap_apart key l {a} {a'} {b} {b'} e f h =
+      subst (λ (x : E). Apart key (x ∷ a' ∷ l)) f (subst (λ (x : E). Apart key (b ∷ x ∷ l)) e ((λ q. h.0.0 (sym q), h.1.0), (h.0.1, h.1.1)))
+
   pub apart_perm : (key : E → ℕ) {l m : List E} → Permᴰ l m → Apart key l → Apart key m
   apart_perm key Permᴰ.nil h = h
   apart_perm key (Permᴰ.cons e p) h = rw (← e) (every_perm _ p h.0, apart_perm key p h.1)
-  apart_perm key (Permᴰ.swap e f) h = rw (← e, ← f) ((λ q. h.0.0 (sym q), h.1.0), (h.0.1, h.1.1))
+  apart_perm key (Permᴰ.swap e f) h = swap_apart key _ e f h
   apart_perm key (Permᴰ.trans p q) h = apart_perm key q (apart_perm key p h)
 
   -- what is left where the same is taken from both

@@ -1,21 +1,21 @@
 -- The entries of other keys than one: the laws of `without`, and of `has`.
 -- Assumes nothing.
 use mathlib.Core.Path.{◌≡◌, refl, sym, ◌∙◌, ap}
-use mathlib.Core.Logic.{◌≢◌, inl, inr}
+use mathlib.Core.Logic.{inl, inr}
 use mathlib.Core.Bool.{Bool, true, false, not, cond, ◌||◌, true≢false}
 use mathlib.Core.List.Permᴰ
 use mathlib.Core.List.{List, [], ◌∷◌, ◌++◌, Permᴰ}
-use Prim.Native.Nat.{ℕ, suc, ◌+◌, ◌≤◌, ◌<◌}
+use Prim.Native.Nat.{ℕ, suc, ◌≤◌}
 use native.Mathlib.Omega.{arith}
 use lib.ListN.{length}
 use lib.Dec.{eqb}
 use borrow.Author.Tests.{eqb-true, eqb-false, eq-eqb, ne_eqb}
 use Rattle.order.specs.Keyed.{Every, keep, insert, inserts, has, without, Fresh, Apart, Asc}
 use Rattle.order.proofs.Folds.{every_imp}
-use Rattle.order.proofs.Perms.{every_perm, perm_weigh, perm_length}
+use Rattle.order.proofs.Perms.{every_perm, perm_length}
 use Rattle.order.proofs.Keys.{side, has_fresh, fresh_has}
 use Rattle.order.proofs.Inserts.{insert_nil, insert-le, insert_gt, insert_perm, inserts_perm}
-use Rattle.order.proofs.Keeps.{keep_all, keep-none, keep_perm, every_keep, of_key, of_key_none}
+use Rattle.order.proofs.Keeps.{keep_all, keep_perm, every_keep, of_key, of_key_none}
 
 module _ {E : Type 0} (key : E → ℕ) where
   -- ---- what is kept of a list in order
