@@ -6,12 +6,12 @@ use mathlib.Core.List.{List, [], ◌∷◌, ◌++◌}
 use mathlib.Core.Bool.{Bool, true, false, ◌&&◌, ◌||◌}
 use Prim.Native.Nat.{ℕ, ◌+◌, ◌-◌, ◌≤◌, ◌<◌, zero-le}
 use native.Mathlib.Omega.{arith}
-use lib.ListN.{length, take, drop, length-drop, length-append}
+use lib.ListN.{length, take, drop, length-append}
 use lib.Seq.{length-take-le, drop_at}
 use lib.Dec.{leb, eqb}
 use borrow.Author.Tests.{eq-eqb, ne_eqb, eqb-true, eqb-false, leb-true, le-leb, lt-leb}
 use Rattle.answer.specs.Numbers.{SHAPE}
-use Rattle.answer.specs.Outcome.{Outcome, taken, refused, Pass, checked, after, moved}
+use Rattle.answer.specs.Outcome.{Outcome, taken, refused, checked, after, moved}
 use Rattle.answer.proofs.Checks.{and_true}
 use Rattle.answer.proofs.Outcomes.{shift_taken}
 use Rattle.answer.proofs.Within.{Within, checked-within, moved-within}

@@ -1,6 +1,8 @@
 // The entries of lists: the kinds, and for each kind the readers of an entry at a place.
 // Each takes every slice and every place. Bytes past the end read as 0, and an entry that is not whole is refused.
 // Slices that are handed on as `&s[..]` go in registers (decision 38).
+#![tactic(auto)]
+
 ghost use Rattle.std.specs.Prelude.{◌≡◌, [], ◌∷◌, ℕ, ◌+◌, ◌*◌, min, length, take, drop};
 ghost use Rattle.answer.specs.Outcome.{moved};
 ghost use Rattle.answer.specs.Calls.{piece_of, test_of, asked};
@@ -26,7 +28,7 @@ pub const IMAGE_MOST: usize = 65536;
 const IMAGE: u32 = IMAGE_MOST as u32;
 
 // The kinds of entry; CPUs and MMUs by the version of their section.
-#[derive(Drop)]
+#[derive(Clone, Copy)]
 pub enum Kind {
     Devices,
     Disks,
