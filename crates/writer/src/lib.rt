@@ -1,5 +1,7 @@
 // Entries of a list written from their starts, whatever their kind: runs of them, and whole lists.
 // Slices that are handed on as `&s[..]` go in registers (decision 38).
+#![tactic(auto)]
+
 ghost use Rattle.std.specs.Prelude.{◌≡◌, cond, [], map, leb, length};
 ghost use Rattle.wire.specs.Parts.{put, Wrote};
 ghost use Rattle.order.specs.Entries.{join};

@@ -1,0 +1,17 @@
+use Rattle.writer.specs.Runs.{entry_by, fits}
+use Rattle.writer.proofs.Fits.{Fitting, fitting-none, fitting_long, fitting_next, fitting_stop}
+use Rattle.writer.proofs.Runs.{run_turn, run_end}
+use Rattle.order.specs.Entries.{join}
+use Rattle.entries.specs.Code.{describe}
+use mathlib.Core.List.{map}
+use lib.ListN.{length, drop}
+use Prim.Native.Nat.{◌-◌}
+use native.Mathlib.Omega.{arith}
+use borrow.Author.Rules.{rules}
+use Rattle.writer.proofs.put_run.Given as goal
+
+abbrev pub invariant-loop-i : goal.invariant-loop-i
+invariant-loop-i l = Fitting (join (fits (length l.initial.out) (map (entry_by (describe l.kind) l.s) l.starts))) l.initial.out (map (entry_by (describe l.kind) l.s) (drop l.i l.starts)) l.at l.out
+
+abbrev pub decreases-loop-i : goal.decreases-loop-i
+decreases-loop-i l = length l.starts - l.i
