@@ -1,5 +1,7 @@
 // The disk-controller wrapper: checked, listed, and written in address order.
 // Slices that are handed on as `&s[..]` go in registers (decision 38).
+#![tactic(auto)]
+
 ghost use Rattle.std.specs.Prelude.{◌≡◌, ◌&&◌, ◌+◌, ◌≤◌, eqb, length};
 ghost use Rattle.answer.specs.Calls.{test_of, asked, verdict, Writes};
 ghost use Rattle.wire.specs.Numbers.{le_at};
