@@ -1,4 +1,6 @@
 // The kinds of AIPC messages: the enum of commands and events with their numbers, and each kind's row of document 000's tables.
+#![tactic(auto)]
+
 ghost use Rattle.std.specs.Prelude.{◌≡◌};
 ghost use Rattle.kinds.specs.declared.Field.TheVariants.{U16, U32, U64, Flag, Error};
 ghost use Rattle.kinds.specs.declared.Body.TheVariants.{Empty};
