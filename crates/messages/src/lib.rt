@@ -1,5 +1,7 @@
 // What messages are: definitions of reading and writing one, and their laws. The functions that read and write are in `aipc`;
 // here is what they share, a reading and what the bytes of a message say.
+#![tactic(auto)]
+
 ghost use Rattle.std.specs.Prelude.{◌≡◌};
 ghost use Rattle.wire.specs.Numbers.{le_at};
 ghost use Rattle.messages.specs.Fields.{field_width, message_in, message_at};
