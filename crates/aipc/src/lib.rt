@@ -1,5 +1,7 @@
 // AIPC messages, version 1: one is read from bytes, or written from its kind, its numbers and its data.
 // A message is a u16 tag, then the fields of its kind in order, and nothing after.
+#![tactic(auto)]
+
 ghost use Rattle.std.specs.Prelude.{◌≡◌, ◌&&◌, ◌++◌, ◌+◌, ◌≤◌, length};
 ghost use Rattle.answer.specs.Outcome.{taken, refused as refusedAt, checked, after};
 ghost use Rattle.answer.specs.Calls.{piece_of, test_of, asked, Writes};
