@@ -1,5 +1,7 @@
 // A message as a tag and four numbers, for callers that have no enum of kinds: the numbers of the kind in the order of its fields, 0 where there is none.
 // Calls by numbers are those of `aipc` behind one table; nothing here reads or writes a message's bytes.
+#![tactic(auto)]
+
 ghost use Rattle.std.specs.Prelude.{◌≡◌, length};
 ghost use Rattle.answer.specs.Calls.{Writes};
 ghost use Rattle.kinds.specs.Kinds.{kinds};
