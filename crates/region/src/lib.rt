@@ -1,5 +1,7 @@
 // An AIPC region: checked up to its first wrong field, and a queue's cursors shown.
 // Numbers are read where they stand; a byte past the end reads as 0, so nothing is asked of an index.
+#![tactic(auto)]
+
 ghost use Rattle.std.specs.Prelude.{◌≡◌, ◌+◌, ◌*◌, ◌<◌, ◌≤◌, true, ◌||◌, length, nat_le};
 ghost use Rattle.answer.specs.Calls.{test_of, asked, verdict};
 ghost use Rattle.answer.specs.Outcome.{each};
