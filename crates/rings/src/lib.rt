@@ -1,4 +1,6 @@
 // The rings of an AIPC region: reserve, fill, commit and take.
+#![tactic(auto)]
+
 ghost use Rattle.std.specs.Prelude.{◌≡◌, ◌+◌, ◌-◌, ◌%◌, ◌<◌, ◌≤◌, length};
 ghost use Rattle.answer.specs.Calls.{test_of, asked};
 ghost use Rattle.wire.specs.Numbers.{le_at};
