@@ -1,4 +1,6 @@
 // The fields of CPU and MMU states of version 2: one table of them, and reading and setting a field once for all.
+#![tactic(auto)]
+
 ghost use Rattle.std.specs.Prelude.{◌≡◌, ◌+◌, ◌≤◌, ◌<◌, length};
 ghost use Rattle.answer.specs.Outcome.{taken, checked, fitting};
 ghost use Rattle.answer.specs.Calls.{test_of, asked, Writes};
