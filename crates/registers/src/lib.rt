@@ -1,4 +1,6 @@
 // Registers of a state: those of 8 bytes one behind the other, and segments. They are read from a place on, and written over a state.
+#![tactic(auto)]
+
 ghost use Rattle.std.specs.Prelude.{◌≡◌, ◌+◌, ◌*◌, min, length};
 ghost use Rattle.registers.specs.Registers.{words_at, words_over, segment_in, segment_over};
 
