@@ -1,5 +1,7 @@
 // CPU states of version 2 as sheets: structs of their fields by value, read from a state's bytes and written over them.
 // The sixteen vector registers are an array of arrays. Which field stands where is said by `fields`; proofs/Ties.antt has the law.
+#![tactic(auto)]
+
 ghost use Rattle.std.specs.Prelude.{◌≡◌, Bool, ◌+◌, ◌≤◌, min, length, take, drop, leb};
 ghost use Rattle.answer.specs.Outcome.{taken, checked};
 ghost use Rattle.wire.specs.Parts.{splice, put};
