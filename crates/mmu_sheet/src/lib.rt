@@ -1,5 +1,7 @@
 // MMU states of version 2 as sheets: structs of their fields by value, read from a state's bytes and written over them.
 // Which field stands where is said by `fields`; proofs/Ties.antt has the law.
+#![tactic(auto)]
+
 ghost use Rattle.std.specs.Prelude.{◌≡◌, ◌<◌};
 ghost use Rattle.fields.specs.Fields.{Changes};
 ghost use Rattle.mmu_sheet.specs.Sheet.{bound_at, mmu_of, bound_over, mmu_over};
