@@ -46,10 +46,14 @@ alike_moved j k (refused n p) = refl
 
 alike_stop : {A : Type 0} (o u : Outcome A) → Alike o u → {n p : ℕ} → o ≡ refused n p → (q : ℕ) × (u ≡ refused n q)
 alike_stop (taken a) (taken b) h e = let z : ◌≡◌ {A = ℕ} 0 1 = cc in absurd (omega arith)
+alike_stop (taken a) (refused m q) h e = elim h [ ]
+alike_stop (refused n p) (taken b) h e = elim h [ ]
 alike_stop (refused n p) (refused m q) h e = (q, cc (e, h))
 
 alike_after : {A : Type 0} (o u : Outcome (Unit {0})) (a b : A) → Alike o u → Alike (after o (λ _. taken a)) (after u (λ _. taken b))
 alike_after (taken x) (taken y) a b h = tt
+alike_after (taken x) (refused m q) a b h = elim h [ ]
+alike_after (refused n p) (taken y) a b h = elim h [ ]
 alike_after (refused n p) (refused m q) a b h = h
 
 -- where a section stands has no part in its number
