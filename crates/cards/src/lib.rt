@@ -1,4 +1,6 @@
 // The card: what the tablet shows of a canonical file, and how its numbers move with an edit. Nothing below an edit knows of it.
+#![tactic(auto)]
+
 ghost use Rattle.std.specs.Prelude.{◌≡◌, true, ◌&&◌, ◌+◌, ◌≤◌, leb};
 ghost use Rattle.answer.specs.Outcome.{taken, checked};
 ghost use Rattle.cards.specs.Cards.{stays, goes, card_checks, moved_card, move_of};
@@ -8,7 +10,7 @@ use lists::FILE_MOST;
 
 // A canonical file's length, its sections, its devices, and the bytes of their payloads together.
 #[repr(C)]
-#[derive(Drop)]
+#[derive(Clone, Copy)]
 pub struct Card {
     pub length: u64,
     pub sections: u64,
@@ -18,7 +20,7 @@ pub struct Card {
 
 // What an edit answers: number and place, the index of the entry that is refused where there are many, and the card.
 #[repr(C)]
-#[derive(Drop)]
+#[derive(Clone, Copy)]
 pub struct Edited {
     pub number: u32,
     pub index: u32,
@@ -27,7 +29,7 @@ pub struct Edited {
 }
 
 // Where a card goes, or that a number of it leaves its bounds.
-#[derive(Drop)]
+#[derive(Clone, Copy)]
 pub enum Moved {
     Out,
     To(Card),

@@ -1,0 +1,70 @@
+use Rattle.cards.proofs.Moves.{stays_bounds}
+use Rattle.cards.specs.Cards.{stays, goes, card_checks, moved_card}
+use Rattle.cards.specs.declared.Card.{Card}
+use Rattle.answer.specs.Outcome.{taken, checked}
+use Rattle.answer.proofs.Checks.{Left, left_all, left_pass, left_fail}
+use mathlib.Core.Bool.{Bool, true}
+use mathlib.Core.Path.{◌≡◌, sym, ◌∙◌, ap}
+use lib.ListN.{drop}
+use Prim.Native.Nat.{ℕ, ◌+◌, ◌≤◌}
+use native.Mathlib.Omega.{arith}
+use borrow.Author.Tests.{not-true, not-false}
+use borrow.Author.Rules.{rules}
+use Rattle.cards.proofs.move_by.Goals as goal
+
+abbrev From : ℕ → Card → Card → Card → Type 0
+From n k a b = Left (drop n (card_checks k a b)) (taken (moved_card k a b)) (checked (card_checks k a b) (taken (moved_card k a b)))
+
+all : (k a b : Card) → From 0 k a b
+all k a b = left_all (card_checks k a b) (taken (moved_card k a b))
+
+passed : {r t : Bool} → r ≡ t → r ≡ true → t ≡ true
+passed e h = sym e ∙ h
+
+roomy : (lo hi n a b : ℕ) → lo ≤ 16 → hi ≤ 4294967280 → stays lo hi a b n ≡ true → (a ≤ n + b) × (n + b ≤ a + 4294967296)
+roomy lo hi n a b l h e = let z = stays_bounds lo hi n a b e in (omega (arith, z.0), omega (arith, z.1))
+
+pub returns-then-not-is_within : goal.returns-then-not-is_within
+returns-then-not-is_within c = let a = c.args in left_fail (all a.card a.a a.b) (sym c.is_within.ensures ∙ c.if-not-is_within.true)
+
+pub returns-then-not-is_within-2 : goal.returns-then-not-is_within-2
+returns-then-not-is_within-2 c =
+    let one : let a = c.args in From 1 a.card a.a a.b = let a = c.args in left_pass (all a.card a.a a.b) (passed c.is_within.ensures (c.if-not-is_within.false)) in
+    left_fail (one) (sym c.is_within-2.ensures ∙ c.if-not-is_within-2.true)
+
+pub returns-then-not-is_within-3 : goal.returns-then-not-is_within-3
+returns-then-not-is_within-3 c =
+    let one : let a = c.args in From 1 a.card a.a a.b = let a = c.args in left_pass (all a.card a.a a.b) (passed c.is_within.ensures (c.if-not-is_within.false)) in
+    let two : let a = c.args in From 2 a.card a.a a.b = left_pass (one) (passed c.is_within-2.ensures (c.if-not-is_within-2.false)) in
+    left_fail (two) (sym c.is_within-3.ensures ∙ c.if-not-is_within-3.true)
+
+pub returns-then-not-is_within-4 : goal.returns-then-not-is_within-4
+returns-then-not-is_within-4 c =
+    let one : let a = c.args in From 1 a.card a.a a.b = let a = c.args in left_pass (all a.card a.a a.b) (passed c.is_within.ensures (c.if-not-is_within.false)) in
+    let two : let a = c.args in From 2 a.card a.a a.b = left_pass (one) (passed c.is_within-2.ensures (c.if-not-is_within-2.false)) in
+    let three : let a = c.args in From 3 a.card a.a a.b = left_pass (two) (passed c.is_within-3.ensures (c.if-not-is_within-3.false)) in
+    left_fail (three) (sym c.is_within-4.ensures ∙ c.if-not-is_within-4.true)
+
+pub gone_to-requires : goal.gone_to-requires
+gone_to-requires c = let a = c.args in
+    roomy 16 1073741824 a.card.length a.a.length a.b.length (omega arith) (omega arith) (passed c.is_within.ensures (c.if-not-is_within.false))
+
+pub gone_to-requires-2 : goal.gone_to-requires-2
+gone_to-requires-2 c = let a = c.args in
+    roomy 0 64 a.card.sections a.a.sections a.b.sections (omega arith) (omega arith) (passed c.is_within-2.ensures (c.if-not-is_within-2.false))
+
+pub gone_to-requires-3 : goal.gone_to-requires-3
+gone_to-requires-3 c = let a = c.args in
+    roomy 0 4096 a.card.devices a.a.devices a.b.devices (omega arith) (omega arith) (passed c.is_within-3.ensures (c.if-not-is_within-3.false))
+
+pub gone_to-requires-4 : goal.gone_to-requires-4
+gone_to-requires-4 c = let a = c.args in
+    roomy 0 268435456 a.card.payloads a.a.payloads a.b.payloads (omega arith) (omega arith) (passed c.is_within-4.ensures (c.if-not-is_within-4.false))
+
+pub returns : goal.returns
+returns c =
+    let one : let a = c.args in From 1 a.card a.a a.b = let a = c.args in left_pass (all a.card a.a a.b) (passed c.is_within.ensures (c.if-not-is_within.false)) in
+    let two : let a = c.args in From 2 a.card a.a a.b = left_pass (one) (passed c.is_within-2.ensures (c.if-not-is_within-2.false)) in
+    let three : let a = c.args in From 3 a.card a.a a.b = left_pass (two) (passed c.is_within-3.ensures (c.if-not-is_within-3.false)) in
+    let four : let a = c.args in From 4 a.card a.a a.b = left_pass (three) (passed c.is_within-4.ensures (c.if-not-is_within-4.false)) in
+    rw (c.gone_to-4.ensures, c.gone_to-3.ensures, c.gone_to-2.ensures, c.gone_to.ensures) (four).same
