@@ -1,4 +1,6 @@
 // The payloads of sections: each known one is read by its own reader, as a part of the file, and where the entries of a list start is kept.
+#![tactic(auto)]
+
 ghost use Rattle.std.specs.Prelude.{◌≡◌, [], ◌≤◌, length};
 ghost use Rattle.answer.specs.Outcome.{taken, after};
 ghost use Rattle.answer.specs.Calls.{piece_of, test_of};

@@ -1,0 +1,7 @@
+use Rattle.payloads.proofs.Bodies.{kept_long}
+use borrow.Author.Rules.{rules}
+use Rattle.payloads.proofs.index.Goals as goal
+
+pub returns-then-p-gt-FILE_MOST : goal.returns-then-p-gt-FILE_MOST
+returns-then-p-gt-FILE_MOST c = let a = c.args in
+    kept_long a.id a.version a.p.now c.if-p-gt-FILE_MOST.true c.plain.ensures
