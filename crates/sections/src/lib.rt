@@ -1,5 +1,7 @@
 // The sections of a snapshot file: the header, one step of the walk, the walk up to the end of the file, and where a section stands in a file that is taken.
 // Slices that are handed on as `&s[..]` go in registers (decision 38).
+#![tactic(auto)]
+
 ghost use Rattle.std.specs.Prelude.{◌≡◌, true, not, ◌||◌, cond, List, [], ◌∷◌, ◌++◌, ℕ, ◌+◌, ◌≤◌, ◌<◌, leb, eqb, length, take, drop, get_or};
 ghost use Rattle.answer.specs.Outcome.{taken};
 ghost use Rattle.answer.specs.Calls.{test_of, asked};
@@ -30,7 +32,7 @@ use lists::FILE_MOST;
 use wire::{u8_at, u16_at, u32_at, u64_at};
 
 // A place and a number of starts, or a fault.
-#[derive(Drop)]
+#[derive(Clone, Copy)]
 pub enum Spot {
     Fault(u32, usize),
     At(usize, usize),
@@ -343,7 +345,7 @@ pub fn fits(s: &[u8], at: usize) -> bool
 // ---- the size of an index
 
 // How many places an index has for starts. Clearing more costs more than reading a small file.
-#[derive(Drop)]
+#[derive(Clone, Copy)]
 pub enum Places {
     Few,
     Some,
@@ -392,7 +394,7 @@ pub fn places_for(file: &[u8], most: usize) -> Places
 pub const DIRECTORY: usize = 19;
 
 // The first fault of the header; else nothing of the file is lost, or so many parts, and then the first fault that the reader finds.
-#[derive(Drop)]
+#[derive(Clone, Copy)]
 pub enum Division {
     Fault(u32, usize),
     Whole,
