@@ -1,5 +1,7 @@
 // What can be kept of a damaged snapshot file: the sections that the reader would take one after another are written in their canonical form, by the directory that `sections::divide` makes of them, and what is lost is
 // told in records. Slices that are handed on as `&s[..]` go in registers (decision 38).
+#![tactic(auto)]
+
 ghost use Rattle.std.specs.Prelude.{◌≡◌, List, ◌++◌, ℕ, ◌≤◌, length, drop};
 ghost use Rattle.answer.specs.Outcome.{Pass};
 ghost use Rattle.wire.specs.Parts.{Wrote};
