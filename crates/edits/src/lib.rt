@@ -1,6 +1,8 @@
 // Edits of a snapshot file beside a card: a device or a disk more, one fewer, a payload exchanged, or the devices of a table; and the card of a file. An edit is planned whole before the first byte is written. The file
 // is written by the directory of its index, each section into the tail of the output from where the last one ended, and the new entry between those of its list.
 // Slices that are handed on as `&s[..]` go in registers (decision 38).
+#![tactic(auto)]
+
 ghost use Rattle.std.specs.Prelude.{◌≡◌, true, cond, ◌&&◌, ◌||◌, List, [], ◌++◌, map, ℕ, ◌+◌, ◌-◌, ◌*◌, ◌/◌, ◌≤◌, ◌<◌, eqb, leb, length, take, drop};
 ghost use Rattle.answer.specs.Calls.{test_of, asked, Writes};
 ghost use Rattle.answer.specs.Outcome.{done, Pass};
@@ -47,7 +49,7 @@ use sections::Places;
 use wire::{u16_at, u32_at, u64_at};
 
 // An edit by its numbers: a device or a disk more, one fewer, a device's payload exchanged. What it brings stands beside it: `a` is the payload or the base image, `b` the overlay image.
-#[derive(Drop)]
+#[derive(Clone, Copy)]
 pub enum Edit {
     AddDevice(u32, u16, u16),
     AddDisk(u32),
@@ -225,7 +227,7 @@ fn put_new(edit: Edit, a: &[u8], b: &[u8], out: &mut [u8]) -> usize
 // ---- a file that is taken
 
 // How many sections and bytes a file has.
-#[derive(Drop)]
+#[derive(Clone, Copy)]
 struct Extent {
     sections: usize,
     bytes: usize,
@@ -246,7 +248,7 @@ fn sized(file: &[u8], index: &[u32]) -> Extent
 
 // A list of a file: where its payload begins and ends, which places of the index hold its starts, and whether its entries stand in the order of their keys. One that the file has not is
 // empty, and so are its parts.
-#[derive(Drop)]
+#[derive(Clone, Copy)]
 struct Site {
     begin: usize,
     end: usize,
@@ -312,7 +314,7 @@ fn search(edit: Edit, file: &[u8], index: &[u32], site: Site) -> Found
 }
 
 // How a list changes: the entries at the places of the index from `low` to `high` go, and what the edit brings comes there; then it has so many entries, and its payload so many bytes.
-#[derive(Drop)]
+#[derive(Clone, Copy)]
 struct Cut {
     low: usize,
     high: usize,
@@ -588,7 +590,7 @@ fn put_edited(
 // ---- the plan of an edit
 
 // What an edit does to its list: where the list stands and how it is cut, and how many sections and bytes the file has before it and after it.
-#[derive(Drop)]
+#[derive(Clone, Copy)]
 struct Change {
     site: Site,
     cut: Cut,
@@ -597,7 +599,7 @@ struct Change {
 }
 
 // Every check but the card's passed, or the first that failed.
-#[derive(Drop)]
+#[derive(Clone, Copy)]
 enum Planned {
     Fault(u32, usize),
     Fits(Change),
@@ -902,7 +904,7 @@ fn ask_row(
 }
 
 // The first refusal of a row and its number, or how many bytes the entries have together.
-#[derive(Drop)]
+#[derive(Clone, Copy)]
 enum Counted {
     Refused(u32, usize, usize),
     Passed(usize),
@@ -945,7 +947,7 @@ fn ask_rows(
 // ---- their bytes among those of the file
 
 // How many bytes were written, and which place of the index comes next.
-#[derive(Drop)]
+#[derive(Clone, Copy)]
 struct Run {
     bytes: usize,
     next: usize,
@@ -1049,7 +1051,7 @@ fn put_rows(
 // ---- all of them added
 
 // Every check but the card's passed, or the first that failed and its row.
-#[derive(Drop)]
+#[derive(Clone, Copy)]
 enum Prepared {
     Stopped(u32, usize, usize),
     Stands(Change),
@@ -1404,7 +1406,7 @@ fn open_in(file: &[u8], index: &mut [u32]) -> Edited
 // ---- the calls
 
 // What is done with a file: the canonical form of its content after an edit is written beside a card; or its card is made, and nothing is written.
-#[derive(Drop)]
+#[derive(Clone, Copy)]
 enum Work {
     Opening,
     Editing(Edit, Card),
