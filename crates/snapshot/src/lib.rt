@@ -1,5 +1,7 @@
 // Snapshot files, all calls: checked whole, their tables handed out, written in canonical form, and edited: a device or a disk more, one fewer, a payload exchanged.
 // Slices that are handed on as `&s[..]` go in registers (decision 38).
+#![tactic(auto)]
+
 ghost use Rattle.std.specs.Prelude.{◌≡◌, true, cond, List, ℕ, ◌+◌, ◌*◌, ◌≤◌, eqb, length};
 ghost use Rattle.answer.specs.Outcome.{taken, done};
 ghost use Rattle.answer.specs.Calls.{test_of, verdict, Writes};
