@@ -1,5 +1,7 @@
 // Many devices at once, from entries by value: each is stored as a record among bytes, and the call over bytes answers for the records.
 // The call over a slice of structs, in `cimbrolau`, is made of these: the borrow checker covers no function that takes such a slice, so all that it calls takes an entry by value.
+#![tactic(auto)]
+
 ghost use Rattle.std.specs.Prelude.{◌≡◌, ◌+◌, ◌*◌, ◌≤◌, ◌<◌, ◌^◌, length, take};
 ghost use Rattle.wire.specs.Parts.{Wrote};
 ghost use Rattle.cards.specs.Cards.{WritesBeside};
