@@ -1,6 +1,8 @@
 // Ready to restore? One yes or no before a panel is switched, and for a no the list of what is missing.
 // The crate stands above `snapshot` and `dskc` and knows them by their promises. The file is checked whole and once, by `snapshot::sections`, whose table says
 // where the payloads of DEVICES and DISKS stand; their entries are passed by their lengths, and the wrapper is judged by `dskc::check`.
+#![tactic(auto)]
+
 ghost use Rattle.std.specs.Prelude.{◌≡◌, List, ℕ, ◌+◌, ◌≤◌, length, take, drop};
 ghost use Rattle.answer.specs.Outcome.{taken, fitting};
 ghost use Rattle.wire.specs.Parts.{Wrote};
