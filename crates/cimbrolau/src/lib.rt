@@ -1,5 +1,7 @@
 // The front door: each call of the library for callers in C and in languages that call C. include/cimbrolau.h is its declaration.
 // Each function hands its parameters to the call of the same meaning and returns what that answers; a slice comes as a pointer and a length.
+#![tactic(auto)]
+
 ghost use Rattle.std.specs.Prelude.{◌≡◌, length};
 ghost use Rattle.answer.specs.Calls.{asked, verdict, Writes};
 ghost use Rattle.aerosnap.specs.Calls.{check_call, sections_call, devices_call, disks_call, cpus_call, mmus_call, canonical_call};
