@@ -1,6 +1,8 @@
 // Runs the reader and the writer of messages: every tag there is, and for every kind its shortest message, one with other numbers
 // and one with data, each as it was written, a byte shorter and a byte longer, and with each byte one more and one less.
 // A line `w` is an answer of `write`; any other line is a reading: number, place, tag, the four numbers, start and length of the data.
+#![tactic(auto)]
+
 use aipc::{Message, Reading};
 use answer::Answer;
 use kinds::Cell;
