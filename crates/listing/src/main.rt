@@ -1,5 +1,7 @@
 // Lists a snapshot file that is read from standard input: a heading, a line for each section, then its devices and its disks in key order.
 // A file of more than 32,768 bytes prints `too long`; a refusal prints only its number and its place.
+#![tactic(auto)]
+
 use answer::Answer;
 use tables::ROW;
 
