@@ -5,20 +5,17 @@ use mathlib.Core.Path.{◌≡◌, refl, sym, ◌∙◌, ap, subst}
 use mathlib.Core.List.{List, [], ◌∷◌, ◌++◌, Permᴰ, Perm}
 use Prim.Native.Nat.{ℕ}
 use native.Mathlib.Omega.{arith}
-use lib.ListN.{length, take, drop}
-use lib.Seq.{take-append_seam}
-use Rattle.answer.specs.Outcome.{Outcome, taken}
-use Rattle.answer.specs.Calls.{answer, memory, Writes}
-use Rattle.answer.specs.declared.Answer.{Answer}
+use lib.ListN.{length}
+use Rattle.answer.specs.Outcome.{taken}
 use Rattle.order.specs.Keyed.{sort, inserts, Asc}
 use Rattle.order.specs.Adding.{Chain, items, Roomy, puts}
 use Rattle.order.proofs.Sorts.{inserts-sort, asc_inserts}
 use Rattle.order.proofs.Files.{any_order_bytes, no_two_sets_bytes, content}
 use Rattle.entries.specs.Kinds.{devices, disks}
 use Rattle.aerosnap.specs.Content.{Content, render, content_at, IsCanonical}
-use Rattle.aerosnap.specs.Adding.{Item, device, disk, Wide, device_entries, disk_entries, grown}
+use Rattle.aerosnap.specs.Adding.{Item, device, disk, device_entries, disk_entries, grown}
 use Rattle.aerosnap.proofs.Items.{with_item}
-use Rattle.aerosnap.specs.Edits.{add_item, Call}
+use Rattle.aerosnap.specs.Edits.{Call}
 use Rattle.aerosnap.proofs.Canon.{Canon}
 use Rattle.aerosnap.proofs.Back.{read_back}
 use Rattle.aerosnap.proofs.Canonical.{content_is, canonical_exactly}

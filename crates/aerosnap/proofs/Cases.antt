@@ -19,7 +19,7 @@ use Rattle.aerosnap.specs.Content.{framed, canonical}
 use Rattle.aerosnap.specs.Tables.{placed, section_rows}
 use Rattle.aerosnap.specs.Calls.{sections_call, disks_call}
 use Rattle.aerosnap.specs.Adding.{device, disk}
-use Rattle.aerosnap.specs.Edits.{add_to, add_item, edit_file, edit_to}
+use Rattle.aerosnap.specs.Edits.{add_item, edit_file, edit_to}
 
 -- a section with flags 0
 abbrev section : ℕ → ℕ → List ℕ → List ℕ

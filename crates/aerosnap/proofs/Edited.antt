@@ -1,19 +1,18 @@
 -- Edits: the numbers of a content with another list; a content in order stays so; what an edit that is taken gives; what was just added can be removed again.
 -- Assumes nothing.
 use mathlib.Core.Path.{◌≡◌, refl, sym, ◌∙◌, ap, subst}
-use mathlib.Core.Logic.{◌↔◌}
-use mathlib.Core.Bool.{Bool, true, false, not, cond, ◌||◌}
+use mathlib.Core.Bool.{Bool, true, false, cond}
 use mathlib.Core.List.Permᴰ
 use mathlib.Core.List.{List, [], ◌∷◌, ◌++◌}
-use Prim.Native.Nat.{ℕ, suc, ◌+◌, ◌*◌, ◌≤◌, ◌<◌}
+use Prim.Native.Nat.{ℕ, suc, ◌+◌, ◌≤◌, ◌<◌}
 use native.Mathlib.Omega.{arith}
 use lib.ListN.{length, length-append}
-use lib.Dec.{eqb, leb}
-use borrow.Author.Tests.{leb-true, le-leb, ne_eqb, not-true}
-use Rattle.answer.specs.Outcome.{Outcome, taken, refused, Checks, checked, Pass, after, fitting}
-use Rattle.answer.proofs.Checks.{checked-pass, pass-checked, append-pass, pass-append}
-use Rattle.answer.proofs.Outcomes.{taken_is, after_taken}
-use Rattle.wire.specs.Numbers.{le_at, le, bytes_of}
+use lib.Dec.{leb}
+use borrow.Author.Tests.{leb-true, ne_eqb, not-true}
+use Rattle.answer.specs.Outcome.{taken, Pass}
+use Rattle.answer.proofs.Checks.{append-pass}
+use Rattle.answer.proofs.Outcomes.{taken_is}
+use Rattle.wire.specs.Numbers.{le_at, bytes_of}
 use Rattle.format.specs.Format.{Is}
 use Rattle.order.specs.Keyed.{Every, weigh, insert, keep, has, without, Fresh}
 use Rattle.order.proofs.Folds.{every_imp, every_append}
@@ -21,7 +20,7 @@ use Rattle.order.proofs.Keeps.{keep-none}
 use Rattle.order.proofs.Sorts.{sort_perm}
 use Rattle.order.proofs.Perms.{perm_length, perm_weigh, every_perm}
 use Rattle.order.proofs.Keys.{has_fresh, fresh_has, asc_apart}
-use Rattle.order.proofs.Inserts.{insert_perm, every_insert, asc_insert, length-insert, weigh-insert}
+use Rattle.order.proofs.Inserts.{every_insert, asc_insert, length-insert}
 use Rattle.entries.specs.Kinds.{Description, devices, disks}
 use Rattle.lists.specs.Lists.{list_bytes}
 use Rattle.lists.proofs.Written.{length_list}
@@ -34,14 +33,14 @@ use Rattle.aerosnap.specs.Adding.{Item, device, disk, Name, device_named, disk_n
 use Rattle.aerosnap.proofs.Items.{with_item, entry_is}
 use Rattle.aerosnap.proofs.Canon.{presence, weight, count_of, size_of, FitsIn, Sorted, Canon, length-secs, length-render}
 use Rattle.aerosnap.proofs.Back.{read_back}
-use Rattle.aerosnap.proofs.Canonical.{content_is, fits_taken, taken_fits}
+use Rattle.aerosnap.proofs.Canonical.{content_is}
 use Rattle.aerosnap.proofs.Framed.{framed_id}
 use Rattle.aerosnap.proofs.Ranks.{other_not}
 use Rattle.aerosnap.proofs.Ranked.{with_entries, with_tail}
 use Rattle.aerosnap.proofs.Passing.{edit_exactly}
-use Rattle.aerosnap.proofs.Added.{Passed, passed_step, canon_put}
+use Rattle.aerosnap.proofs.Added.{passed_step, canon_put}
 use Rattle.aerosnap.proofs.AnyOrder.{canonical_content, render-canonical}
-use Rattle.aerosnap.specs.Edits.{key_of, stands, Edit, add, remove, replace, target, WideEdit, apply, edit_checks, edit_to, edit_file, EditCall}
+use Rattle.aerosnap.specs.Edits.{key_of, stands, Edit, add, remove, replace, WideEdit, apply, edit_checks, edit_file, EditCall}
 use Rattle.order.proofs.Without.{has-insert, fresh_without, asc_without, every_without, without-insert, stood}
 
 -- its key is that of every entry of the name

@@ -17,7 +17,7 @@ use Rattle.aerosnap.specs.Content.{canonical}
 use Rattle.aerosnap.specs.Tables.{placed, section_rows}
 use Rattle.aerosnap.specs.Calls.{sections_call, devices_call, disks_call}
 use Rattle.aerosnap.specs.Adding.{device}
-use Rattle.aerosnap.specs.Edits.{add_to, add_item, edit_file, edit_to}
+use Rattle.aerosnap.specs.Edits.{add_item, edit_file, edit_to}
 
 abbrev u32 : ℕ → List ℕ
 u32 n = n ∷ 0 ∷ 0 ∷ 0 ∷ []

@@ -3,15 +3,15 @@
 use mathlib.Core.Path.{◌≡◌, refl, sym, ◌∙◌, ap, subst}
 use mathlib.Core.Logic.{◌≢◌}
 use mathlib.Core.List.{List, [], ◌∷◌, ◌++◌, map, append-nil, append_assoc}
-use mathlib.Core.Bool.{Bool, true, false, not, ◌&&◌, ◌||◌, cond}
+use mathlib.Core.Bool.{Bool, true, false, not, ◌||◌, cond}
 use Prim.Native.Nat.{ℕ, zero, suc, ◌+◌, ◌-◌, ◌≤◌, ◌<◌}
 use native.Mathlib.Omega.{arith}
 use lib.ListN.{length, take, drop, length-append, length-drop, take-append-drop}
 use lib.Seq.{take-append_seam, drop-append_seam, take_all, drop-drop}
 use lib.Dec.{leb, ltb, eqb}
-use borrow.Author.Tests.{leb-true, le-leb, eq-eqb}
+use borrow.Author.Tests.{le-leb, eq-eqb}
 use Rattle.answer.specs.Numbers.{CUT, MANY, is_fault}
-use Rattle.answer.specs.Outcome.{Outcome, taken, refused, Pass, checked, after, moved}
+use Rattle.answer.specs.Outcome.{Outcome, taken, refused, checked, after, moved}
 use Rattle.answer.proofs.Checks.{and_true, pass-checked}
 use Rattle.order.specs.Keyed.{Every, has}
 use Rattle.order.specs.Entries.{join}
@@ -20,8 +20,8 @@ use Rattle.wire.specs.Numbers.{le_at, le}
 use Rattle.wire.proofs.Numbers.{le_at-append}
 use Rattle.aerosnap.specs.Known.{DEVICES, known, takes, slot}
 use Rattle.aerosnap.specs.Payloads.{body_of, payload}
-use Rattle.aerosnap.specs.File.{file_most, sections_most, devices_most, header, header_checks, id_of, version_of, flags_of, length_of, payload_of, slot_of, fits_in, frame_checks, known_checks, ruled, section_of, sections, file_of}
-use Rattle.aerosnap.specs.Rules.{IsSection, IsFile}
+use Rattle.aerosnap.specs.File.{file_most, sections_most, devices_most, header, header_checks, id_of, version_of, flags_of, length_of, payload_of, slot_of, fits_in, known_checks, ruled, section_of, sections, file_of}
+use Rattle.aerosnap.specs.Rules.{IsSection}
 use Rattle.aerosnap.specs.Salvage.{Part, keeps, loses, bytes_in, kept_by, length_of_part, read_part, part_by, part_of, parts_from, parts_of, all_kept, loss_bytes, loss_row, loss_rows}
 use Rattle.aerosnap.proofs.Refusals.{Refuses, after_refuses}
 use Rattle.aerosnap.proofs.Named.{is_inner, ruled_inside}

@@ -2,7 +2,7 @@
 -- Assumes nothing.
 use mathlib.Core.Path.{◌≡◌, refl}
 use mathlib.Core.List.{List, [], ◌∷◌, ◌++◌}
-use Prim.Native.Nat.{ℕ, ◌+◌, ◌*◌}
+use Prim.Native.Nat.{ℕ}
 use lib.ListN.{length, take, set, replicate}
 use Rattle.answer.specs.Numbers.{SHORT, ENDIAN, CUT, MANY, TWICE, SECVER, KEY, ROOM}
 use Rattle.answer.specs.Outcome.{Outcome, taken, refused, after}

@@ -2,7 +2,7 @@
 -- Assumes nothing.
 use mathlib.Core.Path.{◌≡◌, refl, sym, ◌∙◌, ap, subst}
 use mathlib.Core.List.{List, [], ◌∷◌, ◌++◌, map, append-nil, append_assoc}
-use mathlib.Core.Bool.{Bool, true, false, cond, ◌&&◌}
+use mathlib.Core.Bool.{Bool, true, false, cond}
 use Prim.Native.Nat.{ℕ, zero, suc, ◌+◌, ◌-◌, ◌≤◌, ◌<◌}
 use native.Mathlib.Omega.{arith}
 use lib.ListN.{length, take, drop, length-append, length-drop, take-append-drop, drop_of_length-le}
@@ -13,9 +13,9 @@ use Rattle.answer.specs.Numbers.{CUT}
 use Rattle.answer.specs.Outcome.{Outcome, taken, refused, checked, after}
 use Rattle.answer.proofs.Checks.{checked-pass, and_true}
 use Rattle.answer.proofs.Outcomes.{taken_is, after_taken}
-use Rattle.order.specs.Keyed.{Every, weigh}
+use Rattle.order.specs.Keyed.{Every}
 use Rattle.order.specs.Entries.{join}
-use Rattle.order.proofs.Folds.{every_append, flat_append, weigh-append}
+use Rattle.order.proofs.Folds.{every_append}
 use Rattle.aerosnap.specs.File.{sections_most, id_of, version_of, flags_of, length_of, payload_of, fits_in, frame_checks, ruled, section_of}
 use Rattle.aerosnap.specs.Rules.{IsSection}
 use Rattle.aerosnap.specs.Salvage.{Part, keeps, loses, bytes_in, kept_by, length_of_part, read_part, part_by, part_of, parts_from, all_kept}

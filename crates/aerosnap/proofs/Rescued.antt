@@ -10,22 +10,19 @@ use lib.ListN.{length, drop, length-append, length-drop}
 use lib.Dec.{leb}
 use borrow.Author.Tests.{leb-true, le-leb}
 use Rattle.answer.specs.Numbers.{ROOM}
-use Rattle.answer.specs.Outcome.{Outcome, taken, Pass, checked, after, fitting}
-use Rattle.answer.proofs.Checks.{checked-pass, pass-checked, checked-append}
+use Rattle.answer.specs.Outcome.{taken, Pass, checked, after, fitting}
+use Rattle.answer.proofs.Checks.{checked-pass, pass-checked}
 use Rattle.answer.proofs.Outcomes.{taken_is, after_taken}
-use Rattle.wire.proofs.Numbers.{length-bytes_of}
-use Rattle.order.specs.Keyed.{Every, weigh}
 use Rattle.order.specs.Entries.{join}
-use Rattle.order.proofs.Entries.{length-join}
 use Rattle.aerosnap.specs.File.{file_most, sections_most, header, header_checks, sections, file_of}
 use Rattle.aerosnap.specs.Rules.{IsFile}
-use Rattle.aerosnap.specs.Content.{Content, content_of, render, content_at, canonical, IsCanonical}
-use Rattle.aerosnap.specs.Salvage.{Part, keeps, loses, bytes_in, kept_by, parts_from, parts_of, all_kept, loss_row, loss_rows, Rescued, rescued_of, fitting_both, salvage}
+use Rattle.aerosnap.specs.Content.{content_of, render, content_at, canonical, IsCanonical}
+use Rattle.aerosnap.specs.Salvage.{Part, keeps, loses, bytes_in, parts_from, parts_of, all_kept, loss_rows, Rescued, rescued_of, fitting_both, salvage}
 use Rattle.aerosnap.proofs.Taken.{header_sound, file_sound, file_complete}
 use Rattle.aerosnap.proofs.Canon.{canon_of, secs_fewer}
 use Rattle.aerosnap.proofs.Back.{read_back}
 use Rattle.aerosnap.proofs.Canonical.{canonical_exactly, fits_taken, taken_fits}
-use Rattle.aerosnap.proofs.Parts.{Sound, parts_cover, parts_sound, parts_all}
+use Rattle.aerosnap.proofs.Parts.{parts_cover, parts_sound, parts_all}
 
 -- ---- parts
 

@@ -7,7 +7,7 @@ use Rattle.order.specs.Keyed.{without, inserts, has}
 use Rattle.entries.specs.Kinds.{Description, payload_most, devices, disks}
 use Rattle.lists.specs.Lists.{list_bytes}
 use Rattle.aerosnap.specs.File.{file_most, devices_most}
-use Rattle.aerosnap.specs.Content.{framed, Content, kind_at, entries_at, with_list, render, content_at}
+use Rattle.aerosnap.specs.Content.{Content, kind_at, entries_at, with_list, render, content_at}
 use Rattle.aerosnap.specs.Adding.{Item, device, disk, Name, device_named, disk_named, name_of, side_of, WideName, entry_of, own_checks, add_checks}
 
 -- the key of every entry of that name, as one number: that of one that holds nothing

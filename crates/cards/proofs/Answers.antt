@@ -9,7 +9,6 @@ use Rattle.wire.specs.Parts.{Wrote}
 use Rattle.aerosnap.specs.Content.{Content, content_at}
 use Rattle.aerosnap.specs.Edits.{Edit, apply, edit_to, edit_file}
 use Rattle.cards.specs.declared.Card.{Card}
-use Rattle.cards.specs.declared.Edited.{Edited}
 use Rattle.cards.specs.Cards.{carded, edit_card_to, edit_card, answer_beside, bytes_beside, WritesBeside}
 
 pub beside_refused : {k : Card} {o : Outcome (List ℕ × Card)} (i : ℕ) {old : List ℕ} {n p : ℕ} → o ≡ refused n p → WritesBeside k (i, o) old (record { number = n; index = i; place = p; card = k }) old

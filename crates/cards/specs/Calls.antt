@@ -6,7 +6,6 @@ use Rattle.aerosnap.specs.Adding.{device, disk, device_named, disk_named}
 use Rattle.aerosnap.specs.Edits.{Edit, add, remove, replace}
 use Rattle.cards.specs.declared.Card.{Card}
 use Rattle.cards.specs.Cards.{open_file, edit_card}
-use Rattle.cards.specs.Whole.{many_card}
 
 abbrev pub open_call : List ℕ → Outcome Card
 open_call file = open_file file

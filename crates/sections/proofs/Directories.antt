@@ -5,8 +5,8 @@ use mathlib.Core.List.{List, [], ◌∷◌, ◌++◌, append-nil}
 use mathlib.Core.Bool.{Bool, true, false}
 use Prim.Native.Nat.{ℕ, suc, ◌+◌, ◌-◌, ◌≤◌, ◌<◌}
 use native.Mathlib.Omega.{arith}
-use lib.ListN.{length, take, drop, get_or, set, length-append, length-set, length-take, length-drop, take-append-drop, drop_of_length-le, get_or-append}
-use lib.Seq.{get_or-set_same, get_or-set_other, drop_at, paste, paste-suc, take_all, length-take-le, get_or-take, ext_get_or}
+use lib.ListN.{length, take, drop, get_or, set, length-append, length-set, length-drop, take-append-drop, drop_of_length-le, get_or-append}
+use lib.Seq.{get_or-set_same, get_or-set_other, drop_at, paste-suc, take_all, length-take-le, get_or-take, ext_get_or}
 use lib.Dec.{leb}
 use borrow.Author.Tests.{le-leb, lt-leb, leb-true, leb-false}
 use Rattle.answer.specs.Numbers.{ROOM}

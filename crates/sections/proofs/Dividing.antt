@@ -3,16 +3,16 @@
 use mathlib.Core.Path.{◌≡◌, refl, sym, ◌∙◌, ap, subst}
 use mathlib.Core.List.{List, [], ◌∷◌, ◌++◌, map, append-nil, append_assoc}
 use mathlib.Core.Bool.{Bool, true, false, cond}
-use Prim.Native.Nat.{ℕ, suc, ◌+◌, ◌-◌, ◌≤◌, ◌<◌}
+use Prim.Native.Nat.{ℕ, ◌+◌, ◌-◌, ◌≤◌, ◌<◌}
 use native.Mathlib.Omega.{arith}
 use lib.ListN.{length, take, drop, get_or, length-append, length-take, length-drop, replicate, take-append-drop}
-use lib.Seq.{take-append_seam, drop-append_seam, length-take-le}
+use lib.Seq.{take-append_seam, length-take-le}
 use lib.Dec.{leb, eqb}
 use borrow.Author.Tests.{leb-true, le-leb, lt-leb}
 use Rattle.answer.specs.Numbers.{CUT}
 use Rattle.answer.specs.declared.Piece.{Piece}
 use Rattle.answer.specs.declared.Piece.TheVariants.{Stop, Ends}
-use Rattle.answer.specs.Outcome.{Outcome, taken, refused, checked}
+use Rattle.answer.specs.Outcome.{Outcome, taken, checked}
 use Rattle.answer.proofs.Checks.{checked-pass, and_true}
 use Rattle.answer.proofs.Outcomes.{made_stop, made_taken}
 use Rattle.wire.specs.Numbers.{le_at}
@@ -30,7 +30,7 @@ use Rattle.aerosnap.specs.Rules.{IsSection, IsFile, is_known_section}
 use Rattle.aerosnap.specs.Content.{tidy, content_of, secs, render}
 use Rattle.aerosnap.specs.Salvage.{Part, keeps, loses, bytes_in, kept_by, length_of_part, read_part, parts_of, all_kept, loss_bytes, loss_row, loss_rows}
 use Rattle.aerosnap.proofs.Sections.{Took, section_sound, id_front}
-use Rattle.aerosnap.proofs.Parts.{Sound, section_fits, part_inside, parts_at, parts_end, parts_lost, parts_kept, parts_cover}
+use Rattle.aerosnap.proofs.Parts.{Sound, section_fits, part_inside, parts_at, parts_end, parts_lost, parts_kept}
 use Rattle.aerosnap.proofs.Rescued.{kept_shorter}
 use Rattle.aerosnap.proofs.Judged.{span}
 use Rattle.aerosnap.proofs.Copies.{secs-count, render_size}
@@ -38,7 +38,7 @@ use Rattle.aerosnap.proofs.Slots.{once_last}
 use Rattle.aerosnap.proofs.Written.{is_empty, tidy_one}
 use Rattle.sections.specs.Steps.{walked_from, Marks, Keeps, tallied, seated, written_size, FirstOf, division_for, Parted}
 use Rattle.sections.specs.Index.{starts_of, kept}
-use Rattle.sections.specs.Directory.{directory_places, Seat, seats, seat_of, others_in, loss_rows_in}
+use Rattle.sections.specs.Directory.{directory_places, seats, seat_of, others_in, loss_rows_in}
 use Rattle.sections.specs.declared.Division.{Division}
 use Rattle.answer.specs.declared.Test.{Test}
 use Rattle.answer.specs.declared.Test.TheVariants.{Fine}

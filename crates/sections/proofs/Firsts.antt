@@ -14,11 +14,10 @@ use Rattle.answer.specs.Outcome.{Outcome, taken, refused, checked, after}
 use Rattle.answer.specs.declared.Test.{Test}
 use Rattle.answer.specs.declared.Test.TheVariants.{Fault, Fine}
 use Rattle.aerosnap.specs.File.{sections_most, length_of, fits_in, id_of, version_of, flags_of, payload_of, ruled, section_of}
-use Rattle.aerosnap.specs.Salvage.{Part, parts_of, loss_rows, read_part}
+use Rattle.aerosnap.specs.Salvage.{Part, loss_rows, read_part}
 use Rattle.aerosnap.proofs.Turns.{sections_at, walk_end, walk_stop, walk_next}
-use Rattle.sections.specs.declared.Division.{Division}
-use Rattle.sections.specs.declared.Division.TheVariants.{Lost, Whole}
-use Rattle.sections.specs.Steps.{walked_from, FirstFound, FirstOf, division_for}
+use Rattle.sections.specs.declared.Division.TheVariants.{Lost}
+use Rattle.sections.specs.Steps.{walked_from, FirstOf, division_for}
 use Rattle.sections.specs.Directory.{losses_of}
 
 -- ---- the reader's own answer

@@ -1,6 +1,6 @@
 -- The parts of a file as the code finds them: the directory at the front of an index says where the sections stand that are kept, and records of what is lost stand in a lent buffer.
 -- Assumes nothing.
-use Rattle.std.specs.Prelude.{◌≡◌, List, [], ◌∷◌, ◌++◌, cond, ◌&&◌, ℕ, ◌+◌, ◌-◌, ◌≤◌, leb, eqb, length, drop, get_or, set}
+use Rattle.std.specs.Prelude.{◌≡◌, List, [], ◌∷◌, ◌++◌, cond, ℕ, ◌+◌, ◌-◌, ◌≤◌, leb, eqb, length, drop, get_or}
 use Rattle.answer.specs.Numbers.{ROOM}
 use Rattle.answer.specs.Outcome.{Outcome, taken, refused, checked}
 use Rattle.answer.specs.declared.Test.{Test}
@@ -13,7 +13,7 @@ use Rattle.aerosnap.specs.Content.{content_of, secs, render}
 use Rattle.aerosnap.specs.Salvage.{Part, keeps, loses, parts_of, all_kept, loss_rows}
 use Rattle.sections.specs.declared.Division.{Division}
 use Rattle.sections.specs.declared.Division.TheVariants.{Fault, Whole, Lost}
-use Rattle.sections.specs.Index.{starts_of, kept, is_list_id}
+use Rattle.sections.specs.Index.{starts_of, kept}
 
 -- the places of an index that its directory takes
 abbrev pub directory_places : ℕ

@@ -8,7 +8,7 @@ use Rattle.wire.specs.Numbers.{le_at}
 use Rattle.order.specs.Keyed.{flat}
 use Rattle.aerosnap.specs.Known.{DEVICES, DISKS, CPUS, MMUS}
 use Rattle.aerosnap.specs.Payloads.{body_of}
-use Rattle.aerosnap.specs.File.{id_of, version_of, length_of, payload_of, fits_in, file_of}
+use Rattle.aerosnap.specs.File.{id_of, version_of, length_of, payload_of, fits_in}
 use Rattle.aerosnap.specs.Content.{is_id}
 use Rattle.lists.specs.Lists.{whole}
 use Rattle.lists.specs.Promises.{lent_after}

@@ -1,9 +1,8 @@
 -- The walk over the sections, as the code keeps it.
 -- Assumes nothing.
-use Rattle.std.specs.Prelude.{◌≡◌, List, [], ◌∷◌, cond, ℕ, ◌+◌, ◌≤◌, length, drop, get_or, eqb}
+use Rattle.std.specs.Prelude.{◌≡◌, List, [], ◌∷◌, cond, ℕ, ◌+◌, length}
 use Rattle.answer.specs.Outcome.{Outcome, taken, refused, after}
-use Rattle.order.specs.Keyed.{has}
-use Rattle.aerosnap.specs.File.{sections_most, slot_of, sections, file_of}
+use Rattle.aerosnap.specs.File.{file_of}
 use Rattle.aerosnap.specs.Content.{is_id}
 
 -- how many sections were found

@@ -1,7 +1,6 @@
 use Rattle.cards.proofs.Moves.{between, below, falls}
 use native.Mathlib.Omega.{arith}
 use Prim.Native.Nat.{◌+◌}
-use borrow.Author.Rules.{rules}
 use Rattle.cards.proofs.is_lowered.Goals as goal
 
 pub returns-then-n-lo : goal.returns-then-n-lo

@@ -1,7 +1,6 @@
 use Rattle.cards.proofs.Moves.{between, above, rises}
 use native.Mathlib.Omega.{arith}
 use Prim.Native.Nat.{◌+◌}
-use borrow.Author.Rules.{rules}
 use Rattle.cards.proofs.is_raised.Goals as goal
 
 pub returns-then-hi-n : goal.returns-then-hi-n

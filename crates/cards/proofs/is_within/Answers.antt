@@ -1,6 +1,5 @@
 use Rattle.cards.proofs.Moves.{stays_up, stays_down}
 use mathlib.Core.Path.{◌∙◌}
-use borrow.Author.Rules.{rules}
 use Rattle.cards.proofs.is_within.Goals as goal
 
 pub returns-then-a-b : goal.returns-then-a-b

@@ -1,15 +1,13 @@
 use Rattle.cards.proofs.Moves.{stays_bounds}
-use Rattle.cards.specs.Cards.{stays, goes, card_checks, moved_card}
+use Rattle.cards.specs.Cards.{stays, card_checks, moved_card}
 use Rattle.cards.specs.declared.Card.{Card}
 use Rattle.answer.specs.Outcome.{taken, checked}
 use Rattle.answer.proofs.Checks.{Left, left_all, left_pass, left_fail}
 use mathlib.Core.Bool.{Bool, true}
-use mathlib.Core.Path.{◌≡◌, sym, ◌∙◌, ap}
+use mathlib.Core.Path.{◌≡◌, sym, ◌∙◌}
 use lib.ListN.{drop}
 use Prim.Native.Nat.{ℕ, ◌+◌, ◌≤◌}
 use native.Mathlib.Omega.{arith}
-use borrow.Author.Tests.{not-true, not-false}
-use borrow.Author.Rules.{rules}
 use Rattle.cards.proofs.move_by.Goals as goal
 
 abbrev From : ℕ → Card → Card → Card → Type 0

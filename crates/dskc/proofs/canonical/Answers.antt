@@ -10,7 +10,6 @@ use mathlib.Core.Path.{sym, subst}
 use mathlib.Core.List.{List}
 use Prim.Native.Nat.{ℕ, ◌≤◌}
 use native.Mathlib.Omega.{arith}
-use borrow.Author.Rules.{rules}
 use Rattle.dskc.proofs.canonical.Goals as goal
 
 pub returns-then-out-need : goal.returns-then-out-need

@@ -3,7 +3,6 @@ use Rattle.dskc.proofs.Reading.{refused_so, taken_so}
 use mathlib.Core.Path.{sym, ap}
 use mathlib.Core.List.{List}
 use Prim.Native.Nat.{ℕ}
-use borrow.Author.Rules.{rules}
 use Rattle.dskc.proofs.check.Goals as goal
 
 pub returns-in-Stop : goal.returns-in-Stop

@@ -9,7 +9,6 @@ use mathlib.Core.Path.{sym, subst}
 use mathlib.Core.List.{List}
 use Prim.Native.Nat.{ℕ}
 use native.Mathlib.Omega.{arith}
-use borrow.Author.Rules.{rules}
 use Rattle.dskc.proofs.controllers.Goals as goal
 
 pub overflow_mul-need : goal.overflow_mul-need

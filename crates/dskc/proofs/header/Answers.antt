@@ -8,8 +8,7 @@ use lib.ListN.{drop}
 use mathlib.Core.Path.{sym, ◌∙◌}
 use mathlib.Core.List.{List}
 use Prim.Native.Nat.{ℕ}
-use borrow.Author.Tests.{not-true, not-false, le-leb, lt-leb, eq-eqb, ne_eqb}
-use borrow.Author.Rules.{rules}
+use borrow.Author.Tests.{le-leb, lt-leb, eq-eqb, ne_eqb}
 use Rattle.dskc.proofs.header.Goals as goal
 
 abbrev From : ℕ → List ℕ → Type 0
@@ -58,7 +57,7 @@ returns-then-not-pair_at-2 c =
     let bytes : Bytes (read) = λ i. (c.type_inv.s i).fits in
     let letters : From 3 (read) = left_pass (short) (aero_number (read) (bytes) c.if-s-lt16.false c.u32_at.ensures ∙ eq-eqb _ _ c.if-u32_at-ne-AERO.false) in
     let pair : From 4 (read) = left_pass (letters) (sym c.pair_at.ensures ∙ c.if-not-pair_at.false) in
-    let more_letters : From 5 (read) =     left_pass (pair) (dskc_number (read) (bytes) c.if-s-lt16.false c.u32_at-2.ensures ∙ eq-eqb _ _ c.if-u32_at-ne-DSKC.false) in
+    let more_letters : From 5 (read) = left_pass (pair) (dskc_number (read) (bytes) c.if-s-lt16.false c.u32_at-2.ensures ∙ eq-eqb _ _ c.if-u32_at-ne-DSKC.false) in
     left_fail (more_letters) (sym c.pair_at-2.ensures ∙ c.if-not-pair_at-2.true)
 
 pub returns : goal.returns
@@ -69,5 +68,5 @@ returns c =
     let bytes : Bytes (read) = λ i. (c.type_inv.s i).fits in
     let letters : From 3 (read) = left_pass (short) (aero_number (read) (bytes) c.if-s-lt16.false c.u32_at.ensures ∙ eq-eqb _ _ c.if-u32_at-ne-AERO.false) in
     let pair : From 4 (read) = left_pass (letters) (sym c.pair_at.ensures ∙ c.if-not-pair_at.false) in
-    let more_letters : From 5 (read) =     left_pass (pair) (dskc_number (read) (bytes) c.if-s-lt16.false c.u32_at-2.ensures ∙ eq-eqb _ _ c.if-u32_at-ne-DSKC.false) in
+    let more_letters : From 5 (read) = left_pass (pair) (dskc_number (read) (bytes) c.if-s-lt16.false c.u32_at-2.ensures ∙ eq-eqb _ _ c.if-u32_at-ne-DSKC.false) in
     (left_pass (more_letters) (sym c.pair_at-2.ensures ∙ c.if-not-pair_at-2.false)).same

@@ -1,5 +1,4 @@
 use borrow.Author.Tests.{eq-eqb, ne_eqb}
-use borrow.Author.Rules.{rules}
 use Rattle.dskc.proofs.pair_at.Goals as goal
 
 pub returns-then-u16_at-eq1 : goal.returns-then-u16_at-eq1

@@ -1,7 +1,6 @@
 use Rattle.wire.proofs.Records.{stored_record}
 use Rattle.wire.specs.Numbers.{bytes_of}
 use mathlib.Core.List.{[], ◌∷◌}
-use borrow.Author.Rules.{rules}
 use Rattle.dskc.proofs.put_header.Goals as goal
 
 pub returns : goal.returns

@@ -3,7 +3,6 @@ use Rattle.entries.specs.declared.Kind.TheVariants.{Controllers}
 use Rattle.entries.proofs.Lawful.{lawful}
 use Rattle.wire.specs.Numbers.{Bytes}
 use mathlib.Core.Path.{sym, ◌∙◌}
-use borrow.Author.Rules.{rules}
 use Rattle.dskc.proofs.put_list.Goals as goal
 
 pub returns-then-in_order : goal.returns-then-in_order

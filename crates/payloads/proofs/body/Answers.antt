@@ -3,7 +3,6 @@ use Rattle.payloads.proofs.Bodies.{kept_list, kept_plain, other_id}
 use Rattle.entries.specs.Kinds.{devices, disks, cpus, mmus}
 use Rattle.aerosnap.specs.Payloads.{meta, cpu, mmu, opaque, payload}
 use mathlib.Core.Path.{refl}
-use borrow.Author.Rules.{rules}
 use Rattle.payloads.proofs.body.Goals as goal
 
 pub returns-in-1 : goal.returns-in-1

@@ -1,5 +1,4 @@
 use Rattle.payloads.proofs.Bodies.{kept_long}
-use borrow.Author.Rules.{rules}
 use Rattle.payloads.proofs.index.Goals as goal
 
 pub returns-then-p-gt-FILE_MOST : goal.returns-then-p-gt-FILE_MOST

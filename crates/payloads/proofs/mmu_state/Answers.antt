@@ -1,6 +1,5 @@
 use Rattle.payloads.proofs.Bodies.{mmu_done, mmu_bad}
 use mathlib.Core.Path.{sym, ◌∙◌}
-use borrow.Author.Rules.{rules}
 use Rattle.payloads.proofs.mmu_state.Goals as goal
 
 pub returns-then-p-mmu_length : goal.returns-then-p-mmu_length

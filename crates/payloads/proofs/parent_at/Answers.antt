@@ -2,7 +2,6 @@ use Rattle.format.proofs.Exits.{flag_inside, option_bad, option_absent, option_p
 use mathlib.Core.Path.{◌∙◌}
 use Rattle.format.specs.Format.{bytes}
 use native.Mathlib.Omega.{arith}
-use borrow.Author.Rules.{rules}
 use Rattle.payloads.proofs.parent_at.Goals as goal
 
 pub overflow_add-result : goal.overflow_add-result

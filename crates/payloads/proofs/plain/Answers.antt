@@ -1,4 +1,3 @@
-use borrow.Author.Rules.{rules}
 use Rattle.payloads.proofs.plain.Goals as goal
 
 pub returns-in-Fault : goal.returns-in-Fault

@@ -1,6 +1,5 @@
 use Rattle.format.specs.Format.{option, pair, bytes, text}
 use Rattle.format.proofs.Exits.{pair_stop, pair_next}
-use borrow.Author.Rules.{rules}
 use Rattle.payloads.proofs.since_at.Goals as goal
 
 pub returns-in-Stop : goal.returns-in-Stop

@@ -1,5 +1,4 @@
 use Rattle.payloads.proofs.Bodies.{meta_stop, meta_done}
-use borrow.Author.Rules.{rules}
 use Rattle.payloads.proofs.snapshot_meta.Goals as goal
 
 pub returns-in-Stop : goal.returns-in-Stop

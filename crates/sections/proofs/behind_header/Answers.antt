@@ -1,5 +1,4 @@
 use Rattle.sections.proofs.Headers.{stopped_first}
-use borrow.Author.Rules.{rules}
 use Rattle.sections.proofs.behind_header.Goals as goal
 
 pub walk-requires : goal.walk-requires

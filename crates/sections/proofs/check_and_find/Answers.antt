@@ -1,6 +1,5 @@
 use Rattle.sections.proofs.Found.{made_read, found_stop, found_at}
 use lib.ListN.{length}
-use borrow.Author.Rules.{rules}
 use Rattle.sections.proofs.check_and_find.Goals as goal
 
 pub seek-requires : goal.seek-requires

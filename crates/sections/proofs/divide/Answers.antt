@@ -4,7 +4,6 @@ use Rattle.answer.specs.Outcome.{Pass}
 use Rattle.answer.specs.Calls.{test_of}
 use Rattle.answer.proofs.Checks.{asked-pass}
 use mathlib.Core.Path.{sym, ◌∙◌, ap}
-use borrow.Author.Rules.{rules}
 use Rattle.sections.proofs.divide.Goals as goal
 
 pub returns-then-index-lt-DIRECTORY : goal.returns-then-index-lt-DIRECTORY

@@ -1,10 +1,7 @@
 use Rattle.sections.proofs.Directories.{middle_long, index_made}
-use Rattle.sections.specs.Steps.{Parted}
 use mathlib.Core.Path.{◌∙◌}
-use Prim.Native.Nat.{◌-◌}
-use lib.ListN.{length, take, drop, length-set}
+use lib.ListN.{length-set}
 use native.Mathlib.Omega.{arith}
-use borrow.Author.Rules.{rules}
 use Rattle.sections.proofs.divide_in.Goals as goal
 
 pub overflow_add-dir : goal.overflow_add-dir

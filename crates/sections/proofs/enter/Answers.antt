@@ -1,7 +1,6 @@
 use Rattle.sections.proofs.Seats.{entering, written_most}
 use native.Mathlib.Omega.{arith}
 use Prim.Native.Nat.{◌+◌}
-use borrow.Author.Rules.{rules}
 use Rattle.sections.proofs.enter.Goals as goal
 
 pub overflow_cast-written_size : goal.overflow_cast-written_size

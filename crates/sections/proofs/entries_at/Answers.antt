@@ -1,7 +1,6 @@
 use Rattle.sections.proofs.Counts.{entries_list, entries_none}
 use mathlib.Core.Path.{sym, ◌∙◌}
 use native.Mathlib.Omega.{arith}
-use borrow.Author.Rules.{rules}
 use Rattle.sections.proofs.entries_at.Goals as goal
 
 pub returns-then-is_list : goal.returns-then-is_list

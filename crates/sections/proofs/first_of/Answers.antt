@@ -4,7 +4,6 @@ use mathlib.Core.Logic.{inl, inr}
 use lib.ListN.{drop, length-drop}
 use Rattle.answer.specs.Numbers.{MANY}
 use native.Mathlib.Omega.{arith}
-use borrow.Author.Rules.{rules}
 use Rattle.sections.proofs.first_of.Goals as goal
 
 pub returns-then-n-lt-SECTIONS_MOST : goal.returns-then-n-lt-SECTIONS_MOST

@@ -1,6 +1,5 @@
 use Rattle.sections.proofs.Counts.{fits_not, fits_by}
 use native.Mathlib.Omega.{arith}
-use borrow.Author.Rules.{rules}
 use Rattle.sections.proofs.fits.Goals as goal
 
 pub returns-then-s-at : goal.returns-then-s-at

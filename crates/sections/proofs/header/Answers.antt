@@ -7,7 +7,6 @@ use mathlib.Core.List.{List}
 use Prim.Native.Nat.{ℕ}
 use lib.ListN.{length}
 use borrow.Author.Tests.{le-leb, lt-leb, eq-eqb, ne_eqb}
-use borrow.Author.Rules.{rules}
 use Rattle.sections.proofs.header.Goals as goal
 
 pub returns-then-s-gt-FILE_MOST : goal.returns-then-s-gt-FILE_MOST
@@ -35,7 +34,7 @@ returns-then-u16_at-ne1 c =
     let fits : Headed (text) 1 = let s = text in left_pass (head_all s) (le-leb (length s) file_most c.if-s-gt-FILE_MOST.false) in
     let long : Headed (text) 2 = left_pass (fits) (le-leb 16 (length (text)) c.if-s-lt16.false) in
     let bytes : Bytes (text) = λ i. (c.type_inv.s i).fits in
-    let lettered : Headed (text) 3 =     left_pass (long) (letters_number (text) c.if-s-lt16.false (bytes) c.u64_at.ensures ∙ eq-eqb _ _ c.if-u64_at-ne-LETTERS.false) in
+    let lettered : Headed (text) 3 = left_pass (long) (letters_number (text) c.if-s-lt16.false (bytes) c.u64_at.ensures ∙ eq-eqb _ _ c.if-u64_at-ne-LETTERS.false) in
     left_fail (lettered) (read_not c.u16_at.ensures c.if-u16_at-ne1.true)
 
 pub returns-then-u8_at-ne1 : goal.returns-then-u8_at-ne1
@@ -44,7 +43,7 @@ returns-then-u8_at-ne1 c =
     let fits : Headed (text) 1 = let s = text in left_pass (head_all s) (le-leb (length s) file_most c.if-s-gt-FILE_MOST.false) in
     let long : Headed (text) 2 = left_pass (fits) (le-leb 16 (length (text)) c.if-s-lt16.false) in
     let bytes : Bytes (text) = λ i. (c.type_inv.s i).fits in
-    let lettered : Headed (text) 3 =     left_pass (long) (letters_number (text) c.if-s-lt16.false (bytes) c.u64_at.ensures ∙ eq-eqb _ _ c.if-u64_at-ne-LETTERS.false) in
+    let lettered : Headed (text) 3 = left_pass (long) (letters_number (text) c.if-s-lt16.false (bytes) c.u64_at.ensures ∙ eq-eqb _ _ c.if-u64_at-ne-LETTERS.false) in
     let versioned : Headed (text) 4 = left_pass (lettered) (read_is c.u16_at.ensures c.if-u16_at-ne1.false) in
     left_fail (versioned) (read_not c.u8_at.ensures c.if-u8_at-ne1.true)
 
@@ -54,7 +53,7 @@ returns-then-u8_at-ne0 c =
     let fits : Headed (text) 1 = let s = text in left_pass (head_all s) (le-leb (length s) file_most c.if-s-gt-FILE_MOST.false) in
     let long : Headed (text) 2 = left_pass (fits) (le-leb 16 (length (text)) c.if-s-lt16.false) in
     let bytes : Bytes (text) = λ i. (c.type_inv.s i).fits in
-    let lettered : Headed (text) 3 =     left_pass (long) (letters_number (text) c.if-s-lt16.false (bytes) c.u64_at.ensures ∙ eq-eqb _ _ c.if-u64_at-ne-LETTERS.false) in
+    let lettered : Headed (text) 3 = left_pass (long) (letters_number (text) c.if-s-lt16.false (bytes) c.u64_at.ensures ∙ eq-eqb _ _ c.if-u64_at-ne-LETTERS.false) in
     let versioned : Headed (text) 4 = left_pass (lettered) (read_is c.u16_at.ensures c.if-u16_at-ne1.false) in
     let ended : Headed (text) 5 = left_pass (versioned) (read_is c.u8_at.ensures c.if-u8_at-ne1.false) in
     left_fail (ended) (read_not c.u8_at-2.ensures c.if-u8_at-ne0.true)
@@ -65,7 +64,7 @@ returns-then-u32_at-ne0 c =
     let fits : Headed (text) 1 = let s = text in left_pass (head_all s) (le-leb (length s) file_most c.if-s-gt-FILE_MOST.false) in
     let long : Headed (text) 2 = left_pass (fits) (le-leb 16 (length (text)) c.if-s-lt16.false) in
     let bytes : Bytes (text) = λ i. (c.type_inv.s i).fits in
-    let lettered : Headed (text) 3 =     left_pass (long) (letters_number (text) c.if-s-lt16.false (bytes) c.u64_at.ensures ∙ eq-eqb _ _ c.if-u64_at-ne-LETTERS.false) in
+    let lettered : Headed (text) 3 = left_pass (long) (letters_number (text) c.if-s-lt16.false (bytes) c.u64_at.ensures ∙ eq-eqb _ _ c.if-u64_at-ne-LETTERS.false) in
     let versioned : Headed (text) 4 = left_pass (lettered) (read_is c.u16_at.ensures c.if-u16_at-ne1.false) in
     let ended : Headed (text) 5 = left_pass (versioned) (read_is c.u8_at.ensures c.if-u8_at-ne1.false) in
     let zero_byte : Headed (text) 6 = left_pass (ended) (read_is c.u8_at-2.ensures c.if-u8_at-ne0.false) in
@@ -77,7 +76,7 @@ returns c =
     let fits : Headed (text) 1 = let s = text in left_pass (head_all s) (le-leb (length s) file_most c.if-s-gt-FILE_MOST.false) in
     let long : Headed (text) 2 = left_pass (fits) (le-leb 16 (length (text)) c.if-s-lt16.false) in
     let bytes : Bytes (text) = λ i. (c.type_inv.s i).fits in
-    let lettered : Headed (text) 3 =     left_pass (long) (letters_number (text) c.if-s-lt16.false (bytes) c.u64_at.ensures ∙ eq-eqb _ _ c.if-u64_at-ne-LETTERS.false) in
+    let lettered : Headed (text) 3 = left_pass (long) (letters_number (text) c.if-s-lt16.false (bytes) c.u64_at.ensures ∙ eq-eqb _ _ c.if-u64_at-ne-LETTERS.false) in
     let versioned : Headed (text) 4 = left_pass (lettered) (read_is c.u16_at.ensures c.if-u16_at-ne1.false) in
     let ended : Headed (text) 5 = left_pass (versioned) (read_is c.u8_at.ensures c.if-u8_at-ne1.false) in
     let zero_byte : Headed (text) 6 = left_pass (ended) (read_is c.u8_at-2.ensures c.if-u8_at-ne0.false) in

@@ -1,6 +1,5 @@
 use Rattle.sections.specs.Directory.{verdict_of}
 use mathlib.Core.Path.{sym, ◌∙◌, ap}
-use borrow.Author.Rules.{rules}
 use Rattle.sections.proofs.index_file.Goals as goal
 
 pub returns-in-Fault : goal.returns-in-Fault

@@ -2,12 +2,10 @@ use Rattle.wire.specs.Numbers.{le_at}
 use lib.ListN.{length, take, drop}
 use Rattle.sections.proofs.Rules.{ruled_not, part_length, none_kept, keeps_done}
 use Rattle.aerosnap.specs.Known as spec
-use borrow.Author.Tests.{not-true, not-false}
 use native.Mathlib.Nat.{add-sub_cancel_left}
 use Prim.Native.Nat.{◌+◌}
 use mathlib.Core.Path.{sym, ◌∙◌, ap}
 use native.Mathlib.Omega.{arith}
-use borrow.Author.Rules.{rules}
 use Rattle.sections.proofs.judged.Goals as goal
 
 pub returns-then-not-known : goal.returns-then-not-known

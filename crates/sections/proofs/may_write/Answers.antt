@@ -3,7 +3,6 @@ use mathlib.Core.Logic.{inl}
 use Rattle.answer.specs.declared.Piece.TheVariants.{Stop, Ends}
 use Rattle.sections.specs.Steps.{walked_from}
 use Rattle.sections.proofs.Headers.{judged_first}
-use borrow.Author.Rules.{rules}
 use Rattle.sections.proofs.may_write.Goals as goal
 
 pub returns-then-blank : goal.returns-then-blank

@@ -1,6 +1,5 @@
 use Rattle.sections.proofs.Turns.{noted_not, noted_one}
 use mathlib.Core.Path.{sym, ◌∙◌}
-use borrow.Author.Rules.{rules}
 use Rattle.sections.proofs.note.Goals as goal
 
 pub slot-k-requires : goal.slot-k-requires

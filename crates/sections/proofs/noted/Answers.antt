@@ -1,7 +1,6 @@
 use lib.ListN.{get_or-eq_default}
 use mathlib.Core.Path.{sym}
 use native.Mathlib.Omega.{arith}
-use borrow.Author.Rules.{rules}
 use Rattle.sections.proofs.noted.Goals as goal
 
 pub returns-then-index-i : goal.returns-then-index-i

@@ -1,7 +1,5 @@
 use Rattle.sections.proofs.Dividing.{part_not, part_fits}
-use borrow.Author.Tests.{not-true, not-false}
 use mathlib.Core.Path.{refl}
-use borrow.Author.Rules.{rules}
 use Rattle.sections.proofs.part_at.Goals as goal
 
 pub returns-then-not-fits : goal.returns-then-not-fits

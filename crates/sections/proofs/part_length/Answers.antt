@@ -1,6 +1,5 @@
 use Rattle.sections.proofs.Dividing.{length-fits, length_small, length_not}
 use native.Mathlib.Omega.{arith}
-use borrow.Author.Rules.{rules}
 use Rattle.sections.proofs.part_length.Goals as goal
 
 pub overflow_add-result : goal.overflow_add-result

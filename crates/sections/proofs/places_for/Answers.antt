@@ -1,6 +1,4 @@
 use borrow.Author.Tests.{le-leb, lt-leb}
-use mathlib.Core.Path.{sym, ◌∙◌}
-use borrow.Author.Rules.{rules}
 use Rattle.sections.proofs.places_for.Goals as goal
 
 pub returns-then-n-le32 : goal.returns-then-n-le32

@@ -1,7 +1,5 @@
-use Rattle.sections.proofs.Directories.{Placing, placing_start, placing_long, placing_next, placing_done}
-use Prim.Native.Nat.{◌-◌}
+use Rattle.sections.proofs.Directories.{placing_start, placing_long, placing_next, placing_done}
 use native.Mathlib.Omega.{arith}
-use borrow.Author.Rules.{rules}
 use Rattle.sections.proofs.put_directory.Goals as goal
 
 pub loop-i-init : goal.loop-i-init

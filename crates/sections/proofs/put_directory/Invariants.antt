@@ -1,7 +1,5 @@
-use Rattle.sections.proofs.Directories.{Placing, placing_start, placing_long, placing_next, placing_done}
+use Rattle.sections.proofs.Directories.{Placing}
 use Prim.Native.Nat.{◌-◌}
-use native.Mathlib.Omega.{arith}
-use borrow.Author.Rules.{rules}
 use Rattle.sections.proofs.put_directory.Given as goal
 
 abbrev pub invariant-loop-i : goal.invariant-loop-i

@@ -1,7 +1,6 @@
 use Rattle.sections.proofs.Dividing.{loss_none, loss_put}
 use Rattle.wire.proofs.Records.{stored_record}
 use mathlib.Core.List.{[], ◌∷◌}
-use borrow.Author.Rules.{rules}
 use Rattle.sections.proofs.put_loss.Goals as goal
 
 pub returns-then-out-lt24 : goal.returns-then-out-lt24

@@ -3,7 +3,6 @@ use Rattle.aerosnap.specs.File.{header_checks}
 use Rattle.answer.specs.Outcome.{taken}
 use Rattle.answer.specs.Calls.{asked, test_of}
 use mathlib.Core.Path.{◌≡◌, sym, ◌∙◌, ap}
-use borrow.Author.Rules.{rules}
 use Rattle.sections.proofs.scan.Goals as goal
 
 pub behind_header-requires : goal.behind_header-requires

@@ -4,7 +4,6 @@ use lib.ListN.{length-set}
 use mathlib.Core.Path.{◌≡◌, sym, ◌∙◌}
 use mathlib.Core.Bool.{true}
 use native.Mathlib.Omega.{arith}
-use borrow.Author.Rules.{rules}
 use Rattle.sections.proofs.seat.Goals as goal
 
 pub bounds-dir-k : goal.bounds-dir-k

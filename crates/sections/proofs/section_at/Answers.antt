@@ -8,7 +8,6 @@ use mathlib.Core.List.{List}
 use Rattle.wire.specs.Numbers.{le_at}
 use Prim.Native.Nat.{ℕ, ◌+◌, ◌-◌}
 use native.Mathlib.Omega.{arith}
-use borrow.Author.Rules.{rules}
 use Rattle.sections.proofs.section_at.Goals as goal
 
 pub returns-then-s-at-lt16 : goal.returns-then-s-at-lt16

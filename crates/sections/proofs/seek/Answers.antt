@@ -1,9 +1,5 @@
-use Rattle.sections.proofs.Found.{Seeking, seeking_start, seeking_goes, seeking_none, seeking_found, seeking_few, seeking_next}
-use Rattle.sections.specs.Walks.{sections_in}
-use lib.ListN.{length}
-use Prim.Native.Nat.{◌-◌}
+use Rattle.sections.proofs.Found.{seeking_start, seeking_goes, seeking_none, seeking_found, seeking_few, seeking_next}
 use native.Mathlib.Omega.{arith}
-use borrow.Author.Rules.{rules}
 use Rattle.sections.proofs.seek.Goals as goal
 
 pub loop-at-init : goal.loop-at-init

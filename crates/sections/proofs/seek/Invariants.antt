@@ -1,9 +1,7 @@
-use Rattle.sections.proofs.Found.{Seeking, seeking_start, seeking_goes, seeking_none, seeking_found, seeking_few, seeking_next}
+use Rattle.sections.proofs.Found.{Seeking}
 use Rattle.sections.specs.Walks.{sections_in}
 use lib.ListN.{length}
 use Prim.Native.Nat.{◌-◌}
-use native.Mathlib.Omega.{arith}
-use borrow.Author.Rules.{rules}
 use Rattle.sections.proofs.seek.Given as goal
 
 abbrev pub invariant-loop-at : goal.invariant-loop-at

@@ -1,5 +1,4 @@
 use borrow.Author.Tests.{eq-eqb, ne_eqb}
-use borrow.Author.Rules.{rules}
 use Rattle.sections.proofs.takes.Goals as goal
 
 pub returns-then-version-eq1 : goal.returns-then-version-eq1

@@ -3,7 +3,6 @@ use lib.ListN.{get_or}
 use Prim.Native.Nat.{◌+◌}
 use native.Mathlib.Omega.{arith}
 use Rattle.sections.proofs.Seats.{tallied-stored}
-use borrow.Author.Rules.{rules}
 use Rattle.sections.proofs.tally.Goals as goal
 
 pub overflow_add-dir-2 : goal.overflow_add-dir-2

@@ -1,11 +1,8 @@
 use Rattle.lists.specs.Promises.{zeros}
 use Rattle.answer.specs.declared.Piece.{Piece}
 use mathlib.Core.Path.{◌≡◌, ◌∙◌, ap, subst}
-use Rattle.sections.proofs.Turns.{Walks, walks_start, walks_long, walks_at, walks_back, walks_stop, walks_done, walks_next, Told, Passed, passed, passed_id, passed_fits}
-use lib.ListN.{length}
-use Prim.Native.Nat.{◌-◌}
+use Rattle.sections.proofs.Turns.{walks_start, walks_long, walks_at, walks_back, walks_stop, walks_done, walks_next, Told, Passed, passed, passed_id, passed_fits}
 use native.Mathlib.Omega.{arith}
-use borrow.Author.Rules.{rules}
 use Rattle.sections.proofs.walk.Goals as goal
 
 pub loop-at-init : goal.loop-at-init
@@ -28,7 +25,7 @@ shape_of-index-in-Stop c = c.forget.auto.starts ∙ walks_back c.loop-at.invaria
 
 pub returns-in-Stop : goal.returns-in-Stop
 returns-in-Stop c =
-    let told : (r : Piece) → c.section_at.result ≡ r → Told c.loop-at.invariant r c.section_at.new.index = λ _ q.     let v = c.loop-at.invariant in
+    let told : (r : Piece) → c.section_at.result ≡ r → Told c.loop-at.invariant r c.section_at.new.index = λ _ q. let v = c.loop-at.invariant in
     subst (λ (r : Piece). Told v r c.section_at.new.index) q (c.section_at.ensures v.before v.marks) in
     let v = c.loop-at.invariant in
     let stop = told _ c.in-Stop.is in
@@ -40,7 +37,7 @@ overflow_add-at c = omega (arith, c.loop-at.invariant.inside, c.requires.1)
 
 pub overflow_add-at-in-Ends : goal.overflow_add-at-in-Ends
 overflow_add-at-in-Ends c =
-    let told : (r : Piece) → c.section_at.result ≡ r → Told c.loop-at.invariant r c.section_at.new.index = λ _ q.     let v = c.loop-at.invariant in
+    let told : (r : Piece) → c.section_at.result ≡ r → Told c.loop-at.invariant r c.section_at.new.index = λ _ q. let v = c.loop-at.invariant in
     subst (λ (r : Piece). Told v r c.section_at.new.index) q (c.section_at.ensures v.before v.marks) in
     let section : Passed c.loop-at.invariant.before c.args.s.now c.loop-at.at = passed c.loop-at.invariant c.loop-at-test.true (told _ c.in-Ends.is) in
     let x = section in
@@ -48,7 +45,7 @@ overflow_add-at-in-Ends c =
 
 pub overflow_add-at-in-Ends-2 : goal.overflow_add-at-in-Ends-2
 overflow_add-at-in-Ends-2 c =
-    let told : (r : Piece) → c.section_at.result ≡ r → Told c.loop-at.invariant r c.section_at.new.index = λ _ q.     let v = c.loop-at.invariant in
+    let told : (r : Piece) → c.section_at.result ≡ r → Told c.loop-at.invariant r c.section_at.new.index = λ _ q. let v = c.loop-at.invariant in
     subst (λ (r : Piece). Told v r c.section_at.new.index) q (c.section_at.ensures v.before v.marks) in
     let section : Passed c.loop-at.invariant.before c.args.s.now c.loop-at.at = passed c.loop-at.invariant c.loop-at-test.true (told _ c.in-Ends.is) in
     let x = section in
@@ -59,14 +56,14 @@ overflow_add-i c = omega (arith, c.loop-at.invariant.few)
 
 pub overflow_add-used : goal.overflow_add-used
 overflow_add-used c =
-    let told : (r : Piece) → c.section_at.result ≡ r → Told c.loop-at.invariant r c.section_at.new.index = λ _ q.     let v = c.loop-at.invariant in
+    let told : (r : Piece) → c.section_at.result ≡ r → Told c.loop-at.invariant r c.section_at.new.index = λ _ q. let v = c.loop-at.invariant in
     subst (λ (r : Piece). Told v r c.section_at.new.index) q (c.section_at.ensures v.before v.marks) in
     let v = c.loop-at.invariant in
     omega (arith, passed_fits v c.loop-at-test.true (told _ c.in-Ends.is), walks_long v)
 
 pub loop-at-smaller : goal.loop-at-smaller
 loop-at-smaller c =
-    let told : (r : Piece) → c.section_at.result ≡ r → Told c.loop-at.invariant r c.section_at.new.index = λ _ q.     let v = c.loop-at.invariant in
+    let told : (r : Piece) → c.section_at.result ≡ r → Told c.loop-at.invariant r c.section_at.new.index = λ _ q. let v = c.loop-at.invariant in
     subst (λ (r : Piece). Told v r c.section_at.new.index) q (c.section_at.ensures v.before v.marks) in
     let section : Passed c.loop-at.invariant.before c.args.s.now c.loop-at.at = passed c.loop-at.invariant c.loop-at-test.true (told _ c.in-Ends.is) in
     let x = section in
@@ -74,7 +71,7 @@ loop-at-smaller c =
 
 pub loop-at-preserved : goal.loop-at-preserved
 loop-at-preserved c =
-    let told : (r : Piece) → c.section_at.result ≡ r → Told c.loop-at.invariant r c.section_at.new.index = λ _ q.     let v = c.loop-at.invariant in
+    let told : (r : Piece) → c.section_at.result ≡ r → Told c.loop-at.invariant r c.section_at.new.index = λ _ q. let v = c.loop-at.invariant in
     subst (λ (r : Piece). Told v r c.section_at.new.index) q (c.section_at.ensures v.before v.marks) in
     let v = c.loop-at.invariant in
     let h = c.loop-at-test.true in

@@ -1,6 +1,5 @@
-use borrow.Author.Tests.{eq-eqb, ne_eqb, not-true, not-false}
+use borrow.Author.Tests.{eq-eqb, ne_eqb}
 use mathlib.Core.Path.{sym, ◌∙◌}
-use borrow.Author.Rules.{rules}
 use Rattle.sections.proofs.written_size.Goals as goal
 
 pub returns-then-not-is_list : goal.returns-then-not-is_list

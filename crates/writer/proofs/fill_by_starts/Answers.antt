@@ -1,11 +1,10 @@
-use Rattle.writer.proofs.Around.{short_filled, counted_long, entries_end, starts_filled}
+use Rattle.writer.proofs.Around.{short_filled, entries_end, starts_filled}
 use Rattle.entries.specs.Code.{describe}
 use mathlib.Core.Path.{sym}
 use lib.Seq.{length-take-le}
 use lib.ListN.{length}
 use Prim.Native.Nat.{◌+◌, ◌≤◌}
 use native.Mathlib.Omega.{arith}
-use borrow.Author.Rules.{rules}
 use Rattle.writer.proofs.fill_by_starts.Goals as goal
 
 pub returns-then-s-lt4 : goal.returns-then-s-lt4

@@ -1,9 +1,5 @@
-use Rattle.writer.specs.Runs.{in_order_from, in_key_order}
 use Rattle.writer.proofs.Straight.{order_next, order_stop, order_end}
-use mathlib.Core.Path.{◌≡◌, refl, sym}
-use Prim.Native.Nat.{◌-◌}
-use lib.ListN.{length, drop}
-use native.Mathlib.Omega.{arith}
+use mathlib.Core.Path.{sym}
 use Rattle.writer.proofs.in_order.Goals as goal
 
 pub returns-then-y-last : goal.returns-then-y-last

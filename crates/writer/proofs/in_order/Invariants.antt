@@ -1,9 +1,7 @@
 use Rattle.writer.specs.Runs.{in_order_from, in_key_order}
-use Rattle.writer.proofs.Straight.{order_next, order_stop, order_end}
-use mathlib.Core.Path.{◌≡◌, refl, sym}
+use mathlib.Core.Path.{◌≡◌}
 use Prim.Native.Nat.{◌-◌}
 use lib.ListN.{length, drop}
-use native.Mathlib.Omega.{arith}
 use Rattle.writer.proofs.in_order.Given as goal
 
 abbrev pub invariant-loop-i : goal.invariant-loop-i

@@ -3,8 +3,6 @@ use Rattle.entries.specs.Code.{describe}
 use mathlib.Core.Path.{sym, ◌∙◌}
 use lib.Seq.{length-take-le}
 use lib.ListN.{length}
-use native.Mathlib.Omega.{arith}
-use borrow.Author.Rules.{rules}
 use Rattle.writer.proofs.put_by_starts.Goals as goal
 
 pub returns-then-out-n : goal.returns-then-out-n

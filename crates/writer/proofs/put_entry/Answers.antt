@@ -2,7 +2,6 @@ use Rattle.writer.proofs.Runs.{cut_within, cut_is}
 use Rattle.entries.specs.Code.{describe}
 use lib.Seq.{length-take-le}
 use mathlib.Core.Path.{sym}
-use borrow.Author.Rules.{rules}
 use Rattle.writer.proofs.put_entry.Goals as goal
 
 pub slice_bounds-copy-end : goal.slice_bounds-copy-end

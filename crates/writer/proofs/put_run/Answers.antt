@@ -1,13 +1,7 @@
-use Rattle.writer.specs.Runs.{entry_by, fits}
-use Rattle.writer.proofs.Fits.{Fitting, fitting-none, fitting_long, fitting_next, fitting_stop}
+use Rattle.writer.proofs.Fits.{fitting-none, fitting_long, fitting_next, fitting_stop}
 use Rattle.writer.proofs.Runs.{run_turn, run_end}
-use Rattle.order.specs.Entries.{join}
 use Rattle.entries.specs.Code.{describe}
-use mathlib.Core.List.{map}
-use lib.ListN.{length, drop}
-use Prim.Native.Nat.{◌-◌}
 use native.Mathlib.Omega.{arith}
-use borrow.Author.Rules.{rules}
 use Rattle.writer.proofs.put_run.Goals as goal
 
 pub loop-i-init : goal.loop-i-init
