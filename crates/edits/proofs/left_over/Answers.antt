@@ -1,0 +1,10 @@
+use native.Mathlib.Omega.{arith}
+use borrow.Author.Tests.{eq-eqb, ne_eqb}
+use borrow.Author.Rules.{rules}
+use Rattle.edits.proofs.left_over.Goals as goal
+
+pub returns-then-size-eq0 : goal.returns-then-size-eq0
+returns-then-size-eq0 c = (rw (eq-eqb c.args.size 0 c.if-size-eq0.true), omega arith)
+
+pub returns : goal.returns
+returns c = (rw (ne_eqb c.args.size 0 c.if-size-eq0.false), omega arith)

@@ -1,0 +1,24 @@
+use Rattle.edits.proofs.Summing.{Summing, summing_start, summing_long, summing_small, summing_next, summing_done}
+use lib.ListN.{length}
+use Prim.Native.Nat.{◌-◌}
+use native.Mathlib.Omega.{arith}
+use borrow.Author.Rules.{rules}
+use Rattle.edits.proofs.payload_sum.Goals as goal
+
+pub loop-i-init : goal.loop-i-init
+loop-i-init c = summing_start c.requires
+
+pub overflow_cast-at : goal.overflow_cast-at
+overflow_cast-at c = omega (arith, c.type_inv.starts c.loop-i.i)
+
+pub overflow_sub-n : goal.overflow_sub-n
+overflow_sub-n c = omega (arith, summing_long c.loop-i.invariant c.loop-i-test.true c.device_length.ensures)
+
+pub overflow_add-n : goal.overflow_add-n
+overflow_add-n c = omega (arith, summing_small c.loop-i.invariant c.loop-i-test.true c.device_length.ensures)
+
+pub loop-i-preserved : goal.loop-i-preserved
+loop-i-preserved c = summing_next c.loop-i.invariant c.loop-i-test.true c.device_length.ensures
+
+pub returns : goal.returns
+returns c = summing_done c.loop-i.invariant c.loop-i-test.false
