@@ -1,16 +1,16 @@
 -- Reading and setting a field: the code's answers against the definitions.
 -- Assumes nothing.
-use mathlib.Core.Path.{◌≡◌, refl, sym, ap, ◌∙◌, subst}
+use mathlib.Core.Path.{◌≡◌, refl, sym, ap, ◌∙◌}
 use mathlib.Core.Logic.{◌⊎◌, inl, inr}
 use mathlib.Core.Bool.{Bool, true, false, ◌&&◌, ◌||◌}
 use mathlib.Core.List.{List, [], ◌∷◌, ◌++◌}
-use Prim.Native.Nat.{ℕ, ◌+◌, ◌-◌, ◌*◌, ◌≤◌, ◌<◌}
+use Prim.Native.Nat.{ℕ, ◌+◌, ◌-◌, ◌≤◌, ◌<◌}
 use native.Mathlib.Omega.{arith}
 use lib.Dec.{leb, ltb, eqb}
 use lib.ListN.{length, take, drop}
-use borrow.Author.Tests.{leb-true, leb-false, ltb-true, eqb-true}
+use borrow.Author.Tests.{leb-true, leb-false, ltb-true}
 use Rattle.answer.specs.Numbers.{SHAPE, VALUE}
-use Rattle.answer.specs.Outcome.{Outcome, taken, refused, Checks, checked, after, room, fitting}
+use Rattle.answer.specs.Outcome.{Outcome, taken, refused, checked, room, fitting}
 use Rattle.answer.specs.Calls.{asked, memory, Writes}
 use Rattle.answer.specs.declared.Answer.{Answer}
 use Rattle.answer.proofs.Checks.{and_true, asked_stop, asked-pass, pass-checked}
@@ -29,7 +29,7 @@ use Rattle.fields.specs.declared.State.TheVariants.{Cpu, Mmu}
 use Rattle.fields.specs.Layout.{row_at}
 use Rattle.fields.specs.Fields.{right_length, listed_numbers, range_checks, state_checks, field_place, has_in, bytes_at, field_checks, field_call, set_to, set_checks, set_call, Changes}
 use Rattle.fields.specs.Steps.{field_spot, spot_outcome}
-use Rattle.fields.proofs.Table.{Small, small_row, apart}
+use Rattle.fields.proofs.Table.{small_row, apart}
 
 -- ---- what is asked of a state
 

@@ -13,7 +13,7 @@ ghost use Rattle.fields.specs.Steps.{field_spot, spot_outcome};
 use answer::{Answer, SHAPE, TAKEN, Test, VALUE};
 
 // The kinds of state.
-#[derive(Drop)]
+#[derive(Clone, Copy)]
 pub enum State {
     Cpu,
     Mmu,

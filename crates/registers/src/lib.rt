@@ -6,7 +6,7 @@ ghost use Rattle.registers.specs.Registers.{words_at, words_over, segment_in, se
 
 use wire::{put_u16, put_u32, put_u64, u16_at, u32_at, u64_at};
 
-#[derive(Drop)]
+#[derive(Clone, Copy)]
 pub struct Segment {
     pub selector: u16,
     pub base: u64,

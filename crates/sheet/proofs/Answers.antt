@@ -1,15 +1,15 @@
 -- The calls on sheets: the code's answers against the definitions.
 -- Assumes nothing.
-use mathlib.Core.Path.{◌≡◌, refl, sym, ap, ◌∙◌, subst⁻¹}
-use mathlib.Core.Bool.{Bool, true, false}
-use mathlib.Core.List.{List, [], ◌∷◌, ◌++◌}
+use mathlib.Core.Path.{◌≡◌, sym, ap, ◌∙◌, subst⁻¹}
+use mathlib.Core.Bool.{true, false}
+use mathlib.Core.List.{List, ◌++◌}
 use Prim.Native.Nat.{ℕ, ◌+◌, ◌≤◌, min}
 use native.Mathlib.Decide.{dec_le}
 use native.Mathlib.Omega.{arith}
 use lib.ListN.{length, take, drop, replicate, length-append, take-append-drop, drop_of_length-le}
 use lib.Seq.{take_all, length-take-le, drop-append_seam}
 use Rattle.answer.specs.Numbers.{SHAPE}
-use Rattle.answer.specs.Outcome.{Outcome, taken, refused, Checks, checked}
+use Rattle.answer.specs.Outcome.{Outcome, taken, refused, checked}
 use Rattle.answer.specs.Calls.{asked}
 use Rattle.answer.specs.declared.Answer.{Answer}
 use Rattle.answer.proofs.Checks.{and_true, asked_stop, asked-pass, pass-checked}

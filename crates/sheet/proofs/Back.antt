@@ -1,12 +1,12 @@
 -- The sheet of one CPU state written over another of the same length: its fields are the first's; so read and written back over it, a state stays as it is.
 -- Assumes nothing.
-use mathlib.Core.Path.{◌≡◌, refl, sym, ap, ◌∙◌}
+use mathlib.Core.Path.{◌≡◌, sym, ap, ◌∙◌}
 use mathlib.Core.List.{List, ◌++◌, append_assoc, append-nil}
 use Prim.Native.Nat.{ℕ, ◌+◌, ◌*◌, ◌≤◌, ◌<◌}
 use native.Mathlib.Omega.{arith}
 use lib.ListN.{length, take, drop, get_or, length-drop, take-append-drop, drop_of_length-le}
 use lib.Seq.{length-take-le, take-add, drop-drop}
-use Rattle.wire.specs.Numbers.{Bytes, le_at, bytes_of}
+use Rattle.wire.specs.Numbers.{Bytes, bytes_of}
 use Rattle.wire.specs.Parts.{splice, put}
 use Rattle.wire.proofs.Numbers.{length-bytes_of}
 use Rattle.wire.proofs.Parts.{put-fits, put_not}

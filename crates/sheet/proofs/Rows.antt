@@ -2,11 +2,10 @@
 -- Assumes nothing.
 use mathlib.Core.Path.{◌≡◌, refl, sym, ap, ◌∙◌}
 use mathlib.Core.List.{List, [], ◌∷◌, ◌++◌, append_assoc, append-nil}
-use Prim.Native.Nat.{ℕ, zero, suc, ◌+◌, ◌-◌, ◌*◌, ◌≤◌, ◌<◌}
-use native.Mathlib.Numerals.{unary_clauses}
+use Prim.Native.Nat.{ℕ, zero, suc, ◌+◌, ◌*◌, ◌≤◌, ◌<◌}
 use native.Mathlib.Omega.{arith}
-use lib.ListN.{length, take, drop, get_or, set, length-append, length-drop, take-append-drop, drop_of_length-le}
-use lib.Seq.{length-take-le, take_all, take-add, drop-drop, take-suc, take-suc-set}
+use lib.ListN.{length, take, drop, get_or, set, length-drop, take-append-drop, drop_of_length-le}
+use lib.Seq.{length-take-le, take-add, drop-drop, take-suc, take-suc-set}
 use Rattle.wire.specs.Parts.{splice, put, Wrote}
 use Rattle.wire.proofs.Parts.{put-fits, wrote_put}
 use Rattle.sheet.specs.Vectors.{rows, joined}

@@ -1,6 +1,6 @@
 -- The calls on CPU sheets: what is asked, in its order, and what is answered.
 -- Assumes nothing.
-use Rattle.std.specs.Prelude.{Bool, true, false, cond, List, [], ◌∷◌, ℕ, leb, ltb, length, replicate}
+use Rattle.std.specs.Prelude.{Bool, cond, List, ◌∷◌, ℕ, leb, ltb, length, replicate}
 use Rattle.answer.specs.Numbers.{SHAPE}
 use Rattle.answer.specs.Outcome.{Outcome, taken, refused, Checks, checked}
 use Rattle.fields.specs.declared.State.TheVariants.{Cpu}

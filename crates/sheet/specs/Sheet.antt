@@ -1,8 +1,8 @@
 -- CPU states of version 2 as structs of their fields, and a struct's fields written over a state.
 -- That what stands in a struct is the field of the table is a law (proofs/Ties); the layout is said in `fields`.
 -- Assumes nothing.
-use Rattle.std.specs.Prelude.{List, [], ◌∷◌, ◌++◌, ℕ, zero, suc, ◌+◌, ◌*◌, leb, length, take, drop, get_or}
-use Rattle.wire.specs.Numbers.{le_at, bytes_of}
+use Rattle.std.specs.Prelude.{List, ◌++◌, ℕ, ◌+◌, ◌*◌, leb, length, take, drop, get_or}
+use Rattle.wire.specs.Numbers.{le_at}
 use Rattle.wire.specs.Parts.{splice, put}
 use Rattle.sheet.specs.declared.Sse.{Sse}
 use Rattle.sheet.specs.declared.Front.{Front}

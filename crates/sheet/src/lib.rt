@@ -37,14 +37,14 @@ pub struct Math {
     pub fds: u16,
 }
 
-#[derive(Drop)]
+#[derive(Clone, Copy)]
 pub struct Sse {
     pub mxcsr: u32,
     pub xmm: [[u8; 16]; 16],
 }
 
 // Whether the state has the extension, and what stands there; 0 where it has none.
-#[derive(Drop)]
+#[derive(Clone, Copy)]
 pub struct Extension {
     pub there: bool,
     pub a20: u8,
