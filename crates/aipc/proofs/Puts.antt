@@ -48,7 +48,7 @@ wrote_cells {w} {old} {l} {at} ok (c ∷ cs) so h =
     let bs = bytes_of n c.1 in
     let e : length bs ≡ n = length-bytes_of n c.1 in
     let one : Wrote (w ++ bs) old (put at bs l) (at + n) = rw e at (wrote_put so bs (omega arith) refl) in
-    rw (← append_assoc w bs (field_bytes ok cs), ← add_assoc at n (size_of ok cs)) (wrote_cells ok cs one (rw (length-put at bs l) (omega arith)))
+    rw (← append_assoc w bs (field_bytes ok cs), ← add_assoc at n (size_of ok cs)) (wrote_cells {w = w ++ bs} {old = old} {l = put at bs l} {at = at + n} ok cs one (rw (length-put at bs l) (omega arith)))
 
 pub wrote_sized : {w old l : List ℕ} {at : ℕ} (d : List ℕ) → Wrote w old l at → at + (4 + length d) ≤ length l
     → Wrote (w ++ with_length d) old (put_sized d at l) (at + (4 + length d))

@@ -7,7 +7,7 @@ ghost use Rattle.kinds.specs.declared.Body.TheVariants.{Empty};
 ghost use Rattle.kinds.specs.Kinds.{paper, form_row, cell, none};
 
 // A command or an event with its numbers, in the order of its fields. Nothing stands where there is no reading.
-#[derive(Drop)]
+#[derive(Clone, Copy)]
 pub enum Message {
     Nothing,
     Nop(u32),
@@ -37,7 +37,7 @@ pub enum Message {
 }
 
 // What a field is: a number of so many bytes, a flag (`ok`, A20), a log level, or the error code beside an `ok`.
-#[derive(Drop)]
+#[derive(Clone, Copy)]
 pub enum Field {
     Absent,
     U8,
@@ -50,7 +50,7 @@ pub enum Field {
 }
 
 // What stands behind the numbers: nothing, or a u32 length and as many bytes, which in a text are UTF-8.
-#[derive(Drop)]
+#[derive(Clone, Copy)]
 pub enum Body {
     Empty,
     Bytes,
@@ -58,11 +58,11 @@ pub enum Body {
 }
 
 // A field and its number.
-#[derive(Drop)]
+#[derive(Clone, Copy)]
 pub struct Cell(pub Field, pub u64);
 
 // A message in document 01's terms: its tag, its fields with their numbers (0 where there is none), and what stands behind them.
-#[derive(Drop)]
+#[derive(Clone, Copy)]
 pub struct Form {
     pub known: bool,
     pub tag: u16,
@@ -248,6 +248,7 @@ fn disk_resp(tag: u16, id: u32, ok: u8, bytes: u32, error: u32) -> Form
 }
 
 // A message in document 01's terms: each case of the enum has its row of document 000's tables.
+#[tactic(auto, unfolding(crate::specs::Kinds::paper))]
 pub fn form_of(message: Message) -> Form
     ensures { result ≡ paper message }
 {

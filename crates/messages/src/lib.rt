@@ -12,7 +12,7 @@ use kinds::Message;
 use wire::{u8_at, u16_at, u32_at, u64_at};
 
 // What reading a message gives: number and place of the first refusal, or 0 and 0 with the message and the place and length of its data.
-#[derive(Drop)]
+#[derive(Clone, Copy)]
 pub struct Reading {
     pub number: u32,
     pub place: u64,

@@ -13,7 +13,7 @@ use answer::{Answer, TAG, VALUE};
 use kinds::{Form, Message};
 
 // A message by its tag and its numbers.
-#[derive(Drop)]
+#[derive(Clone, Copy)]
 pub struct Numbers {
     pub tag: u32,
     pub a: u64,
@@ -23,7 +23,7 @@ pub struct Numbers {
 }
 
 // The message that they are, or the number of the refusal.
-#[derive(Drop)]
+#[derive(Clone, Copy)]
 pub enum Made {
     Refused(u32),
     Is(Message),
@@ -31,7 +31,7 @@ pub enum Made {
 
 // What reading a message gives: number and place of the first refusal, or 0 and 0 with the tag, the numbers, and the place and length of the data.
 #[repr(C)]
-#[derive(Drop)]
+#[derive(Clone, Copy)]
 pub struct Told {
     pub number: u32,
     pub place: u64,

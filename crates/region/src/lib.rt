@@ -16,7 +16,7 @@ use answer::{Answer, REGION, TAKEN, Test};
 use wire::u32_at;
 
 // The header of a ring: its cursors and its capacity.
-#[derive(Drop)]
+#[derive(Clone, Copy)]
 pub struct Ring {
     pub head: u32,
     pub reserve: u32,
@@ -25,7 +25,7 @@ pub struct Ring {
 }
 
 #[repr(C)]
-#[derive(Drop)]
+#[derive(Clone, Copy)]
 pub struct Cursors {
     pub number: u32,
     pub place: u64,

@@ -11,7 +11,7 @@ use Rattle.rings.specs.Calls.{Stores, stored, fill_checks, fill_call, commit_che
 use Rattle.rings.specs.Use.{Message, MessageList, OpenPairs, OpenPair, full, len_of, Step, reserves, fills, stops, commits, takes, others, Used, begins, steps, Course, at_rest, step, Next, Drains, Stopped, unreserved, reserved, filling, filled, committed}
 use Rattle.rings.proofs.Capacity.{capacity-of}
 use Rattle.wire.proofs.Splices.{le_at-same}
-use Rattle.rings.proofs.Steps.{cursors_held, take_none, take-first, take-payload}
+use Rattle.rings.proofs.Steps.{cursors_held, taken_at, take_none, take-first, take-payload}
 use Rattle.rings.proofs.Inner.{Inner}
 use Rattle.rings.proofs.Ends.{reserve_called, fill_called, commit_called, take_called}
 use Rattle.rings.proofs.Keeps.{Elsewhere, called_elsewhere}
@@ -87,10 +87,10 @@ up (steps u y) = up_step_of (up u) y
 
 pub comes : {q : ℕ} {b : List ℕ} (ms : List (List ℕ)) {ps : List OpenPair} → Used q b ms ps → Drains q b ms
 comes [] u = let k = up u in take_called k.valid k.queue ∙ take_none k.kept.holds
-comes (m ∷ ms) u =
+comes {q} {b} (m ∷ ms) u =
     let k = up u in
     let f = take_called k.valid k.queue ∙ take-first k.kept.holds in
-    (record { stores = _; place = _; found = f; payload = take-payload k.kept.holds }, rw f (comes ms (steps u (takes f))))
+    (record { stores = _; place = _; found = f; payload = take-payload k.kept.holds }, rw f (comes {q = q} {b = stored (taken_at (offset_of b q) k.kept.cap k.kept.p m).0 b} ms (steps u (takes f))))
 
 pub goes_on : {q : ℕ} {m : Message} {b c : List ℕ} {ms : MessageList} {ps : OpenPairs} → Used q b ms ps → Stopped q m b ps c → (now : OpenPairs) × (Used q c ms now ⊎ Used q c (ms ++ m ∷ []) now)
 goes_on {ps = ps} u unreserved = (ps, inl u)

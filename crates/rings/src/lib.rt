@@ -17,7 +17,7 @@ use wire::u32_at;
 
 // The start and the end of a reserved pair.
 #[repr(C)]
-#[derive(Drop)]
+#[derive(Clone, Copy)]
 pub struct Pair {
     pub number: u32,
     pub place: u64,
@@ -27,7 +27,7 @@ pub struct Pair {
 
 // The place and the length of a payload.
 #[repr(C)]
-#[derive(Drop)]
+#[derive(Clone, Copy)]
 pub struct Record {
     pub number: u32,
     pub place: u64,
