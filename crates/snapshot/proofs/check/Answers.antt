@@ -1,0 +1,8 @@
+use Rattle.answer.proofs.Outcomes.{verdict-done}
+use Rattle.aerosnap.specs.File.{file_of}
+use mathlib.Core.Path.{◌∙◌}
+use borrow.Author.Rules.{rules}
+use Rattle.snapshot.proofs.check.Goals as goal
+
+pub returns : goal.returns
+returns c = c.answered.ensures ∙ verdict-done (file_of c.args.file.now) c.faults.result c.faults.ensures
