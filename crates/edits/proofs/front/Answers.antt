@@ -24,8 +24,8 @@ overflow_add-i c =
     let all : List ℕ = let a = c.args in front_bytes a.side a.file.now a.cut in
     let head : List ℕ = let a = c.args in list_head (id_at a.side) a.cut.count a.cut.bytes in
     let before : List ℕ = let a = c.args in ranks (sections_in a.file.now) 0 (id_at a.side - 1) in
-    let first : Filling (all) c.args.out.now (before ++ head) 16 c.copy.new.out =     file_head c.args.file.now c.args.out.now c.requires.0.read (before ++ head) (omega (arith, c.requires.1.room, length-append header (before ++ head))) c.copy.ensures in
-    let second : Filling (all) c.args.out.now (head) (16 + c.put_between-i.result) (back 16 c.copy.new.out c.put_between-i.new.out) =     let i = c.id_at-id.ensures in
+    let first : Filling (all) c.args.out.now (before ++ head) 16 c.copy.new.out = file_head c.args.file.now c.args.out.now c.requires.0.read (before ++ head) (omega (arith, c.requires.1.room, length-append header (before ++ head))) c.copy.ensures in
+    let second : Filling (all) c.args.out.now (head) (16 + c.put_between-i.result) (back 16 c.copy.new.out c.put_between-i.new.out) = let i = c.id_at-id.ensures in
     let e = whole-ranks (λ j. omega (arith, c.type_inv.file j)) c.requires.0 0 (id_at c.args.side - 1) (omega (arith, i.0, i.2)) (filling_next_room (before) (head) (first)) in
     filling_next (before) (head) (first) (rw (i.0, e) at c.put_between-i.ensures) in
     omega (arith, filling_sum (second), c.requires.1.most)
@@ -35,8 +35,8 @@ slice_bounds-put_head-count c =
     let all : List ℕ = let a = c.args in front_bytes a.side a.file.now a.cut in
     let head : List ℕ = let a = c.args in list_head (id_at a.side) a.cut.count a.cut.bytes in
     let before : List ℕ = let a = c.args in ranks (sections_in a.file.now) 0 (id_at a.side - 1) in
-    let first : Filling (all) c.args.out.now (before ++ head) 16 c.copy.new.out =     file_head c.args.file.now c.args.out.now c.requires.0.read (before ++ head) (omega (arith, c.requires.1.room, length-append header (before ++ head))) c.copy.ensures in
-    let second : Filling (all) c.args.out.now (head) (16 + c.put_between-i.result) (back 16 c.copy.new.out c.put_between-i.new.out) =     let i = c.id_at-id.ensures in
+    let first : Filling (all) c.args.out.now (before ++ head) 16 c.copy.new.out = file_head c.args.file.now c.args.out.now c.requires.0.read (before ++ head) (omega (arith, c.requires.1.room, length-append header (before ++ head))) c.copy.ensures in
+    let second : Filling (all) c.args.out.now (head) (16 + c.put_between-i.result) (back 16 c.copy.new.out c.put_between-i.new.out) = let i = c.id_at-id.ensures in
     let e = whole-ranks (λ j. omega (arith, c.type_inv.file j)) c.requires.0 0 (id_at c.args.side - 1) (omega (arith, i.0, i.2)) (filling_next_room (before) (head) (first)) in
     filling_next (before) (head) (first) (rw (i.0, e) at c.put_between-i.ensures) in
     filling_at (second)
@@ -46,8 +46,8 @@ slice_bounds-put_head-start c =
     let all : List ℕ = let a = c.args in front_bytes a.side a.file.now a.cut in
     let head : List ℕ = let a = c.args in list_head (id_at a.side) a.cut.count a.cut.bytes in
     let before : List ℕ = let a = c.args in ranks (sections_in a.file.now) 0 (id_at a.side - 1) in
-    let first : Filling (all) c.args.out.now (before ++ head) 16 c.copy.new.out =     file_head c.args.file.now c.args.out.now c.requires.0.read (before ++ head) (omega (arith, c.requires.1.room, length-append header (before ++ head))) c.copy.ensures in
-    let second : Filling (all) c.args.out.now (head) (16 + c.put_between-i.result) (back 16 c.copy.new.out c.put_between-i.new.out) =     let i = c.id_at-id.ensures in
+    let first : Filling (all) c.args.out.now (before ++ head) 16 c.copy.new.out = file_head c.args.file.now c.args.out.now c.requires.0.read (before ++ head) (omega (arith, c.requires.1.room, length-append header (before ++ head))) c.copy.ensures in
+    let second : Filling (all) c.args.out.now (head) (16 + c.put_between-i.result) (back 16 c.copy.new.out c.put_between-i.new.out) = let i = c.id_at-id.ensures in
     let e = whole-ranks (λ j. omega (arith, c.type_inv.file j)) c.requires.0 0 (id_at c.args.side - 1) (omega (arith, i.0, i.2)) (filling_next_room (before) (head) (first)) in
     filling_next (before) (head) (first) (rw (i.0, e) at c.put_between-i.ensures) in
     filling_at (second)
@@ -57,8 +57,8 @@ put_head-requires c =
     let all : List ℕ = let a = c.args in front_bytes a.side a.file.now a.cut in
     let head : List ℕ = let a = c.args in list_head (id_at a.side) a.cut.count a.cut.bytes in
     let before : List ℕ = let a = c.args in ranks (sections_in a.file.now) 0 (id_at a.side - 1) in
-    let first : Filling (all) c.args.out.now (before ++ head) 16 c.copy.new.out =     file_head c.args.file.now c.args.out.now c.requires.0.read (before ++ head) (omega (arith, c.requires.1.room, length-append header (before ++ head))) c.copy.ensures in
-    let second : Filling (all) c.args.out.now (head) (16 + c.put_between-i.result) (back 16 c.copy.new.out c.put_between-i.new.out) =     let i = c.id_at-id.ensures in
+    let first : Filling (all) c.args.out.now (before ++ head) 16 c.copy.new.out = file_head c.args.file.now c.args.out.now c.requires.0.read (before ++ head) (omega (arith, c.requires.1.room, length-append header (before ++ head))) c.copy.ensures in
+    let second : Filling (all) c.args.out.now (head) (16 + c.put_between-i.result) (back 16 c.copy.new.out c.put_between-i.new.out) = let i = c.id_at-id.ensures in
     let e = whole-ranks (λ j. omega (arith, c.type_inv.file j)) c.requires.0 0 (id_at c.args.side - 1) (omega (arith, i.0, i.2)) (filling_next_room (before) (head) (first)) in
     filling_next (before) (head) (first) (rw (i.0, e) at c.put_between-i.ensures) in
     rw c.id_at-id.ensures.0 (filling_room (second))
@@ -68,8 +68,8 @@ overflow_add-result c =
     let all : List ℕ = let a = c.args in front_bytes a.side a.file.now a.cut in
     let head : List ℕ = let a = c.args in list_head (id_at a.side) a.cut.count a.cut.bytes in
     let before : List ℕ = let a = c.args in ranks (sections_in a.file.now) 0 (id_at a.side - 1) in
-    let first : Filling (all) c.args.out.now (before ++ head) 16 c.copy.new.out =     file_head c.args.file.now c.args.out.now c.requires.0.read (before ++ head) (omega (arith, c.requires.1.room, length-append header (before ++ head))) c.copy.ensures in
-    let second : Filling (all) c.args.out.now (head) (16 + c.put_between-i.result) (back 16 c.copy.new.out c.put_between-i.new.out) =     let i = c.id_at-id.ensures in
+    let first : Filling (all) c.args.out.now (before ++ head) 16 c.copy.new.out = file_head c.args.file.now c.args.out.now c.requires.0.read (before ++ head) (omega (arith, c.requires.1.room, length-append header (before ++ head))) c.copy.ensures in
+    let second : Filling (all) c.args.out.now (head) (16 + c.put_between-i.result) (back 16 c.copy.new.out c.put_between-i.new.out) = let i = c.id_at-id.ensures in
     let e = whole-ranks (λ j. omega (arith, c.type_inv.file j)) c.requires.0 0 (id_at c.args.side - 1) (omega (arith, i.0, i.2)) (filling_next_room (before) (head) (first)) in
     filling_next (before) (head) (first) (rw (i.0, e) at c.put_between-i.ensures) in
     omega (arith, filling_sum (second), (rw c.id_at-id.ensures.0 at c.put_head.ensures).count, c.requires.1.most)
@@ -79,8 +79,8 @@ returns c =
     let all : List ℕ = let a = c.args in front_bytes a.side a.file.now a.cut in
     let head : List ℕ = let a = c.args in list_head (id_at a.side) a.cut.count a.cut.bytes in
     let before : List ℕ = let a = c.args in ranks (sections_in a.file.now) 0 (id_at a.side - 1) in
-    let first : Filling (all) c.args.out.now (before ++ head) 16 c.copy.new.out =     file_head c.args.file.now c.args.out.now c.requires.0.read (before ++ head) (omega (arith, c.requires.1.room, length-append header (before ++ head))) c.copy.ensures in
-    let second : Filling (all) c.args.out.now (head) (16 + c.put_between-i.result) (back 16 c.copy.new.out c.put_between-i.new.out) =     let i = c.id_at-id.ensures in
+    let first : Filling (all) c.args.out.now (before ++ head) 16 c.copy.new.out = file_head c.args.file.now c.args.out.now c.requires.0.read (before ++ head) (omega (arith, c.requires.1.room, length-append header (before ++ head))) c.copy.ensures in
+    let second : Filling (all) c.args.out.now (head) (16 + c.put_between-i.result) (back 16 c.copy.new.out c.put_between-i.new.out) = let i = c.id_at-id.ensures in
     let e = whole-ranks (λ j. omega (arith, c.type_inv.file j)) c.requires.0 0 (id_at c.args.side - 1) (omega (arith, i.0, i.2)) (filling_next_room (before) (head) (first)) in
     filling_next (before) (head) (first) (rw (i.0, e) at c.put_between-i.ensures) in
     filling_done (second) (rw c.id_at-id.ensures.0 at c.put_head.ensures)

@@ -49,7 +49,7 @@ plan_at-requires c =
     let wanted : (r : Bool) (b : Bool) → r ≡ wants (bare c.args.edit) → r ≡ b → wants (edit) ≡ b = λ _ _ e q. sym (wants-same c.args.edit c.args.a.now c.args.b.now) ∙ sym e ∙ q in
     let found : (r : Found) → c.search.result ≡ r → r ≡ find_in (kind_at (side_of (target (edit)))).key (key_of (target (edit))) (old_entries (side_of (target (edit))) c.args.file.now) = λ _ q. sym q ∙ subst (λ (n : Name). c.search.result ≡ find_in (kind_at (side_of n)).key (key_of n) (old_entries (side_of n) c.args.file.now)) (target-same c.args.edit c.args.a.now c.args.b.now) c.search.ensures in
     let its : Landing (edit) c.args.file.now c.args.index.now c.args.site = landing c.args.edit c.args.a.now c.args.b.now c.requires.whole_file.0.read c.requires.pass c.requires.whole_file.1 in
-    let planned : Planning (edit) c.side_of.result c.args.file.now c.args.index.now c.args.site c.cut_free-cut.result =     let a = c.args in
+    let planned : Planning (edit) c.side_of.result c.args.file.now c.args.index.now c.args.site c.cut_free-cut.result = let a = c.args in
     let w = wanted _ _ c.wants-in-Free.ensures c.if-wants.false in
     let f = found _ c.in-Free.is in
     planning_of a.edit a.a.now a.b.now c.side_of.ensures c.requires.pass c.requires.whole_file.0 (free_lands (its) f w (rw c.entry_size.ensures at c.cut_free-cut.ensures)) in
@@ -68,7 +68,7 @@ returns-else-wants c =
     let found : (r : Found) → c.search.result ≡ r → r ≡ find_in (kind_at (side_of (target (edit)))).key (key_of (target (edit))) (old_entries (side_of (target (edit))) c.args.file.now) = λ _ q. sym q ∙ subst (λ (n : Name). c.search.result ≡ find_in (kind_at (side_of n)).key (key_of n) (old_entries (side_of n) c.args.file.now)) (target-same c.args.edit c.args.a.now c.args.b.now) c.search.ensures in
     let wanted : (r : Bool) (b : Bool) → r ≡ wants (bare c.args.edit) → r ≡ b → wants (edit) ≡ b = λ _ _ e q. sym (wants-same c.args.edit c.args.a.now c.args.b.now) ∙ sym e ∙ q in
     let its : Landing (edit) c.args.file.now c.args.index.now c.args.site = landing c.args.edit c.args.a.now c.args.b.now c.requires.whole_file.0.read c.requires.pass c.requires.whole_file.1 in
-    let planned : Planning (edit) c.side_of.result c.args.file.now c.args.index.now c.args.site c.cut_free-cut.result =     let a = c.args in
+    let planned : Planning (edit) c.side_of.result c.args.file.now c.args.index.now c.args.site c.cut_free-cut.result = let a = c.args in
     let w = wanted _ _ c.wants-in-Free.ensures c.if-wants.false in
     let f = found _ c.in-Free.is in
     planning_of a.edit a.a.now a.b.now c.side_of.ensures c.requires.pass c.requires.whole_file.0 (free_lands (its) f w (rw c.entry_size.ensures at c.cut_free-cut.ensures)) in

@@ -58,7 +58,7 @@ cut_there-cut-requires c =
     let there : There c.args.q ≡ find_in (kind_at (side_of (target (edit)))).key (key_of (target (edit))) (old_entries (side_of (target (edit))) c.args.file.now) = subst (λ (n : Name). There c.args.q ≡ find_in (kind_at (side_of n)).key (key_of n) (old_entries (side_of n) c.args.file.now)) (target-same c.args.edit c.args.a.now c.args.b.now) c.requires.pass.2 in
     let wanted : wants (edit) ≡ true = sym (wants-same c.args.edit c.args.a.now c.args.b.now) ∙ c.requires.pass.1 in
     let within : c.args.q + 1 ≤ c.args.site.last - c.args.site.first = there-within (its) (there) (wanted) in
-    let gone : let a = c.args in c.length_at-gone.result ≡ length (entry_by (kind_at (side_of (target (edit)))) (site_bytes a.file.now a.site) (get_or a.index.now (a.site.first + a.q) 0)) =     let a = c.args in
+    let gone : let a = c.args in c.length_at-gone.result ≡ length (entry_by (kind_at (side_of (target (edit)))) (site_bytes a.file.now a.site) (get_or a.index.now (a.site.first + a.q) 0)) = let a = c.args in
     let d = c.kind_at.ensures ∙ ap kind_at (c.side_of-side.ensures ∙ side_same a.edit a.a.now a.b.now) in
     c.length_at-gone.ensures ∙ ap (λ (k : Description). length (entry_by k (site_bytes a.file.now a.site) (get_or a.index.now (a.site.first + a.q) 0))) d in
     (fair (its) (c.args.q + 1) (within), omega (arith, c.entry_size.ensures, new_short (edit) c.requires.pass.0), gone_within (its) (there) (wanted) (gone))
@@ -69,10 +69,10 @@ plan_at-requires c =
     let its : Landing (edit) c.args.file.now c.args.index.now c.args.site = landing c.args.edit c.args.a.now c.args.b.now c.requires.whole_file.0.read c.requires.pass.0 c.requires.whole_file.1 in
     let there : There c.args.q ≡ find_in (kind_at (side_of (target (edit)))).key (key_of (target (edit))) (old_entries (side_of (target (edit))) c.args.file.now) = subst (λ (n : Name). There c.args.q ≡ find_in (kind_at (side_of n)).key (key_of n) (old_entries (side_of n) c.args.file.now)) (target-same c.args.edit c.args.a.now c.args.b.now) c.requires.pass.2 in
     let wanted : wants (edit) ≡ true = sym (wants-same c.args.edit c.args.a.now c.args.b.now) ∙ c.requires.pass.1 in
-    let gone : let a = c.args in c.length_at-gone.result ≡ length (entry_by (kind_at (side_of (target (edit)))) (site_bytes a.file.now a.site) (get_or a.index.now (a.site.first + a.q) 0)) =     let a = c.args in
+    let gone : let a = c.args in c.length_at-gone.result ≡ length (entry_by (kind_at (side_of (target (edit)))) (site_bytes a.file.now a.site) (get_or a.index.now (a.site.first + a.q) 0)) = let a = c.args in
     let d = c.kind_at.ensures ∙ ap kind_at (c.side_of-side.ensures ∙ side_same a.edit a.a.now a.b.now) in
     c.length_at-gone.ensures ∙ ap (λ (k : Description). length (entry_by k (site_bytes a.file.now a.site) (get_or a.index.now (a.site.first + a.q) 0))) d in
-    let planned : Planning (edit) c.side_of-side.result c.args.file.now c.args.index.now c.args.site c.cut_there-cut.result =     let a = c.args in
+    let planned : Planning (edit) c.side_of-side.result c.args.file.now c.args.index.now c.args.site c.cut_there-cut.result = let a = c.args in
     planning_of a.edit a.a.now a.b.now c.side_of-side.ensures c.requires.pass.0 c.requires.whole_file.0 (there_lands (its) (there) (wanted) (gone) (rw c.entry_size.ensures at c.cut_there-cut.ensures)) in
     ((planned).whole, measured_of (planned))
 
@@ -82,9 +82,9 @@ returns c =
     let its : Landing (edit) c.args.file.now c.args.index.now c.args.site = landing c.args.edit c.args.a.now c.args.b.now c.requires.whole_file.0.read c.requires.pass.0 c.requires.whole_file.1 in
     let there : There c.args.q ≡ find_in (kind_at (side_of (target (edit)))).key (key_of (target (edit))) (old_entries (side_of (target (edit))) c.args.file.now) = subst (λ (n : Name). There c.args.q ≡ find_in (kind_at (side_of n)).key (key_of n) (old_entries (side_of n) c.args.file.now)) (target-same c.args.edit c.args.a.now c.args.b.now) c.requires.pass.2 in
     let wanted : wants (edit) ≡ true = sym (wants-same c.args.edit c.args.a.now c.args.b.now) ∙ c.requires.pass.1 in
-    let gone : let a = c.args in c.length_at-gone.result ≡ length (entry_by (kind_at (side_of (target (edit)))) (site_bytes a.file.now a.site) (get_or a.index.now (a.site.first + a.q) 0)) =     let a = c.args in
+    let gone : let a = c.args in c.length_at-gone.result ≡ length (entry_by (kind_at (side_of (target (edit)))) (site_bytes a.file.now a.site) (get_or a.index.now (a.site.first + a.q) 0)) = let a = c.args in
     let d = c.kind_at.ensures ∙ ap kind_at (c.side_of-side.ensures ∙ side_same a.edit a.a.now a.b.now) in
     c.length_at-gone.ensures ∙ ap (λ (k : Description). length (entry_by k (site_bytes a.file.now a.site) (get_or a.index.now (a.site.first + a.q) 0))) d in
-    let planned : Planning (edit) c.side_of-side.result c.args.file.now c.args.index.now c.args.site c.cut_there-cut.result =     let a = c.args in
+    let planned : Planning (edit) c.side_of-side.result c.args.file.now c.args.index.now c.args.site c.cut_there-cut.result = let a = c.args in
     planning_of a.edit a.a.now a.b.now c.side_of-side.ensures c.requires.pass.0 c.requires.whole_file.0 (there_lands (its) (there) (wanted) (gone) (rw c.entry_size.ensures at c.cut_there-cut.ensures)) in
     c.plan_at.ensures (edit) (planned)

@@ -23,7 +23,7 @@ ask_rows-requires c =
 pub stand_at-requires : goal.stand_at-requires
 stand_at-requires c =
     let passing : let a = c.args in
-    PassedBy (pass_of a.have a.table.now a.store.now (old_entries OfDevices a.file.now) a.site c.sized-old.result) a.table.now c.arrange-r.result a.site c.sized-old.result c.in-Passed.grown =     let a = c.args in
+    PassedBy (pass_of a.have a.table.now a.store.now (old_entries OfDevices a.file.now) a.site c.sized-old.result) a.table.now c.arrange-r.result a.site c.sized-old.result c.in-Passed.grown = let a = c.args in
     passed (pass_of a.have a.table.now a.store.now (old_entries OfDevices a.file.now) a.site c.sized-old.result) a.table.now c.arrange-r.result a.site c.sized-old.result c.in-Passed.is c.ask_rows.ensures in
     let p = passing in (p.modest, p.many)
 
@@ -38,7 +38,7 @@ returns-in-Refused c =
 pub returns-in-Passed : goal.returns-in-Passed
 returns-in-Passed c =
     let passing : let a = c.args in
-    PassedBy (pass_of a.have a.table.now a.store.now (old_entries OfDevices a.file.now) a.site c.sized-old.result) a.table.now c.arrange-r.result a.site c.sized-old.result c.in-Passed.grown =     let a = c.args in
+    PassedBy (pass_of a.have a.table.now a.store.now (old_entries OfDevices a.file.now) a.site c.sized-old.result) a.table.now c.arrange-r.result a.site c.sized-old.result c.in-Passed.grown = let a = c.args in
     passed (pass_of a.have a.table.now a.store.now (old_entries OfDevices a.file.now) a.site c.sized-old.result) a.table.now c.arrange-r.result a.site c.sized-old.result c.in-Passed.is c.ask_rows.ensures in
     let numbers : let s = c.args.file.now in (c.sized-old.result.sections ≡ length (secs (content_of (sections_in s)))) × (c.sized-old.result.bytes ≡ length (render (content_of (sections_in s)))) = rw (whole-held c.requires.0) at c.sized-old.ensures in
     let bytes : Bytes c.args.table.now = λ j. omega (arith, c.type_inv.table j) in

@@ -26,7 +26,7 @@ slice_bounds-put_low-count c =
     let entry : List ℕ = let a = c.args in entry_for (edit_of a.edit a.a.now a.b.now) in
     let behind : List ℕ = let a = c.args in back_bytes (side_for a.edit) a.file.now a.site a.cut in
     let all : List ℕ = ahead ++ (low ++ (entry ++ behind)) in
-    let first : Filling (all) c.args.out.now (low ++ (entry ++ behind)) c.front-i.result c.front-i.new.out =     record { part = ahead; whole = refl; room = c.requires.pass.2.room; wrote = rw c.side_of-side.ensures at c.front-i.ensures } in
+    let first : Filling (all) c.args.out.now (low ++ (entry ++ behind)) c.front-i.result c.front-i.new.out = record { part = ahead; whole = refl; room = c.requires.pass.2.room; wrote = rw c.side_of-side.ensures at c.front-i.ensures } in
     filling_at (first)
 
 pub slice_bounds-put_low-start : goal.slice_bounds-put_low-start
@@ -36,7 +36,7 @@ slice_bounds-put_low-start c =
     let entry : List ℕ = let a = c.args in entry_for (edit_of a.edit a.a.now a.b.now) in
     let behind : List ℕ = let a = c.args in back_bytes (side_for a.edit) a.file.now a.site a.cut in
     let all : List ℕ = ahead ++ (low ++ (entry ++ behind)) in
-    let first : Filling (all) c.args.out.now (low ++ (entry ++ behind)) c.front-i.result c.front-i.new.out =     record { part = ahead; whole = refl; room = c.requires.pass.2.room; wrote = rw c.side_of-side.ensures at c.front-i.ensures } in
+    let first : Filling (all) c.args.out.now (low ++ (entry ++ behind)) c.front-i.result c.front-i.new.out = record { part = ahead; whole = refl; room = c.requires.pass.2.room; wrote = rw c.side_of-side.ensures at c.front-i.ensures } in
     filling_at (first)
 
 pub put_low-requires : goal.put_low-requires
@@ -46,7 +46,7 @@ put_low-requires c =
     let behind : List ℕ = let a = c.args in back_bytes (side_for a.edit) a.file.now a.site a.cut in
     let ahead : List ℕ = let a = c.args in front_bytes (side_for a.edit) a.file.now a.cut in
     let all : List ℕ = ahead ++ (low ++ (entry ++ behind)) in
-    let first : Filling (all) c.args.out.now (low ++ (entry ++ behind)) c.front-i.result c.front-i.new.out =     record { part = ahead; whole = refl; room = c.requires.pass.2.room; wrote = rw c.side_of-side.ensures at c.front-i.ensures } in
+    let first : Filling (all) c.args.out.now (low ++ (entry ++ behind)) c.front-i.result c.front-i.new.out = record { part = ahead; whole = refl; room = c.requires.pass.2.room; wrote = rw c.side_of-side.ensures at c.front-i.ensures } in
     rw c.side_of-side.ensures (c.requires.whole_file.1, filling_next_room (low) (entry ++ behind) (first))
 
 pub overflow_add-j : goal.overflow_add-j
@@ -56,7 +56,7 @@ overflow_add-j c =
     let entry : List ℕ = let a = c.args in entry_for (edit_of a.edit a.a.now a.b.now) in
     let behind : List ℕ = let a = c.args in back_bytes (side_for a.edit) a.file.now a.site a.cut in
     let all : List ℕ = ahead ++ (low ++ (entry ++ behind)) in
-    let first : Filling (all) c.args.out.now (low ++ (entry ++ behind)) c.front-i.result c.front-i.new.out =     record { part = ahead; whole = refl; room = c.requires.pass.2.room; wrote = rw c.side_of-side.ensures at c.front-i.ensures } in
+    let first : Filling (all) c.args.out.now (low ++ (entry ++ behind)) c.front-i.result c.front-i.new.out = record { part = ahead; whole = refl; room = c.requires.pass.2.room; wrote = rw c.side_of-side.ensures at c.front-i.ensures } in
     let second : Filling (all) c.args.out.now (entry ++ behind) (c.front-i.result + c.put_low.result) (back c.front-i.result c.front-i.new.out c.put_low.new.out) = filling_next (low) (entry ++ behind) (first) (rw c.side_of-side.ensures at c.put_low.ensures) in
     omega (arith, filling_sum (second), c.requires.pass.2.most)
 
@@ -67,7 +67,7 @@ slice_bounds-put_new-count c =
     let entry : List ℕ = let a = c.args in entry_for (edit_of a.edit a.a.now a.b.now) in
     let behind : List ℕ = let a = c.args in back_bytes (side_for a.edit) a.file.now a.site a.cut in
     let all : List ℕ = ahead ++ (low ++ (entry ++ behind)) in
-    let first : Filling (all) c.args.out.now (low ++ (entry ++ behind)) c.front-i.result c.front-i.new.out =     record { part = ahead; whole = refl; room = c.requires.pass.2.room; wrote = rw c.side_of-side.ensures at c.front-i.ensures } in
+    let first : Filling (all) c.args.out.now (low ++ (entry ++ behind)) c.front-i.result c.front-i.new.out = record { part = ahead; whole = refl; room = c.requires.pass.2.room; wrote = rw c.side_of-side.ensures at c.front-i.ensures } in
     let second : Filling (all) c.args.out.now (entry ++ behind) (c.front-i.result + c.put_low.result) (back c.front-i.result c.front-i.new.out c.put_low.new.out) = filling_next (low) (entry ++ behind) (first) (rw c.side_of-side.ensures at c.put_low.ensures) in
     filling_at (second)
 
@@ -78,7 +78,7 @@ slice_bounds-put_new-start c =
     let entry : List ℕ = let a = c.args in entry_for (edit_of a.edit a.a.now a.b.now) in
     let behind : List ℕ = let a = c.args in back_bytes (side_for a.edit) a.file.now a.site a.cut in
     let all : List ℕ = ahead ++ (low ++ (entry ++ behind)) in
-    let first : Filling (all) c.args.out.now (low ++ (entry ++ behind)) c.front-i.result c.front-i.new.out =     record { part = ahead; whole = refl; room = c.requires.pass.2.room; wrote = rw c.side_of-side.ensures at c.front-i.ensures } in
+    let first : Filling (all) c.args.out.now (low ++ (entry ++ behind)) c.front-i.result c.front-i.new.out = record { part = ahead; whole = refl; room = c.requires.pass.2.room; wrote = rw c.side_of-side.ensures at c.front-i.ensures } in
     let second : Filling (all) c.args.out.now (entry ++ behind) (c.front-i.result + c.put_low.result) (back c.front-i.result c.front-i.new.out c.put_low.new.out) = filling_next (low) (entry ++ behind) (first) (rw c.side_of-side.ensures at c.put_low.ensures) in
     filling_at (second)
 
@@ -89,7 +89,7 @@ put_new-requires c =
     let ahead : List ℕ = let a = c.args in front_bytes (side_for a.edit) a.file.now a.cut in
     let low : List ℕ = let a = c.args in low_bytes (side_for a.edit) a.file.now a.site a.cut in
     let all : List ℕ = ahead ++ (low ++ (entry ++ behind)) in
-    let first : Filling (all) c.args.out.now (low ++ (entry ++ behind)) c.front-i.result c.front-i.new.out =     record { part = ahead; whole = refl; room = c.requires.pass.2.room; wrote = rw c.side_of-side.ensures at c.front-i.ensures } in
+    let first : Filling (all) c.args.out.now (low ++ (entry ++ behind)) c.front-i.result c.front-i.new.out = record { part = ahead; whole = refl; room = c.requires.pass.2.room; wrote = rw c.side_of-side.ensures at c.front-i.ensures } in
     let second : Filling (all) c.args.out.now (entry ++ behind) (c.front-i.result + c.put_low.result) (back c.front-i.result c.front-i.new.out c.put_low.new.out) = filling_next (low) (entry ++ behind) (first) (rw c.side_of-side.ensures at c.put_low.ensures) in
     (c.requires.pass.0, filling_next_room (entry) (behind) (second))
 
@@ -100,7 +100,7 @@ overflow_add-k c =
     let entry : List ℕ = let a = c.args in entry_for (edit_of a.edit a.a.now a.b.now) in
     let behind : List ℕ = let a = c.args in back_bytes (side_for a.edit) a.file.now a.site a.cut in
     let all : List ℕ = ahead ++ (low ++ (entry ++ behind)) in
-    let first : Filling (all) c.args.out.now (low ++ (entry ++ behind)) c.front-i.result c.front-i.new.out =     record { part = ahead; whole = refl; room = c.requires.pass.2.room; wrote = rw c.side_of-side.ensures at c.front-i.ensures } in
+    let first : Filling (all) c.args.out.now (low ++ (entry ++ behind)) c.front-i.result c.front-i.new.out = record { part = ahead; whole = refl; room = c.requires.pass.2.room; wrote = rw c.side_of-side.ensures at c.front-i.ensures } in
     let second : Filling (all) c.args.out.now (entry ++ behind) (c.front-i.result + c.put_low.result) (back c.front-i.result c.front-i.new.out c.put_low.new.out) = filling_next (low) (entry ++ behind) (first) (rw c.side_of-side.ensures at c.put_low.ensures) in
     let third : let n : ℕ = c.front-i.result + c.put_low.result in
     Filling (all) c.args.out.now (behind) (n + c.put_new.result) (back n (back c.front-i.result c.front-i.new.out c.put_low.new.out) c.put_new.new.out) = filling_next (entry) (behind) (second) c.put_new.ensures in
@@ -113,12 +113,12 @@ overflow_sub-left c =
     let ahead : List ℕ = let a = c.args in front_bytes (side_for a.edit) a.file.now a.cut in
     let behind : List ℕ = let a = c.args in back_bytes (side_for a.edit) a.file.now a.site a.cut in
     let all : List ℕ = ahead ++ (low ++ (entry ++ behind)) in
-    let first : Filling (all) c.args.out.now (low ++ (entry ++ behind)) c.front-i.result c.front-i.new.out =     record { part = ahead; whole = refl; room = c.requires.pass.2.room; wrote = rw c.side_of-side.ensures at c.front-i.ensures } in
+    let first : Filling (all) c.args.out.now (low ++ (entry ++ behind)) c.front-i.result c.front-i.new.out = record { part = ahead; whole = refl; room = c.requires.pass.2.room; wrote = rw c.side_of-side.ensures at c.front-i.ensures } in
     let second : Filling (all) c.args.out.now (entry ++ behind) (c.front-i.result + c.put_low.result) (back c.front-i.result c.front-i.new.out c.put_low.new.out) = filling_next (low) (entry ++ behind) (first) (rw c.side_of-side.ensures at c.put_low.ensures) in
     let third : let n : ℕ = c.front-i.result + c.put_low.result in
     Filling (all) c.args.out.now (behind) (n + c.put_new.result) (back n (back c.front-i.result c.front-i.new.out c.put_low.new.out) c.put_new.new.out) = filling_next (entry) (behind) (second) c.put_new.ensures in
     let counted : let a = c.args in
-    (c.put_low.result ≡ length (low)) × (c.put_new.result ≡ length (entry)) × (a.cut.bytes ≡ 4 + (length (low) + (length (entry) + (length (high_bytes (side_for a.edit) a.file.now a.site a.cut) + length (old_tail (side_for a.edit) a.file.now))))) =     (omega (arith, filling_sum (first), filling_sum (second), length-append (low) (entry ++ behind)), omega (arith, filling_sum (second), filling_sum (third), length-append (entry) (behind)), c.requires.pass.1) in
+    (c.put_low.result ≡ length (low)) × (c.put_new.result ≡ length (entry)) × (a.cut.bytes ≡ 4 + (length (low) + (length (entry) + (length (high_bytes (side_for a.edit) a.file.now a.site a.cut) + length (old_tail (side_for a.edit) a.file.now))))) = (omega (arith, filling_sum (first), filling_sum (second), length-append (low) (entry ++ behind)), omega (arith, filling_sum (second), filling_sum (third), length-append (entry) (behind)), c.requires.pass.1) in
     omega (arith, (counted).2)
 
 pub overflow_sub-left-3 : goal.overflow_sub-left-3
@@ -128,12 +128,12 @@ overflow_sub-left-3 c =
     let ahead : List ℕ = let a = c.args in front_bytes (side_for a.edit) a.file.now a.cut in
     let behind : List ℕ = let a = c.args in back_bytes (side_for a.edit) a.file.now a.site a.cut in
     let all : List ℕ = ahead ++ (low ++ (entry ++ behind)) in
-    let first : Filling (all) c.args.out.now (low ++ (entry ++ behind)) c.front-i.result c.front-i.new.out =     record { part = ahead; whole = refl; room = c.requires.pass.2.room; wrote = rw c.side_of-side.ensures at c.front-i.ensures } in
+    let first : Filling (all) c.args.out.now (low ++ (entry ++ behind)) c.front-i.result c.front-i.new.out = record { part = ahead; whole = refl; room = c.requires.pass.2.room; wrote = rw c.side_of-side.ensures at c.front-i.ensures } in
     let second : Filling (all) c.args.out.now (entry ++ behind) (c.front-i.result + c.put_low.result) (back c.front-i.result c.front-i.new.out c.put_low.new.out) = filling_next (low) (entry ++ behind) (first) (rw c.side_of-side.ensures at c.put_low.ensures) in
     let third : let n : ℕ = c.front-i.result + c.put_low.result in
     Filling (all) c.args.out.now (behind) (n + c.put_new.result) (back n (back c.front-i.result c.front-i.new.out c.put_low.new.out) c.put_new.new.out) = filling_next (entry) (behind) (second) c.put_new.ensures in
     let counted : let a = c.args in
-    (c.put_low.result ≡ length (low)) × (c.put_new.result ≡ length (entry)) × (a.cut.bytes ≡ 4 + (length (low) + (length (entry) + (length (high_bytes (side_for a.edit) a.file.now a.site a.cut) + length (old_tail (side_for a.edit) a.file.now))))) =     (omega (arith, filling_sum (first), filling_sum (second), length-append (low) (entry ++ behind)), omega (arith, filling_sum (second), filling_sum (third), length-append (entry) (behind)), c.requires.pass.1) in
+    (c.put_low.result ≡ length (low)) × (c.put_new.result ≡ length (entry)) × (a.cut.bytes ≡ 4 + (length (low) + (length (entry) + (length (high_bytes (side_for a.edit) a.file.now a.site a.cut) + length (old_tail (side_for a.edit) a.file.now))))) = (omega (arith, filling_sum (first), filling_sum (second), length-append (low) (entry ++ behind)), omega (arith, filling_sum (second), filling_sum (third), length-append (entry) (behind)), c.requires.pass.1) in
     let w = counted in omega (arith, w.2, w.0, w.1)
 
 pub slice_bounds-back-count : goal.slice_bounds-back-count
@@ -143,7 +143,7 @@ slice_bounds-back-count c =
     let entry : List ℕ = let a = c.args in entry_for (edit_of a.edit a.a.now a.b.now) in
     let behind : List ℕ = let a = c.args in back_bytes (side_for a.edit) a.file.now a.site a.cut in
     let all : List ℕ = ahead ++ (low ++ (entry ++ behind)) in
-    let first : Filling (all) c.args.out.now (low ++ (entry ++ behind)) c.front-i.result c.front-i.new.out =     record { part = ahead; whole = refl; room = c.requires.pass.2.room; wrote = rw c.side_of-side.ensures at c.front-i.ensures } in
+    let first : Filling (all) c.args.out.now (low ++ (entry ++ behind)) c.front-i.result c.front-i.new.out = record { part = ahead; whole = refl; room = c.requires.pass.2.room; wrote = rw c.side_of-side.ensures at c.front-i.ensures } in
     let second : Filling (all) c.args.out.now (entry ++ behind) (c.front-i.result + c.put_low.result) (back c.front-i.result c.front-i.new.out c.put_low.new.out) = filling_next (low) (entry ++ behind) (first) (rw c.side_of-side.ensures at c.put_low.ensures) in
     let third : let n : ℕ = c.front-i.result + c.put_low.result in
     Filling (all) c.args.out.now (behind) (n + c.put_new.result) (back n (back c.front-i.result c.front-i.new.out c.put_low.new.out) c.put_new.new.out) = filling_next (entry) (behind) (second) c.put_new.ensures in
@@ -156,7 +156,7 @@ slice_bounds-back-start c =
     let entry : List ℕ = let a = c.args in entry_for (edit_of a.edit a.a.now a.b.now) in
     let behind : List ℕ = let a = c.args in back_bytes (side_for a.edit) a.file.now a.site a.cut in
     let all : List ℕ = ahead ++ (low ++ (entry ++ behind)) in
-    let first : Filling (all) c.args.out.now (low ++ (entry ++ behind)) c.front-i.result c.front-i.new.out =     record { part = ahead; whole = refl; room = c.requires.pass.2.room; wrote = rw c.side_of-side.ensures at c.front-i.ensures } in
+    let first : Filling (all) c.args.out.now (low ++ (entry ++ behind)) c.front-i.result c.front-i.new.out = record { part = ahead; whole = refl; room = c.requires.pass.2.room; wrote = rw c.side_of-side.ensures at c.front-i.ensures } in
     let second : Filling (all) c.args.out.now (entry ++ behind) (c.front-i.result + c.put_low.result) (back c.front-i.result c.front-i.new.out c.put_low.new.out) = filling_next (low) (entry ++ behind) (first) (rw c.side_of-side.ensures at c.put_low.ensures) in
     let third : let n : ℕ = c.front-i.result + c.put_low.result in
     Filling (all) c.args.out.now (behind) (n + c.put_new.result) (back n (back c.front-i.result c.front-i.new.out c.put_low.new.out) c.put_new.new.out) = filling_next (entry) (behind) (second) c.put_new.ensures in
@@ -169,12 +169,12 @@ back-requires c =
     let ahead : List ℕ = let a = c.args in front_bytes (side_for a.edit) a.file.now a.cut in
     let behind : List ℕ = let a = c.args in back_bytes (side_for a.edit) a.file.now a.site a.cut in
     let all : List ℕ = ahead ++ (low ++ (entry ++ behind)) in
-    let first : Filling (all) c.args.out.now (low ++ (entry ++ behind)) c.front-i.result c.front-i.new.out =     record { part = ahead; whole = refl; room = c.requires.pass.2.room; wrote = rw c.side_of-side.ensures at c.front-i.ensures } in
+    let first : Filling (all) c.args.out.now (low ++ (entry ++ behind)) c.front-i.result c.front-i.new.out = record { part = ahead; whole = refl; room = c.requires.pass.2.room; wrote = rw c.side_of-side.ensures at c.front-i.ensures } in
     let second : Filling (all) c.args.out.now (entry ++ behind) (c.front-i.result + c.put_low.result) (back c.front-i.result c.front-i.new.out c.put_low.new.out) = filling_next (low) (entry ++ behind) (first) (rw c.side_of-side.ensures at c.put_low.ensures) in
     let third : let n : ℕ = c.front-i.result + c.put_low.result in
     Filling (all) c.args.out.now (behind) (n + c.put_new.result) (back n (back c.front-i.result c.front-i.new.out c.put_low.new.out) c.put_new.new.out) = filling_next (entry) (behind) (second) c.put_new.ensures in
     let counted : let a = c.args in
-    (c.put_low.result ≡ length (low)) × (c.put_new.result ≡ length (entry)) × (a.cut.bytes ≡ 4 + (length (low) + (length (entry) + (length (high_bytes (side_for a.edit) a.file.now a.site a.cut) + length (old_tail (side_for a.edit) a.file.now))))) =     (omega (arith, filling_sum (first), filling_sum (second), length-append (low) (entry ++ behind)), omega (arith, filling_sum (second), filling_sum (third), length-append (entry) (behind)), c.requires.pass.1) in
+    (c.put_low.result ≡ length (low)) × (c.put_new.result ≡ length (entry)) × (a.cut.bytes ≡ 4 + (length (low) + (length (entry) + (length (high_bytes (side_for a.edit) a.file.now a.site a.cut) + length (old_tail (side_for a.edit) a.file.now))))) = (omega (arith, filling_sum (first), filling_sum (second), length-append (low) (entry ++ behind)), omega (arith, filling_sum (second), filling_sum (third), length-append (entry) (behind)), c.requires.pass.1) in
     let w = counted in
     rw c.side_of-side.ensures (record { whole_file = (c.requires.whole_file.0, c.requires.whole_file.1); bytes_behind = (omega (arith, w.2, w.0, w.1), record { most = omega (arith, filling_sum (third), c.requires.pass.2.most); room = filling_room (third) }) })
 
@@ -185,7 +185,7 @@ overflow_add-result c =
     let entry : List ℕ = let a = c.args in entry_for (edit_of a.edit a.a.now a.b.now) in
     let behind : List ℕ = let a = c.args in back_bytes (side_for a.edit) a.file.now a.site a.cut in
     let all : List ℕ = ahead ++ (low ++ (entry ++ behind)) in
-    let first : Filling (all) c.args.out.now (low ++ (entry ++ behind)) c.front-i.result c.front-i.new.out =     record { part = ahead; whole = refl; room = c.requires.pass.2.room; wrote = rw c.side_of-side.ensures at c.front-i.ensures } in
+    let first : Filling (all) c.args.out.now (low ++ (entry ++ behind)) c.front-i.result c.front-i.new.out = record { part = ahead; whole = refl; room = c.requires.pass.2.room; wrote = rw c.side_of-side.ensures at c.front-i.ensures } in
     let second : Filling (all) c.args.out.now (entry ++ behind) (c.front-i.result + c.put_low.result) (back c.front-i.result c.front-i.new.out c.put_low.new.out) = filling_next (low) (entry ++ behind) (first) (rw c.side_of-side.ensures at c.put_low.ensures) in
     let third : let n : ℕ = c.front-i.result + c.put_low.result in
     Filling (all) c.args.out.now (behind) (n + c.put_new.result) (back n (back c.front-i.result c.front-i.new.out c.put_low.new.out) c.put_new.new.out) = filling_next (entry) (behind) (second) c.put_new.ensures in
@@ -198,7 +198,7 @@ returns c =
     let entry : List ℕ = let a = c.args in entry_for (edit_of a.edit a.a.now a.b.now) in
     let behind : List ℕ = let a = c.args in back_bytes (side_for a.edit) a.file.now a.site a.cut in
     let all : List ℕ = ahead ++ (low ++ (entry ++ behind)) in
-    let first : Filling (all) c.args.out.now (low ++ (entry ++ behind)) c.front-i.result c.front-i.new.out =     record { part = ahead; whole = refl; room = c.requires.pass.2.room; wrote = rw c.side_of-side.ensures at c.front-i.ensures } in
+    let first : Filling (all) c.args.out.now (low ++ (entry ++ behind)) c.front-i.result c.front-i.new.out = record { part = ahead; whole = refl; room = c.requires.pass.2.room; wrote = rw c.side_of-side.ensures at c.front-i.ensures } in
     let second : Filling (all) c.args.out.now (entry ++ behind) (c.front-i.result + c.put_low.result) (back c.front-i.result c.front-i.new.out c.put_low.new.out) = filling_next (low) (entry ++ behind) (first) (rw c.side_of-side.ensures at c.put_low.ensures) in
     let third : let n : ℕ = c.front-i.result + c.put_low.result in
     Filling (all) c.args.out.now (behind) (n + c.put_new.result) (back n (back c.front-i.result c.front-i.new.out c.put_low.new.out) c.put_new.new.out) = filling_next (entry) (behind) (second) c.put_new.ensures in

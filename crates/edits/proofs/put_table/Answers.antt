@@ -59,7 +59,7 @@ overflow_add-k c =
     let all : List ℕ = ahead ++ (entries ++ behind) in
     let rest : List ℕ = let a = c.args in join (old_from a.file.now a.x.site c.put_rows-run.result.next) ++ behind in
     let first : Filling (all) c.args.out.now (entries ++ behind) c.front-i.result c.front-i.new.out = record { part = ahead; whole = refl; room = (ready_long c.requires refl).0; wrote = c.front-i.ensures } in
-    let second : Filling (all) c.args.out.now (rest) (c.front-i.result + c.put_rows-run.result.bytes) (back c.front-i.result c.front-i.new.out c.put_rows-run.new.out) =     let a = c.args in
+    let second : Filling (all) c.args.out.now (rest) (c.front-i.result + c.put_rows-run.result.bytes) (back c.front-i.result c.front-i.new.out c.put_rows-run.new.out) = let a = c.args in
     let b = c.put_rows-run.ensures.0 in
     let f : Filling (all) a.out.now (b.part ++ rest) c.front-i.result c.front-i.new.out =
     subst (λ (l : List ℕ). Filling (all) a.out.now l c.front-i.result c.front-i.new.out) (begun_rest b (old_tail OfDevices a.file.now) (ranks (sections_in a.file.now) 4 5)) (first) in
@@ -80,7 +80,7 @@ slice_bounds-back-count c =
     let all : List ℕ = ahead ++ (entries ++ behind) in
     let rest : List ℕ = let a = c.args in join (old_from a.file.now a.x.site c.put_rows-run.result.next) ++ behind in
     let first : Filling (all) c.args.out.now (entries ++ behind) c.front-i.result c.front-i.new.out = record { part = ahead; whole = refl; room = (ready_long c.requires refl).0; wrote = c.front-i.ensures } in
-    let second : Filling (all) c.args.out.now (rest) (c.front-i.result + c.put_rows-run.result.bytes) (back c.front-i.result c.front-i.new.out c.put_rows-run.new.out) =     let a = c.args in
+    let second : Filling (all) c.args.out.now (rest) (c.front-i.result + c.put_rows-run.result.bytes) (back c.front-i.result c.front-i.new.out c.put_rows-run.new.out) = let a = c.args in
     let b = c.put_rows-run.ensures.0 in
     let f : Filling (all) a.out.now (b.part ++ rest) c.front-i.result c.front-i.new.out =
     subst (λ (l : List ℕ). Filling (all) a.out.now l c.front-i.result c.front-i.new.out) (begun_rest b (old_tail OfDevices a.file.now) (ranks (sections_in a.file.now) 4 5)) (first) in
@@ -95,7 +95,7 @@ slice_bounds-back-start c =
     let all : List ℕ = ahead ++ (entries ++ behind) in
     let rest : List ℕ = let a = c.args in join (old_from a.file.now a.x.site c.put_rows-run.result.next) ++ behind in
     let first : Filling (all) c.args.out.now (entries ++ behind) c.front-i.result c.front-i.new.out = record { part = ahead; whole = refl; room = (ready_long c.requires refl).0; wrote = c.front-i.ensures } in
-    let second : Filling (all) c.args.out.now (rest) (c.front-i.result + c.put_rows-run.result.bytes) (back c.front-i.result c.front-i.new.out c.put_rows-run.new.out) =     let a = c.args in
+    let second : Filling (all) c.args.out.now (rest) (c.front-i.result + c.put_rows-run.result.bytes) (back c.front-i.result c.front-i.new.out c.put_rows-run.new.out) = let a = c.args in
     let b = c.put_rows-run.ensures.0 in
     let f : Filling (all) a.out.now (b.part ++ rest) c.front-i.result c.front-i.new.out =
     subst (λ (l : List ℕ). Filling (all) a.out.now l c.front-i.result c.front-i.new.out) (begun_rest b (old_tail OfDevices a.file.now) (ranks (sections_in a.file.now) 4 5)) (first) in
@@ -110,7 +110,7 @@ back-requires c =
     let all : List ℕ = ahead ++ (entries ++ behind) in
     let rest : List ℕ = let a = c.args in join (old_from a.file.now a.x.site c.put_rows-run.result.next) ++ behind in
     let first : Filling (all) c.args.out.now (entries ++ behind) c.front-i.result c.front-i.new.out = record { part = ahead; whole = refl; room = (ready_long c.requires refl).0; wrote = c.front-i.ensures } in
-    let second : Filling (all) c.args.out.now (rest) (c.front-i.result + c.put_rows-run.result.bytes) (back c.front-i.result c.front-i.new.out c.put_rows-run.new.out) =     let a = c.args in
+    let second : Filling (all) c.args.out.now (rest) (c.front-i.result + c.put_rows-run.result.bytes) (back c.front-i.result c.front-i.new.out c.put_rows-run.new.out) = let a = c.args in
     let b = c.put_rows-run.ensures.0 in
     let f : Filling (all) a.out.now (b.part ++ rest) c.front-i.result c.front-i.new.out =
     subst (λ (l : List ℕ). Filling (all) a.out.now l c.front-i.result c.front-i.new.out) (begun_rest b (old_tail OfDevices a.file.now) (ranks (sections_in a.file.now) 4 5)) (first) in
@@ -126,7 +126,7 @@ overflow_add-result c =
     let all : List ℕ = ahead ++ (entries ++ behind) in
     let rest : List ℕ = let a = c.args in join (old_from a.file.now a.x.site c.put_rows-run.result.next) ++ behind in
     let first : Filling (all) c.args.out.now (entries ++ behind) c.front-i.result c.front-i.new.out = record { part = ahead; whole = refl; room = (ready_long c.requires refl).0; wrote = c.front-i.ensures } in
-    let second : Filling (all) c.args.out.now (rest) (c.front-i.result + c.put_rows-run.result.bytes) (back c.front-i.result c.front-i.new.out c.put_rows-run.new.out) =     let a = c.args in
+    let second : Filling (all) c.args.out.now (rest) (c.front-i.result + c.put_rows-run.result.bytes) (back c.front-i.result c.front-i.new.out c.put_rows-run.new.out) = let a = c.args in
     let b = c.put_rows-run.ensures.0 in
     let f : Filling (all) a.out.now (b.part ++ rest) c.front-i.result c.front-i.new.out =
     subst (λ (l : List ℕ). Filling (all) a.out.now l c.front-i.result c.front-i.new.out) (begun_rest b (old_tail OfDevices a.file.now) (ranks (sections_in a.file.now) 4 5)) (first) in
@@ -141,7 +141,7 @@ returns c =
     let all : List ℕ = ahead ++ (entries ++ behind) in
     let rest : List ℕ = let a = c.args in join (old_from a.file.now a.x.site c.put_rows-run.result.next) ++ behind in
     let first : Filling (all) c.args.out.now (entries ++ behind) c.front-i.result c.front-i.new.out = record { part = ahead; whole = refl; room = (ready_long c.requires refl).0; wrote = c.front-i.ensures } in
-    let second : Filling (all) c.args.out.now (rest) (c.front-i.result + c.put_rows-run.result.bytes) (back c.front-i.result c.front-i.new.out c.put_rows-run.new.out) =     let a = c.args in
+    let second : Filling (all) c.args.out.now (rest) (c.front-i.result + c.put_rows-run.result.bytes) (back c.front-i.result c.front-i.new.out c.put_rows-run.new.out) = let a = c.args in
     let b = c.put_rows-run.ensures.0 in
     let f : Filling (all) a.out.now (b.part ++ rest) c.front-i.result c.front-i.new.out =
     subst (λ (l : List ℕ). Filling (all) a.out.now l c.front-i.result c.front-i.new.out) (begun_rest b (old_tail OfDevices a.file.now) (ranks (sections_in a.file.now) 4 5)) (first) in

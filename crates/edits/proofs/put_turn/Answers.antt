@@ -26,28 +26,28 @@ slice_bounds-put_row-end c = c.requires.y_value.3
 
 pub slice_bounds-put_row-count-2 : goal.slice_bounds-put_row-count-2
 slice_bounds-put_row-count-2 c =
-    let first : let a = c.args in Filling (turn_bytes a.table.now a.store.now a.y (old_from a.file.now a.site a.p)) a.out.now (row_entry a.table.now a.store.now a.y) c.put_some-n.result c.put_some-n.new.out =     let a = c.args in
+    let first : let a = c.args in Filling (turn_bytes a.table.now a.store.now a.y (old_from a.file.now a.site a.p)) a.out.now (row_entry a.table.now a.store.now a.y) c.put_some-n.result c.put_some-n.new.out = let a = c.args in
     let old = old_from a.file.now a.site a.p in
     record { part = join (take (before a.table.now a.y old) old); whole = refl; room = c.requires.y_value.1; wrote = rw (turn_run c.requires.holds_list.0 c.requires.holds_list.1 c.requires.holds_list.2 a.table.now a.y c.next_place-next.ensures.0) at c.put_some-n.ensures } in
     filling_at (first)
 
 pub slice_bounds-put_row-start-2 : goal.slice_bounds-put_row-start-2
 slice_bounds-put_row-start-2 c =
-    let first : let a = c.args in Filling (turn_bytes a.table.now a.store.now a.y (old_from a.file.now a.site a.p)) a.out.now (row_entry a.table.now a.store.now a.y) c.put_some-n.result c.put_some-n.new.out =     let a = c.args in
+    let first : let a = c.args in Filling (turn_bytes a.table.now a.store.now a.y (old_from a.file.now a.site a.p)) a.out.now (row_entry a.table.now a.store.now a.y) c.put_some-n.result c.put_some-n.new.out = let a = c.args in
     let old = old_from a.file.now a.site a.p in
     record { part = join (take (before a.table.now a.y old) old); whole = refl; room = c.requires.y_value.1; wrote = rw (turn_run c.requires.holds_list.0 c.requires.holds_list.1 c.requires.holds_list.2 a.table.now a.y c.next_place-next.ensures.0) at c.put_some-n.ensures } in
     filling_at (first)
 
 pub put_row-requires : goal.put_row-requires
 put_row-requires c =
-    let first : let a = c.args in Filling (turn_bytes a.table.now a.store.now a.y (old_from a.file.now a.site a.p)) a.out.now (row_entry a.table.now a.store.now a.y) c.put_some-n.result c.put_some-n.new.out =     let a = c.args in
+    let first : let a = c.args in Filling (turn_bytes a.table.now a.store.now a.y (old_from a.file.now a.site a.p)) a.out.now (row_entry a.table.now a.store.now a.y) c.put_some-n.result c.put_some-n.new.out = let a = c.args in
     let old = old_from a.file.now a.site a.p in
     record { part = join (take (before a.table.now a.y old) old); whole = refl; room = c.requires.y_value.1; wrote = rw (turn_run c.requires.holds_list.0 c.requires.holds_list.1 c.requires.holds_list.2 a.table.now a.y c.next_place-next.ensures.0) at c.put_some-n.ensures } in
     let a = c.args in (ap (is_inside a.store.now) (cut_device a.table.now a.y) ∙ c.requires.y_value.0, omega (arith, ap length (entry_cut a.table.now a.store.now a.y), filling_room (first)))
 
 pub overflow_add-bytes : goal.overflow_add-bytes
 overflow_add-bytes c =
-    let first : let a = c.args in Filling (turn_bytes a.table.now a.store.now a.y (old_from a.file.now a.site a.p)) a.out.now (row_entry a.table.now a.store.now a.y) c.put_some-n.result c.put_some-n.new.out =     let a = c.args in
+    let first : let a = c.args in Filling (turn_bytes a.table.now a.store.now a.y (old_from a.file.now a.site a.p)) a.out.now (row_entry a.table.now a.store.now a.y) c.put_some-n.result c.put_some-n.new.out = let a = c.args in
     let old = old_from a.file.now a.site a.p in
     record { part = join (take (before a.table.now a.y old) old); whole = refl; room = c.requires.y_value.1; wrote = rw (turn_run c.requires.holds_list.0 c.requires.holds_list.1 c.requires.holds_list.2 a.table.now a.y c.next_place-next.ensures.0) at c.put_some-n.ensures } in
     let second : let a = c.args in Wrote (row_entry a.table.now a.store.now a.y) (take (length c.put_some-n.new.out - c.put_some-n.result) (drop c.put_some-n.result c.put_some-n.new.out)) c.put_row.new.out c.put_row.result = let a = c.args in rw (entry_cut a.table.now a.store.now a.y) at c.put_row.ensures in
@@ -55,7 +55,7 @@ overflow_add-bytes c =
 
 pub returns : goal.returns
 returns c =
-    let first : let a = c.args in Filling (turn_bytes a.table.now a.store.now a.y (old_from a.file.now a.site a.p)) a.out.now (row_entry a.table.now a.store.now a.y) c.put_some-n.result c.put_some-n.new.out =     let a = c.args in
+    let first : let a = c.args in Filling (turn_bytes a.table.now a.store.now a.y (old_from a.file.now a.site a.p)) a.out.now (row_entry a.table.now a.store.now a.y) c.put_some-n.result c.put_some-n.new.out = let a = c.args in
     let old = old_from a.file.now a.site a.p in
     record { part = join (take (before a.table.now a.y old) old); whole = refl; room = c.requires.y_value.1; wrote = rw (turn_run c.requires.holds_list.0 c.requires.holds_list.1 c.requires.holds_list.2 a.table.now a.y c.next_place-next.ensures.0) at c.put_some-n.ensures } in
     let second : let a = c.args in Wrote (row_entry a.table.now a.store.now a.y) (take (length c.put_some-n.new.out - c.put_some-n.result) (drop c.put_some-n.result c.put_some-n.new.out)) c.put_row.new.out c.put_row.result = let a = c.args in rw (entry_cut a.table.now a.store.now a.y) at c.put_row.ensures in

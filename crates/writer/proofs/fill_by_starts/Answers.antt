@@ -16,19 +16,19 @@ slice_bounds-copy-end c = sym (length-take-le 4 c.args.s.now c.if-s-lt4.false)
 
 pub overflow_add-at : goal.overflow_add-at
 overflow_add-at c =
-    let ended : 4 + c.put_run-at.result ≤ length c.args.s.now =     let a = c.args in
+    let ended : 4 + c.put_run-at.result ≤ length c.args.s.now = let a = c.args in
     entries_end (describe a.kind) a.s.now a.starts.now c.if-s-lt4.false a.out.now c.requires c.copy-2.ensures c.put_run-at.ensures in
     omega (arith, ended)
 
 pub slice_bounds-copy-count : goal.slice_bounds-copy-count
 slice_bounds-copy-count c =
-    let ended : 4 + c.put_run-at.result ≤ length c.args.s.now =     let a = c.args in
+    let ended : 4 + c.put_run-at.result ≤ length c.args.s.now = let a = c.args in
     entries_end (describe a.kind) a.s.now a.starts.now c.if-s-lt4.false a.out.now c.requires c.copy-2.ensures c.put_run-at.ensures in
     omega (arith, ended)
 
 pub slice_bounds-copy-start : goal.slice_bounds-copy-start
 slice_bounds-copy-start c =
-    let ended : 4 + c.put_run-at.result ≤ length c.args.s.now =     let a = c.args in
+    let ended : 4 + c.put_run-at.result ≤ length c.args.s.now = let a = c.args in
     entries_end (describe a.kind) a.s.now a.starts.now c.if-s-lt4.false a.out.now c.requires c.copy-2.ensures c.put_run-at.ensures in
     omega (arith, ended)
 
