@@ -8,7 +8,7 @@ use borrow.Author.Rules.{rules}
 use Rattle.ready.proofs.payload_of.Given as goal
 
 abbrev pub invariant-loop-at : goal.invariant-loop-at
-invariant-loop-at l = (s : List ℕ) (l : List (List ℕ)) → NamesSections s l l.table → Seeks l.id s l.table l l.at
+invariant-loop-at l = (s : List ℕ) (k : List (List ℕ)) → NamesSections s k l.table → Seeks l.id s l.table k l.at
 
 abbrev pub decreases-loop-at : goal.decreases-loop-at
 decreases-loop-at l = length l.table - l.at
