@@ -7,7 +7,7 @@ use Prim.Native.Nat.{ℕ, zero, suc}
 use lib.ListN.{length, replicate, length-replicate}
 use lib.Dec.{T, lit<}
 use seplogic.Ra.Ura.{Ura}
-use seplogic.Ra.TreeShare.{full_share}
+use base.Fraction.{full_share}
 use mir.Syntax.{Width, int_big, w8, ty_int, ty_array}
 use mir.Val.{Val, vint, Fits, WT, has_ty}
 use base.Logic.{ent, ex, via, guard_i}

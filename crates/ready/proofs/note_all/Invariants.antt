@@ -1,0 +1,17 @@
+use Rattle.format.specs.Format.{span}
+use Rattle.ready.specs.Steps.{Stands}
+use Rattle.ready.proofs.Walks.{Passing, passing_start, passing_next, passing_end, pass-room}
+use Rattle.entries.specs.Code.{describe}
+use mathlib.Core.Path.{◌≡◌, refl, ◌∙◌}
+use mathlib.Core.List.{List}
+use Prim.Native.Nat.{ℕ, ◌+◌, ◌-◌, ◌≤◌}
+use lib.ListN.{length, drop}
+use native.Mathlib.Omega.{arith}
+use borrow.Author.Rules.{rules}
+use Rattle.ready.proofs.note_all.Given as goal
+
+abbrev pub invariant-loop-i : goal.invariant-loop-i
+invariant-loop-i l = (length l.notes ≡ length l.initial.notes) × (l.at ≤ length l.list + 4) × ((m : List (List ℕ)) → Stands (describe l.kind) l.list m → Passing (describe l.kind) l.list m l.n l.initial.notes l.notes l.at l.i)
+
+abbrev pub decreases-loop-i : goal.decreases-loop-i
+decreases-loop-i l = l.n - l.i
