@@ -1,12 +1,12 @@
 // Many devices at once, from entries by value: each is stored as a record among bytes, and the call over bytes answers for the records.
-// The call over a slice of structs, in `cimbrolau`, is made of these: the borrow checker covers no function that takes such a slice, so all that it calls takes an entry by value.
+// The call over a slice of structs, in `cimbrolau`, is made of these, each of which takes an entry by value.
 #![tactic(auto)]
 
 ghost use Rattle.std.specs.Prelude.{◌≡◌, ◌+◌, ◌*◌, ◌≤◌, ◌<◌, ◌^◌, length, take};
 ghost use Rattle.wire.specs.Parts.{Wrote};
 ghost use Rattle.cards.specs.Cards.{WritesBeside};
 ghost use Rattle.cards.specs.Whole.{many_card};
-ghost use Rattle.newcomers.specs.Records.{looked_at, record_of, record_put, stored_in};
+ghost use Rattle.newcomers.specs.Records.{looked_at, record_of, record_put, stored_in, WideEntry};
 
 use aerosnap::NewDevice;
 use cards::{Card, Edited};
@@ -46,9 +46,10 @@ fn put_at(records: &mut [u8], i: usize, d: NewDevice) -> usize
     i + 1
 }
 
-// Record i of a table in bytes, if i is among the entries that are looked at, and the next number, which never passes theirs.
+// Record i of a table in bytes, if i is among the entries that are looked at, and the next number, which never passes theirs. An entry by value has numbers as wide as its fields.
 pub fn put(records: &mut [u8], i: usize, d: NewDevice) -> usize
-    ensures { (result ≡ looked_at (i + 1)) × (records.new ≡ stored_in i d records.old) }
+    ensures stored { (result ≡ looked_at (i + 1)) × (records.new ≡ stored_in i d records.old) }
+    ensures wide { WideEntry d }
 {
     if i < 4097 {
         return put_at(records, i, d);

@@ -2,8 +2,8 @@ use Rattle.newcomers.proofs.Laws.{near_stored, far_stored}
 use borrow.Author.Rules.{rules}
 use Rattle.newcomers.proofs.put.Goals as goal
 
-pub returns-then-i-lt4097 : goal.returns-then-i-lt4097
-returns-then-i-lt4097 c = let a = c.args in near_stored a.i a.d a.records.now c.if-i-lt4097.true c.put_at.ensures
+pub returns-then-i-lt4097-clause-stored : goal.returns-then-i-lt4097-clause-stored
+returns-then-i-lt4097-clause-stored c = let a = c.args in near_stored a.i a.d a.records.now c.if-i-lt4097.true c.put_at.ensures
 
-pub returns : goal.returns
-returns c = let a = c.args in far_stored a.i a.d a.records.now c.if-i-lt4097.false
+pub returns-clause-stored : goal.returns-clause-stored
+returns-clause-stored c = let a = c.args in far_stored a.i a.d a.records.now c.if-i-lt4097.false
