@@ -4,38 +4,29 @@ use mathlib.Core.Path.{◌≡◌, refl, sym, ◌∙◌, ap, subst}
 use mathlib.Core.Logic.{◌≢◌}
 use mathlib.Core.List.{List, [], ◌∷◌, ◌++◌, map, append-nil, append_assoc}
 use mathlib.Core.Bool.{Bool, true, false, cond}
-use Prim.Native.Nat.{ℕ, zero, suc, ◌+◌, ◌-◌, ◌≤◌, ◌<◌}
+use Prim.Native.Nat.{ℕ, ◌+◌, ◌-◌, ◌≤◌}
 use native.Mathlib.Omega.{arith}
-use lib.ListN.{length, take, drop, get_or, length-append, length-drop, take-append-drop, drop_of_length-le}
-use lib.Seq.{take-append_seam, drop-append_seam, drop-drop, length-take-le}
-use lib.Dec.{leb, ltb, eqb}
-use borrow.Author.Tests.{leb-true, leb-false, le-leb, lt-ltb, ltb-true, ltb-false, eq-eqb, ne_eqb, eqb-true, eqb-false}
-use Rattle.answer.specs.Outcome.{Outcome, taken, after}
-use Rattle.answer.proofs.Checks.{and_true, pass-checked}
-use Rattle.answer.proofs.Outcomes.{taken_is}
-use Rattle.wire.specs.Numbers.{le_at}
-use Rattle.wire.proofs.Numbers.{le_at-append, le_at-drop, le_at_here}
+use lib.ListN.{length, take, drop, get_or, length-append, length-drop}
+use lib.Seq.{take-append_seam, drop-append_seam, drop-drop}
+use lib.Dec.{eqb}
+use borrow.Author.Tests.{leb-true, le-leb, eq-eqb, ne_eqb, eqb-true, eqb-false}
 use Rattle.order.specs.Keyed.{Every, Fresh, flat, keep}
 use Rattle.order.specs.Entries.{join}
 use Rattle.order.proofs.Folds.{flat_append, every_imp}
 use Rattle.order.proofs.Keeps.{keep_append, keep-none}
 use Rattle.lists.specs.Lists.{whole}
 use Rattle.aerosnap.specs.Known.{known, slot}
-use Rattle.aerosnap.specs.Payloads.{Body}
-use Rattle.aerosnap.specs.File.{file_most, sections_most, id_of, version_of, length_of, flags_of, payload_of, slot_of, fits_in, frame_checks, ruled, section_of, file_of}
+use Rattle.aerosnap.specs.File.{file_most, id_of, slot_of}
 use Rattle.aerosnap.specs.Rules.{IsSection, IsFile, is_known_section}
-use Rattle.aerosnap.specs.Content.{tidied, is_id}
-use Rattle.aerosnap.specs.Salvage.{Part, keeps, loses, bytes_in, kept_by, length_of_part, read_part, part_by, part_of, parts_from, parts_of, all_kept}
+use Rattle.aerosnap.specs.Content.{is_id}
+use Rattle.aerosnap.specs.Salvage.{Part, keeps, loses, bytes_in, kept_by, parts_of, all_kept}
 use Rattle.aerosnap.proofs.Judged.{span, part_stands}
-use Rattle.aerosnap.proofs.Parts.{part_length, part_kept, section_fits, Kept, took}
-use Rattle.aerosnap.proofs.Rescued.{kept_valid, no_loss, no_loss_taken}
-use Rattle.aerosnap.proofs.Slots.{Once, rest_once, first_once, known_range}
-use Rattle.sections.specs.Walks.{sections_in}
+use Rattle.aerosnap.proofs.Rescued.{kept_valid}
+use Rattle.aerosnap.proofs.Slots.{Once, rest_once, first_once}
 use Rattle.sections.specs.Index.{starts_of, kept}
-use Rattle.sections.specs.Directory.{directory_places, Seat, seats, seat_of, others_in}
-use Rattle.sections.proofs.Kept.{kept_all, body_other, starts_most}
+use Rattle.sections.specs.Directory.{directory_places, Seat, seats, seat_of}
+use Rattle.sections.proofs.Kept.{kept_all, starts_most}
 use Rattle.sections.proofs.Reading.{Held}
-use Rattle.sections.proofs.Rules.{ruled_not}
 use Rattle.sections.specs.Steps.{held, HasDirectory}
 use Rattle.canon.specs.Steps.{bytes_for, mine, ranked, WholeSection}
 use Rattle.canon.proofs.Order.{mine_here, mine_not}

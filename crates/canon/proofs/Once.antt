@@ -6,7 +6,7 @@ use Prim.Native.Nat.{ℕ}
 use lib.ListN.{length}
 use Rattle.answer.specs.declared.Answer.{Answer}
 use Rattle.answer.specs.Calls.{Writes}
-use Rattle.answer.proofs.Once.{equal_once, writes_once}
+use Rattle.answer.proofs.Once.{writes_once}
 use Rattle.wire.specs.Parts.{Wrote}
 use Rattle.wire.proofs.Once.{wrote_once}
 use Rattle.aerosnap.specs.Calls.{canonical_call}

@@ -8,22 +8,21 @@ use native.Mathlib.Omega.{arith}
 use lib.ListN.{length, take, drop, get_or, length-append, length-drop, take-append-drop, drop_of_length-le}
 use lib.Seq.{drop-drop, length-take-le}
 use lib.Dec.{leb, ltb, eqb}
-use borrow.Author.Tests.{leb-true, le-leb, lt-leb, lt-ltb, ltb-true, ltb-false, eq-eqb, ne_eqb}
+use borrow.Author.Tests.{leb-true, le-leb, lt-leb, lt-ltb, ltb-true, ltb-false, ne_eqb}
 use Rattle.answer.specs.Outcome.{Outcome, taken, after}
 use Rattle.answer.proofs.Checks.{and_true, pass-checked}
 use Rattle.wire.specs.Numbers.{le_at}
 use Rattle.wire.specs.Parts.{put, Wrote}
-use Rattle.wire.proofs.Numbers.{le_at-append, le_at-drop, le_at_here}
+use Rattle.wire.proofs.Numbers.{le_at-append, le_at-drop}
 use Rattle.wire.proofs.Parts.{none, length_tail}
-use Rattle.wire.proofs.Filling.{Filling, filling_none, filling_long, filling_at, filling_next_fits, filling_next, filling_end}
+use Rattle.wire.proofs.Filling.{Filling, filling_none, filling_long, filling_next_fits, filling_next, filling_end}
 use Rattle.writer.proofs.Fits.{wrote_first}
 use Rattle.order.specs.Entries.{join}
-use Rattle.lists.specs.Lists.{whole}
 use Rattle.aerosnap.specs.Known.{known}
 use Rattle.aerosnap.specs.Payloads.{Body}
 use Rattle.aerosnap.specs.File.{sections_most, id_of, version_of, length_of, flags_of, payload_of, fits_in, frame_checks, ruled, section_of}
 use Rattle.aerosnap.specs.Content.{tidied}
-use Rattle.aerosnap.specs.Salvage.{Part, keeps, loses, bytes_in, kept_by, length_of_part, read_part, part_by, part_of, parts_from, parts_of, all_kept}
+use Rattle.aerosnap.specs.Salvage.{Part, keeps, loses, bytes_in, kept_by, length_of_part, read_part, part_by, part_of, parts_from, all_kept}
 use Rattle.aerosnap.proofs.Parts.{part_length, part_kept, section_fits, Kept, took}
 use Rattle.aerosnap.proofs.Slots.{known_range}
 use Rattle.sections.specs.Directory.{others_in}

@@ -9,18 +9,17 @@ use native.Mathlib.Omega.{arith}
 use lib.ListN.{length, take, drop, length-append, length-drop, take-append-drop}
 use lib.Seq.{take-add, take_all, length-take-le, get_or-drop}
 use lib.Dec.{eqb, leb}
-use borrow.Author.Tests.{eq-eqb, ne_eqb, eqb-true, eqb-false, leb-true, leb-false, le-leb, lt-leb}
+use borrow.Author.Tests.{eq-eqb, ne_eqb, leb-true, leb-false, le-leb, lt-leb}
 use Rattle.answer.specs.Outcome.{taken}
 use Rattle.wire.specs.Numbers.{Bytes, le_at, bytes_of}
 use Rattle.wire.specs.Parts.{put, Wrote}
 use Rattle.wire.proofs.Numbers.{bytes_of-le_at}
 use Rattle.wire.proofs.Parts.{none, tail_whole}
 use Rattle.wire.proofs.Filling.{Filling, filling_room, filling_done}
-use Rattle.order.specs.Keyed.{sort}
 use Rattle.order.specs.Entries.{join}
 use Rattle.entries.specs.Kinds.{Description}
 use Rattle.entries.proofs.Lawful.{Lawful}
-use Rattle.lists.specs.Lists.{whole, entries, tail_of}
+use Rattle.lists.specs.Lists.{whole, tail_of}
 use Rattle.lists.proofs.Ordered.{list_order}
 use Rattle.writer.specs.Runs.{entry_by, fits, in_key_order, by_starts}
 use Rattle.writer.specs.Steps.{Listed, sorted_bytes}

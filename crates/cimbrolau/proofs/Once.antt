@@ -1,7 +1,7 @@
 -- Each promise of the boundary fixes its answer and every byte of lent memory: any two that it allows are equal.
 -- A promise here is that of the call behind it, so the laws are those of answers: one for calls that write nothing, one for those that write.
 -- Assumes nothing.
-use mathlib.Core.Path.{◌≡◌, sym, ◌∙◌}
+use mathlib.Core.Path.{◌≡◌}
 use mathlib.Core.List.{List}
 use Prim.Native.Nat.{ℕ}
 use lib.ListN.{length}

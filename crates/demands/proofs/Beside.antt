@@ -2,15 +2,13 @@
 -- Assumes nothing.
 use mathlib.Core.Path.{◌≡◌, refl, sym, ◌∙◌, ap, subst}
 use mathlib.Core.Logic.{◌≢◌, ◌↔◌, ◌⊎◌, inl, inr}
-use mathlib.Core.Bool.{true, false}
-use mathlib.Core.List.{List, [], ◌∷◌, ◌++◌}
+use mathlib.Core.Bool.{true}
+use mathlib.Core.List.{List, ◌++◌}
 use Prim.Native.Nat.{ℕ, ◌≤◌, ◌<◌}
 use native.Mathlib.Omega.{arith}
-use lib.ListN.{length, take, drop}
-use lib.Seq.{take-append_seam}
-use Rattle.answer.specs.Numbers.{ROOM, ABSENT, CARD, is_number}
+use lib.ListN.{length, drop}
+use Rattle.answer.specs.Numbers.{ROOM, CARD, is_number}
 use Rattle.answer.specs.Outcome.{Outcome, taken, refused, Faulty, Checks, checked, Pass, after, room, fitting, First}
-use Rattle.answer.specs.Calls.{memory}
 use Rattle.answer.proofs.Checks.{checked-pass, pass-checked, checked-append, checked-after}
 use Rattle.answer.proofs.Outcomes.{taken_is, taken_refused, after_taken}
 use Rattle.answer.proofs.Firsts.{checked-first, after_refused}
@@ -18,17 +16,15 @@ use Rattle.answer.proofs.Table.{number_some, fault_number, fault_some, fault_no_
 use Rattle.answer.proofs.Once.{equal_once}
 use Rattle.wire.specs.Numbers.{Bytes}
 use Rattle.order.specs.Keyed.{Every}
-use Rattle.order.specs.Adding.{Chain}
 use Rattle.aerosnap.specs.Content.{Content, content_at, render, IsCanonical}
-use Rattle.aerosnap.specs.Adding.{Item, Name, name_of, grown}
-use Rattle.aerosnap.specs.Edits.{stands, Edit, add, remove, replace, WideEdit, apply, edit_checks, edit_to, edit_file, EditCall, Call}
-use Rattle.aerosnap.specs.Many.{new_devices, new_items, further, Beyond, add_all, many}
+use Rattle.aerosnap.specs.Adding.{grown}
+use Rattle.aerosnap.specs.Edits.{Edit, WideEdit, apply, edit_checks, edit_to, edit_file, EditCall}
+use Rattle.aerosnap.specs.Many.{new_devices, new_items, further, Beyond, add_all}
 use Rattle.aerosnap.proofs.Refusals.{Refuses, checked_refuses, after_refuses}
 use Rattle.aerosnap.proofs.Named.{content_faulty, edit_numbered, content_refuses, edit_to_refuses}
 use Rattle.aerosnap.proofs.Passing.{edit_exactly, edit_exactly_to}
 use Rattle.aerosnap.proofs.Canonical.{taken_fits}
-use Rattle.aerosnap.proofs.AnyOrder.{any_order, no_two_sets, final}
-use Rattle.aerosnap.proofs.Edited.{edit_gives, undo, replace_twice}
+use Rattle.aerosnap.proofs.Edited.{edit_gives}
 use Rattle.aerosnap.proofs.Together.{wide_table, all_fits, all_refuses}
 use Rattle.aerosnap.proofs.Rooms.{last_room, many-room}
 use Rattle.cards.specs.declared.Card.{Card}

@@ -26,7 +26,7 @@ use Rattle.tables.specs.Tables.{rows_at}
 use Rattle.aerosnap.specs.File.{file_of}
 use Rattle.aerosnap.specs.Content.{Content, is_id, content_at, render, canonical}
 use Rattle.aerosnap.specs.Tables.{placed, list_rows, section_rows, table}
-use Rattle.aerosnap.specs.Adding.{Item, device, disk, device_named, disk_named, own_checks, add_checks}
+use Rattle.aerosnap.specs.Adding.{Item, device, disk, own_checks, add_checks}
 use Rattle.aerosnap.specs.Edits.{Edit, add, remove, replace, apply, edit_checks, edit_to, edit_file}
 use Rattle.aerosnap.proofs.Refusals.{Refuses, checked_refuses, after_refuses, refuses_more}
 use Rattle.aerosnap.proofs.Named.{checked_faulty, after_faulty, file_faulty, content_faulty}

@@ -11,7 +11,7 @@ use borrow.Author.Tests.{leb-true, leb-false, lt-leb}
 use lib.Dec.{leb}
 use lib.ListN.{length, drop}
 use Rattle.answer.specs.Numbers.{ROOM}
-use Rattle.answer.specs.Outcome.{Outcome, taken, refused, checked, Pass, after, fitting}
+use Rattle.answer.specs.Outcome.{Outcome, taken, refused, checked, after, fitting}
 use Rattle.answer.proofs.Outcomes.{after_taken}
 use Rattle.wire.specs.Numbers.{Bytes, le_at}
 use Rattle.wire.proofs.Numbers.{le_at_bound, le_at-bytes_of}
@@ -27,7 +27,7 @@ use Rattle.aerosnap.specs.Known.{DEVICES, DISKS, CPUS, MMUS, known}
 use Rattle.aerosnap.specs.Payloads.{list, body_of}
 use Rattle.aerosnap.specs.File.{file_most, file_of}
 use Rattle.aerosnap.specs.Rules.{IsSection}
-use Rattle.aerosnap.specs.Content.{Content, content_of, content_at, render, entries_in, canonical}
+use Rattle.aerosnap.specs.Content.{content_of, content_at, render, entries_in, canonical}
 use Rattle.aerosnap.specs.Tables.{placed, table_in, list_rows, section_rows, table, list_table}
 use Rattle.aerosnap.proofs.Slots.{Once}
 use Rattle.aerosnap.proofs.Taken.{file_sound, taken_exactly, file_unique}

@@ -11,7 +11,6 @@ use lib.ListN.{length, drop, length-append}
 use Rattle.answer.specs.Numbers.{VALUE}
 use Rattle.answer.specs.Outcome.{Outcome, taken, refused, Checks, checked, Pass, after, moved, room, First, FirstOr, FaultAt}
 use Rattle.answer.proofs.Outcomes.{taken_refused}
-use Rattle.answer.proofs.Checks.{checked-append}
 use Rattle.wire.specs.Numbers.{le_at}
 use Rattle.format.specs.Format.{Is, read}
 use Rattle.order.specs.Keyed.{Every, Apart, has, inserts}

@@ -1,27 +1,26 @@
 -- META of a file, as it is answered: its fields are those of the payload, and the label's place and length name its bytes.
 -- Assumes nothing.
 use mathlib.Core.Path.{◌≡◌, refl, sym, ◌∙◌, ap, subst}
-use mathlib.Core.Logic.{◌↔◌, ◌⊎◌, inl, inr}
+use mathlib.Core.Logic.{◌⊎◌, inl, inr}
 use mathlib.Core.Bool.{Bool, true, false, cond}
 use mathlib.Core.List.{List, [], ◌∷◌, ◌++◌, append_assoc}
-use Prim.Native.Nat.{ℕ, suc, ◌+◌, ◌≤◌, ◌<◌}
+use Prim.Native.Nat.{ℕ, ◌+◌, ◌<◌}
 use native.Mathlib.Omega.{arith}
-use lib.ListN.{length, take, drop, length-append, length-drop, take-append-drop}
+use lib.ListN.{length, take, drop, length-append, take-append-drop}
 use lib.Seq.{drop-drop, take_at, drop_at}
-use lib.Dec.{leb, ltb, eqb}
+use lib.Dec.{leb, eqb}
 use borrow.Author.Tests.{leb-true, leb-false, eqb-true, eqb-false, ne_eqb}
 use Rattle.answer.specs.Outcome.{Outcome, taken, refused, after}
 use Rattle.answer.proofs.Outcomes.{taken_is, taken_refused}
 use Rattle.wire.specs.Numbers.{le, le_at}
 use Rattle.wire.proofs.Numbers.{le_at_here, le_at_front, le_at-head}
-use Rattle.utf8.specs.Grammar.{Text}
 use Rattle.format.specs.Format.{Is, option, bytes, text}
-use Rattle.order.specs.Keyed.{Every, flat, keep}
+use Rattle.order.specs.Keyed.{flat, keep}
 use Rattle.order.proofs.Keeps.{of_key}
 use Rattle.aerosnap.specs.Known.{META}
 use Rattle.aerosnap.specs.Payloads.{meta_form}
-use Rattle.aerosnap.specs.File.{id_of, version_of, file_of}
-use Rattle.aerosnap.specs.Rules.{IsBody, IsFile, IsSection}
+use Rattle.aerosnap.specs.File.{id_of, file_of}
+use Rattle.aerosnap.specs.Rules.{IsFile, IsSection}
 use Rattle.aerosnap.specs.Content.{is_id, rank, tidy, Content, content_of, content_at, written_sections}
 use Rattle.aerosnap.proofs.Taken.{file_sound}
 use Rattle.aerosnap.proofs.Ranks.{rank_id, Only, absent as not_there, found, only_one}
@@ -29,7 +28,7 @@ use Rattle.aerosnap.proofs.Ranked.{ranked}
 use Rattle.sections.specs.Walks.{place_of}
 use Rattle.sections.proofs.Found.{Here, none-there, there}
 use Rattle.snapshot.specs.declared.MetaFields.{MetaFields}
-use Rattle.snapshot.specs.MetaSection.{silent, absent, time_in, label_in, meta_at, meta_in, meta_call, as_meta}
+use Rattle.snapshot.specs.MetaSection.{silent, absent, time_in, label_in, meta_at, meta_in, as_meta}
 use Rattle.snapshot.proofs.MetaSection.{none_said, one_said}
 use Rattle.demands.specs.Meta.{MetaAnswer, HasMeta, MayNumber, MayLabel, SaysMeta, unplaced, Meta}
 use Rattle.demands.proofs.Text.{texts}

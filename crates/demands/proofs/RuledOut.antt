@@ -21,12 +21,11 @@ use Rattle.aerosnap.specs.File.{ruled, section_of, sections, file_of}
 use Rattle.aerosnap.specs.Content.{Content, content_at, render, IsCanonical}
 use Rattle.aerosnap.specs.Adding.{Item, device, disk, Wide, list_in, entry_of}
 use Rattle.aerosnap.proofs.Items.{with_item}
-use Rattle.aerosnap.specs.Edits.{Edit, add, Call, edit_file, edit_to}
+use Rattle.aerosnap.specs.Edits.{Edit, add, Call, edit_to}
 use Rattle.aerosnap.specs.Calls.{canonical_call}
 use Rattle.aerosnap.proofs.Canonical.{canonical_exactly}
 use Rattle.aerosnap.proofs.Added.{add_exactly, grows}
 use Rattle.aerosnap.proofs.AnyOrder.{call_gives}
-use Rattle.aerosnap.proofs.Made.{call_made}
 use Rattle.cards.specs.declared.Card.{Card}
 use Rattle.cards.specs.declared.Edited.{Edited}
 use Rattle.cards.specs.Cards.{edit_card_to, edit_card, bytes_beside, answer_beside}

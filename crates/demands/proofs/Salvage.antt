@@ -1,12 +1,12 @@
 -- Request 11, from the laws of parts (crates/aerosnap/proofs/Parts.antt, Rescued.antt, Judged.antt) and the examples by computation (Losses.antt).
 -- Assumes nothing.
-use mathlib.Core.Path.{◌≡◌, refl, sym, ◌∙◌, ap, subst}
+use mathlib.Core.Path.{◌≡◌, refl, sym, ◌∙◌, ap}
 use mathlib.Core.Logic.{◌≢◌, ◌⊎◌, inl, inr}
 use mathlib.Core.Bool.{Bool, true, false}
 use mathlib.Core.List.{List, [], ◌∷◌, ◌++◌, map, append-nil, append_assoc}
 use Prim.Native.Nat.{ℕ, ◌≤◌, ◌<◌}
 use native.Mathlib.Omega.{arith}
-use lib.ListN.{length, take, drop, replicate, length-append, length-replicate}
+use lib.ListN.{length, drop, replicate, length-append, length-replicate}
 use lib.Seq.{drop_at}
 use lib.Dec.{leb}
 use borrow.Author.Tests.{leb-true, leb-false}
@@ -15,18 +15,17 @@ use Rattle.answer.specs.Outcome.{Outcome, taken, refused, Pass, Checks, checked,
 use Rattle.answer.proofs.Checks.{Refused, row, later, behind, checked_refused}
 use Rattle.answer.proofs.Outcomes.{taken_refused}
 use Rattle.answer.proofs.Table.{number_some}
-use Rattle.order.specs.Keyed.{Every}
 use Rattle.order.specs.Entries.{join}
-use Rattle.aerosnap.specs.File.{file_most, header, header_checks, fits_in}
+use Rattle.aerosnap.specs.File.{file_most, header, header_checks}
 use Rattle.aerosnap.specs.Content.{content_of}
 use Rattle.aerosnap.specs.Salvage.{Part, loses, bytes_in, parts_of, loss_rows, Rescued, rescued_of, fitting_both, salvage}
 use Rattle.aerosnap.proofs.Refusals.{Refuses, checked_refuses, after_refuses}
 use Rattle.aerosnap.proofs.Rescued.{file_parts, no_loss, salvage_exactly, salvage_is, accepted_salvage}
 use Rattle.aerosnap.proofs.Judged.{kept_taken, lost_refused, lost_stop, lost_stands, row_stands}
-use Rattle.aerosnap.proofs.Examples.{p1, p4, p5, p6}
+use Rattle.aerosnap.proofs.Examples.{p1, p4, p6}
 use Rattle.aerosnap.proofs.Losses.{losses}
 use Rattle.salvage.specs.declared.Salvaged.{Salvaged}
-use Rattle.salvage.specs.Salvaging.{salvaged_answer, out_after, losses_after, Salvages}
+use Rattle.salvage.specs.Salvaging.{salvaged_answer, Salvages}
 use Rattle.salvage.proofs.Once.{salvage_once}
 use Rattle.demands.specs.Demand1.{InTable}
 use Rattle.demands.specs.Salvage.{place_behind, Salvaging, SalvageProgram, RuledOutSalvage}

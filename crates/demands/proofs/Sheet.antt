@@ -4,7 +4,7 @@ use mathlib.Core.Path.{◌≡◌, refl, sym, ap, ◌∙◌, subst}
 use mathlib.Core.Logic.{◌≢◌, ◌↔◌, ◌⊎◌, inl, inr}
 use mathlib.Core.Bool.{Bool, true, false, ◌&&◌, ◌||◌, cond}
 use mathlib.Core.List.{List, [], ◌∷◌, ◌++◌, append-nil}
-use Prim.Native.Nat.{ℕ, ◌+◌, ◌-◌, ◌*◌, ◌≤◌, ◌<◌}
+use Prim.Native.Nat.{ℕ, ◌+◌, ◌-◌, ◌≤◌, ◌<◌}
 use native.Mathlib.Omega.{arith}
 use lib.Dec.{leb, ltb, eqb}
 use lib.ListN.{length, take, drop, get_or, length-append, length-drop, take-append-drop, drop_of_length-le}
@@ -21,10 +21,8 @@ use Rattle.wire.specs.Numbers.{Bytes, le_at, bytes_of}
 use Rattle.wire.proofs.Numbers.{bytes_of-le_at, le_at-append}
 use Rattle.entries.specs.States.{cpu_length, extends, cpu_sized, registers, switches}
 use Rattle.edits.proofs.Writing.{drop-take}
-use Rattle.wire.specs.Parts.{splice}
 use Rattle.wire.proofs.Parts.{length-splice}
-use Rattle.access.specs.declared.Access.{Access}
-use Rattle.access.specs.Access.{word_of, access_of, Shows}
+use Rattle.access.specs.Access.{word_of}
 use Rattle.access.proofs.Masks.{shows}
 use Rattle.fields.specs.declared.State.{State}
 use Rattle.fields.specs.declared.State.TheVariants.{Cpu, Mmu}

@@ -1,15 +1,15 @@
 -- Request 4: tails are taken, kept and part of the content; edits keep them; longer CPU states.
 -- Assumes nothing.
-use mathlib.Core.Path.{◌≡◌, refl, sym, ◌∙◌, ap, subst}
+use mathlib.Core.Path.{◌≡◌, refl, sym, ◌∙◌, ap}
 use mathlib.Core.Logic.{◌≢◌}
-use mathlib.Core.Bool.{Bool, true, false, ◌&&◌, ◌||◌, cond, false≢true}
-use mathlib.Core.List.{List, [], ◌∷◌, ◌++◌, append-nil, append_assoc}
-use Prim.Native.Nat.{ℕ, suc, ◌+◌, ◌≤◌, ◌<◌}
+use mathlib.Core.Bool.{Bool, true, false, ◌&&◌, ◌||◌, false≢true}
+use mathlib.Core.List.{List, [], ◌∷◌, ◌++◌, append_assoc}
+use Prim.Native.Nat.{ℕ, ◌+◌, ◌<◌}
 use native.Mathlib.Omega.{arith}
-use lib.ListN.{length, take, drop, length-append}
-use lib.Seq.{drop-append-le, take_at, drop_at, take-append_seam}
+use lib.ListN.{length, take, length-append}
+use lib.Seq.{drop-append-le, drop_at, take-append_seam}
 use lib.Dec.{leb, eqb}
-use borrow.Author.Tests.{le-leb, lt-leb, ne_eqb, eqb-true, leb-true}
+use borrow.Author.Tests.{le-leb, lt-leb, ne_eqb, eqb-true}
 use Rattle.answer.specs.Numbers.{SHAPE, VALUE}
 use Rattle.answer.specs.Outcome.{Outcome, taken, refused, checked, after, moved, done}
 use Rattle.answer.proofs.Checks.{and_true, checked-pass}
@@ -23,7 +23,7 @@ use Rattle.entries.specs.declared.Kind.TheVariants.{Controllers}
 use Rattle.entries.specs.Code.{describe}
 use Rattle.entries.specs.States.{cpu_length, extends, cpu_sized, cpu_length_checks, cpu_state, cpu_whole, held_checks, held_state, registers, switches}
 use Rattle.entries.proofs.Lawful.{lawful}
-use Rattle.lists.specs.Lists.{list_at, entries, tail_of, list_bytes, IsList}
+use Rattle.lists.specs.Lists.{entries, tail_of, list_bytes, IsList}
 use Rattle.lists.proofs.Taken.{list_entries, list_tail, list_sound, closed_tail}
 use Rattle.aerosnap.specs.declared.Side.{Side}
 use Rattle.aerosnap.specs.declared.Side.TheVariants.{OfDevices, OfDisks}
@@ -32,7 +32,7 @@ use Rattle.aerosnap.specs.Payloads.{meta_form, meta, payload, body_of}
 use Rattle.aerosnap.specs.File.{id_of, version_of}
 use Rattle.aerosnap.specs.Content.{framed, listed, tidied, tidy, Content, kind_at, id_at, entries_at, tail_at, with_list, content_at}
 use Rattle.aerosnap.specs.Adding.{Item, Name, side_of, grown}
-use Rattle.aerosnap.specs.Edits.{key_of, stands, Edit, remove, target, changed, apply}
+use Rattle.aerosnap.specs.Edits.{key_of, stands, remove, target, apply}
 use Rattle.order.specs.Keyed.{Every, without}
 use Rattle.order.specs.Entries.{join}
 use Rattle.aerosnap.proofs.Canonical.{content_is, same_content}

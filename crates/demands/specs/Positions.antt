@@ -10,7 +10,6 @@ use Rattle.order.specs.Keyed.{Every, sort}
 use Rattle.order.specs.Entries.{join}
 use Rattle.entries.specs.Kinds.{devices, disks, cpus, mmus}
 use Rattle.tables.specs.declared.Table.TheVariants.{Devices, Disks, Cpus, Mmus, Controllers}
-use Rattle.tables.specs.Tables.{ROW}
 use Rattle.tables.specs.Named.{NamesFramed, Names, Each, position_of, numbers_from}
 use Rattle.aerosnap.specs.Known.{DEVICES, DISKS, CPUS, MMUS}
 use Rattle.aerosnap.specs.Content.{entries_in}

@@ -3,7 +3,7 @@
 -- Assumes nothing.
 use Rattle.std.specs.Prelude.{◌≡◌, ◌≢◌, ◌↔◌, ◌⊎◌, true, false, List, [], ◌∷◌, ◌++◌, map, ℕ, ◌+◌, ◌≤◌, ◌<◌, length, take, drop}
 use Rattle.answer.specs.Numbers.{CUT, ROOM}
-use Rattle.answer.specs.Outcome.{Outcome, taken, refused, Pass, after, FirstOr}
+use Rattle.answer.specs.Outcome.{taken, refused, Pass, after, FirstOr}
 use Rattle.order.specs.Entries.{join}
 use Rattle.aerosnap.specs.File.{header, header_checks, fits_in}
 use Rattle.aerosnap.specs.Content.{content_of, content_at, IsCanonical}

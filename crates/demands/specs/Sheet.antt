@@ -5,11 +5,10 @@
 use Rattle.std.specs.Prelude.{◌≡◌, ◌≢◌, ◌↔◌, ◌⊎◌, true, List, [], ◌∷◌, ◌++◌, ℕ, ◌+◌, ◌≤◌, ◌<◌, leb, length, take, drop, get_or}
 use Rattle.answer.specs.declared.Answer.{Answer}
 use Rattle.answer.specs.Numbers.{SHAPE, VALUE, is_among}
-use Rattle.answer.specs.Outcome.{Outcome, taken, refused, Checks, Pass, First, room, fitting}
+use Rattle.answer.specs.Outcome.{Outcome, taken, refused, Pass, First, room, fitting}
 use Rattle.answer.specs.Calls.{asked}
 use Rattle.wire.specs.Numbers.{Bytes}
-use Rattle.access.specs.declared.Access.{Access}
-use Rattle.access.specs.Access.{word_of, access_of, Shows}
+use Rattle.access.specs.Access.{access_of, Shows}
 use Rattle.fields.specs.declared.State.{State}
 use Rattle.fields.specs.declared.State.TheVariants.{Cpu, Mmu}
 use Rattle.fields.specs.Layout.{row_at}
@@ -21,7 +20,7 @@ use Rattle.mmu_sheet.specs.declared.MmuShown.{MmuShown}
 use Rattle.sheet.specs.Sheet.{cpu_of, fields_over, cpu_over}
 use Rattle.sheet.specs.Members.{cpu_member}
 use Rattle.sheet.specs.Calls.{cpu_count, cpu_shown, cpu_call, cpu_over_checks, cpu_over_call}
-use Rattle.mmu_sheet.specs.Sheet.{mmu_of, mmu_over}
+use Rattle.mmu_sheet.specs.Sheet.{mmu_of}
 use Rattle.mmu_sheet.specs.Members.{mmu_member}
 use Rattle.mmu_sheet.specs.Calls.{mmu_shown, mmu_call, mmu_over_call}
 use Rattle.demands.specs.Demand1.{Fills}

@@ -1,6 +1,6 @@
 -- Request 12, sizes kept up to date: a card with a canonical file's length, sections, devices and summed device payload goes in and comes back with every edit, alone or many at once.
 -- Assumes nothing.
-use Rattle.std.specs.Prelude.{◌≡◌, ◌≢◌, ◌↔◌, true, List, [], ℕ, ◌+◌, ◌*◌, length}
+use Rattle.std.specs.Prelude.{◌≡◌, ◌≢◌, ◌↔◌, true, List, ℕ, ◌+◌, ◌*◌, length}
 use Rattle.answer.specs.Numbers.{CARD, is_number}
 use Rattle.answer.specs.Outcome.{taken, refused, First}
 use Rattle.wire.specs.Numbers.{Bytes, le_at}

@@ -15,7 +15,7 @@ use Rattle.aerosnap.specs.declared.Side.{Side}
 use Rattle.aerosnap.specs.Known.{META}
 use Rattle.aerosnap.specs.Payloads.{meta_form, meta, payload}
 use Rattle.aerosnap.specs.File.{id_of}
-use Rattle.aerosnap.specs.Content.{framed, listed, tidy, Content, kind_at, id_at, entries_at, tail_at, content_at}
+use Rattle.aerosnap.specs.Content.{framed, listed, tidy, Content, id_at, entries_at, tail_at, content_at}
 use Rattle.aerosnap.specs.Adding.{Item, Name, side_of, grown}
 use Rattle.aerosnap.specs.Edits.{stands, Edit, remove, apply}
 use Rattle.aerosnap.specs.Calls.{canonical_call}

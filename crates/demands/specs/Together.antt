@@ -1,7 +1,7 @@
 -- Request 8, twenty devices at once: one call takes a file, a table of the new entries and a second buffer, and answers as adding them one by one would.
 -- Assumes nothing.
-use Rattle.std.specs.Prelude.{◌≡◌, ◌↔◌, ◌⊎◌, true, ℕ, ◌+◌, ◌/◌, ◌%◌, ◌≤◌, ◌<◌, length, take}
-use mathlib.Core.List.{List, [], ◌∷◌, ◌++◌, Permᴰ, Perm}
+use Rattle.std.specs.Prelude.{◌≡◌, ◌↔◌, ◌⊎◌, true, ℕ, ◌/◌, ◌%◌, ◌≤◌, ◌<◌, length, take}
+use mathlib.Core.List.{List, ◌∷◌, ◌++◌, Permᴰ, Perm}
 use Rattle.answer.specs.Numbers.{ROOM, PAYLOAD, is_number}
 use Rattle.answer.specs.Outcome.{taken, refused, room, First}
 use Rattle.wire.specs.Numbers.{Bytes}

@@ -12,7 +12,7 @@ use Rattle.writer.specs.Runs.{entry_by}
 use Rattle.aerosnap.specs.declared.Side.{Side}
 use Rattle.aerosnap.specs.File.{file_most, sections_most, devices_most, header}
 use Rattle.aerosnap.specs.Content.{Content, content_of, secs, render, kind_at, id_at, entries_at, tail_at}
-use Rattle.aerosnap.specs.Adding.{Item, device, device_named, side_of, entry_of, there, own_checks}
+use Rattle.aerosnap.specs.Adding.{device, device_named, side_of, entry_of, there, own_checks}
 use Rattle.aerosnap.specs.Edits.{stands, Edit, add, remove, replace, target, news, changed, apply}
 use Rattle.sections.specs.Walks.{sections_in}
 use Rattle.edits.specs.declared.Edit as code

@@ -19,7 +19,7 @@ use Rattle.aerosnap.specs.declared.Side.TheVariants.{OfDevices}
 use Rattle.aerosnap.specs.File.{file_most, sections_most}
 use Rattle.aerosnap.specs.Adding.{entry_of, grown}
 use Rattle.lists.specs.Lists.{key_at, list_bytes}
-use Rattle.aerosnap.specs.Many.{new_device_at, new_devices_from, new_devices, new_item, new_items, add_all, new_key, is_inside, is_seen, Tally, grow, pass_checks, pass}
+use Rattle.aerosnap.specs.Many.{new_device_at, new_devices, new_item, new_items, add_all, new_key, is_inside, is_seen, Tally, grow, pass_checks, pass}
 use Rattle.edits.specs.declared.Site.{Site}
 use Rattle.edits.specs.declared.Extent.{Extent}
 use Rattle.edits.specs.declared.Change.{Change}

@@ -1,6 +1,6 @@
 -- What the parts of the code ask and give that write an edited file: no promise cites it.
 -- Assumes nothing.
-use Rattle.std.specs.Prelude.{not, ◌||◌, List, [], ◌∷◌, ◌++◌, ℕ, ◌≤◌, eqb, leb, length}
+use Rattle.std.specs.Prelude.{not, ◌||◌, List, ◌∷◌, ◌++◌, ℕ, ◌≤◌, eqb, leb, length}
 use Rattle.answer.specs.Numbers.{SIZE, MANY, LIMIT}
 use Rattle.answer.specs.Outcome.{Checks, room}
 use Rattle.wire.specs.Numbers.{bytes_of}

@@ -15,7 +15,6 @@ use Rattle.answer.specs.Calls.{answer, memory, Writes}
 use Rattle.answer.proofs.Table.{fault_some}
 use Rattle.wire.specs.Numbers.{Bytes, le, le_at}
 use Rattle.order.specs.Keyed.{Every, flat, keep}
-use Rattle.order.specs.Entries.{join}
 use Rattle.order.proofs.Folds.{every_imp, flat_append}
 use Rattle.order.proofs.Keeps.{keep-none}
 use Rattle.entries.specs.Kinds.{Description, devices, disks}

@@ -2,7 +2,6 @@ use Rattle.edits.proofs.Tabled.{rows_cut, rows_most}
 use mathlib.Core.Path.{refl, sym}
 use lib.Seq.{length-take-le}
 use native.Mathlib.Omega.{arith}
-use borrow.Author.Rules.{rules}
 use Rattle.edits.proofs.add_at.Goals as goal
 
 pub slice_bounds-add_rows-end : goal.slice_bounds-add_rows-end

@@ -1,7 +1,6 @@
 use Rattle.sections.proofs.Directed.{indexed_whole, indexed_fault}
 use Rattle.edits.proofs.Tabled.{answer_refused, refused_file}
 use lib.ListN.{length}
-use borrow.Author.Rules.{rules}
 use Rattle.edits.proofs.add_in.Goals as goal
 
 pub site_at-site-requires : goal.site_at-site-requires

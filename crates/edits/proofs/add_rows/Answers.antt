@@ -1,7 +1,6 @@
 use Rattle.edits.proofs.Tabled.{answer_refused, refused_table}
 use native.Mathlib.Omega.{arith}
 use lib.ListN.{length}
-use borrow.Author.Rules.{rules}
 use Rattle.edits.proofs.add_rows.Goals as goal
 
 pub overflow_cast-result : goal.overflow_cast-result

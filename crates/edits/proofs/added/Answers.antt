@@ -1,6 +1,5 @@
 use Rattle.sections.proofs.Needed.{parts_placed}
 use mathlib.Core.Path.{sym, ◌∙◌}
-use borrow.Author.Rules.{rules}
 use Rattle.edits.proofs.added.Goals as goal
 
 pub add_in-requires : goal.add_in-requires

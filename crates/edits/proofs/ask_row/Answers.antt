@@ -6,9 +6,7 @@ use Rattle.answer.specs.Outcome.{taken}
 use Rattle.entries.specs.Kinds.{payload_most}
 use Rattle.edits.specs.Cuts.{payload_long}
 use mathlib.Core.Path.{◌≡◌, refl, sym, ◌∙◌, ap}
-use Prim.Native.Nat.{ℕ, ◌+◌, ◌≤◌, ◌<◌}
-use borrow.Author.Tests.{not-true, not-false}
-use borrow.Author.Rules.{rules}
+use Prim.Native.Nat.{ℕ, ◌+◌, ◌≤◌}
 use Rattle.edits.proofs.ask_row.Goals as goal
 
 pub returns-then-not-is_part : goal.returns-then-not-is_part

@@ -1,9 +1,5 @@
 use native.Mathlib.Omega.{arith}
-use borrow.Author.Rules.{rules}
-use Rattle.edits.proofs.Asking.{Asking, asking_start, asking_done, asking_stop, asking_next}
-use Rattle.edits.specs.Cuts.{old_entries}
-use Rattle.aerosnap.specs.declared.Side.TheVariants.{OfDevices}
-use Prim.Native.Nat.{◌-◌}
+use Rattle.edits.proofs.Asking.{asking_start, asking_done, asking_stop, asking_next}
 use Rattle.edits.proofs.ask_rows.Goals as goal
 
 pub loop-i-init : goal.loop-i-init

@@ -1,6 +1,4 @@
-use native.Mathlib.Omega.{arith}
-use borrow.Author.Rules.{rules}
-use Rattle.edits.proofs.Asking.{Asking, asking_start, asking_done, asking_stop, asking_next}
+use Rattle.edits.proofs.Asking.{Asking}
 use Rattle.edits.specs.Cuts.{old_entries}
 use Rattle.aerosnap.specs.declared.Side.TheVariants.{OfDevices}
 use Prim.Native.Nat.{◌-◌}

@@ -1,5 +1,4 @@
 use Rattle.canon.proofs.Named.{whole-ranks}
-use Rattle.canon.specs.Ranks.{rank_bytes}
 use Rattle.wire.proofs.Filling.{Filling, filling_at, filling_room, filling_sum, filling_done}
 use Rattle.canon.specs.Steps.{ranks}
 use Rattle.edits.specs.Cuts.{old_tail, high_bytes}
@@ -11,7 +10,6 @@ use mathlib.Core.Path.{sym}
 use Prim.Native.Nat.{ℕ, ◌-◌}
 use lib.ListN.{length, take, drop, length-append}
 use native.Mathlib.Omega.{arith}
-use borrow.Author.Rules.{rules}
 use Rattle.edits.proofs.back.Goals as goal
 
 pub put_high-requires : goal.put_high-requires

@@ -5,8 +5,7 @@ use Rattle.answer.proofs.Checks.{Left, left_all, left_pass, left_fail}
 use lib.ListN.{drop}
 use mathlib.Core.Path.{sym, ◌∙◌}
 use Prim.Native.Nat.{ℕ}
-use borrow.Author.Tests.{not-true, not-false, le-leb, lt-leb}
-use borrow.Author.Rules.{rules}
+use borrow.Author.Tests.{le-leb, lt-leb}
 use Rattle.edits.proofs.bounds.Goals as goal
 
 -- the rows from the nth on are left

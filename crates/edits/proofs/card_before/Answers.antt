@@ -1,4 +1,3 @@
-use borrow.Author.Rules.{rules}
 use Rattle.edits.proofs.card_before.Goals as goal
 
 pub returns-in-OfDevices : goal.returns-in-OfDevices

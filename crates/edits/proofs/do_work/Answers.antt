@@ -1,6 +1,5 @@
 use Rattle.sections.proofs.Needed.{parts_placed}
 use mathlib.Core.Path.{sym, ◌∙◌}
-use borrow.Author.Rules.{rules}
 use Rattle.edits.proofs.do_work.Goals as goal
 
 pub work_in-requires : goal.work_in-requires

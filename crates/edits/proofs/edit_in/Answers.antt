@@ -1,7 +1,6 @@
 use Rattle.cards.proofs.Answers.{refused_beside, beside_refused}
 use Rattle.edits.specs.Edits.{edit_of}
 use lib.ListN.{length}
-use borrow.Author.Rules.{rules}
 use Rattle.edits.proofs.edit_in.Goals as goal
 
 pub put_change-requires : goal.put_change-requires

@@ -1,7 +1,6 @@
 use Rattle.edits.proofs.Entry.{device_number, disk_number}
 use native.Mathlib.Omega.{arith}
 use mathlib.Core.Path.{◌∙◌}
-use borrow.Author.Rules.{rules}
 use Rattle.edits.proofs.edit_key.Goals as goal
 
 pub returns-in-AddDevice : goal.returns-in-AddDevice

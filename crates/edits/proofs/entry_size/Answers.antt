@@ -1,7 +1,6 @@
 use Rattle.edits.proofs.Landing.{device-size, disk-size, images_short}
 use native.Mathlib.Omega.{arith}
 use mathlib.Core.Path.{refl}
-use borrow.Author.Rules.{rules}
 use Rattle.edits.proofs.entry_size.Goals as goal
 
 pub overflow_add-result-in-AddDisk-2 : goal.overflow_add-result-in-AddDisk-2

@@ -13,7 +13,6 @@ use Prim.Native.Nat.{ℕ, ◌+◌, ◌-◌}
 use lib.ListN.{length-append}
 use lib.Seq.{length-take-le}
 use native.Mathlib.Omega.{arith}
-use borrow.Author.Rules.{rules}
 use Rattle.edits.proofs.front.Goals as goal
 
 pub slice_bounds-copy-end : goal.slice_bounds-copy-end

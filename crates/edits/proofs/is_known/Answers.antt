@@ -1,10 +1,8 @@
 use borrow.Author.Tests.{eq-eqb}
 use Rattle.edits.proofs.Asking.{known-none, known-there, known_free, old_asc}
-use mathlib.Core.Path.{refl}
 use Rattle.lists.specs.Lists.{key_at}
 use Rattle.entries.specs.Kinds.{devices}
 use Prim.Native.Nat.{◌*◌}
-use borrow.Author.Rules.{rules}
 use Rattle.edits.proofs.is_known.Goals as goal
 
 pub returns-then-i-r : goal.returns-then-i-r

@@ -1,6 +1,5 @@
 use native.Mathlib.Omega.{arith}
 use borrow.Author.Tests.{eq-eqb, ne_eqb}
-use borrow.Author.Rules.{rules}
 use Rattle.edits.proofs.left_over.Goals as goal
 
 pub returns-then-size-eq0 : goal.returns-then-size-eq0

@@ -1,6 +1,5 @@
 use borrow.Author.Tests.{le-leb, lt-leb}
 use mathlib.Core.Path.{refl}
-use borrow.Author.Rules.{rules}
 use Rattle.edits.proofs.list_extent.Goals as goal
 
 pub returns-then-n-le4 : goal.returns-then-n-le4

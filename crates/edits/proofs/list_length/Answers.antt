@@ -1,5 +1,4 @@
 use borrow.Author.Tests.{le-leb, lt-leb}
-use borrow.Author.Rules.{rules}
 use Rattle.edits.proofs.list_length.Goals as goal
 
 pub returns-then-site : goal.returns-then-site

@@ -3,7 +3,6 @@ use mathlib.Core.Path.{refl}
 use Rattle.edits.specs.Cuts.{Cuts}
 use Rattle.edits.proofs.Writing.{cut_at, low-none, low_sum, low_small}
 use native.Mathlib.Omega.{arith}
-use borrow.Author.Rules.{rules}
 use Rattle.edits.proofs.low_length.Goals as goal
 
 pub returns-then-place-site : goal.returns-then-place-site

@@ -3,7 +3,6 @@ use Rattle.edits.proofs.Turning.{turn_place, turn_within, turn_end}
 use Rattle.edits.specs.Rows.{place_in, before, old_from}
 use mathlib.Core.Path.{◌≡◌, ◌∙◌, ap}
 use Prim.Native.Nat.{ℕ, ◌+◌}
-use borrow.Author.Rules.{rules}
 use Rattle.edits.proofs.next_place.Goals as goal
 
 pub returns-then-p-last : goal.returns-then-p-last

@@ -6,7 +6,6 @@ use Rattle.answer.specs.Calls.{piece_of}
 use Rattle.aerosnap.specs.File.{file_of}
 use lib.ListN.{length}
 use mathlib.Core.Path.{sym, ◌∙◌, ap}
-use borrow.Author.Rules.{rules}
 use Rattle.edits.proofs.open_bare.Goals as goal
 
 pub returns-in-Stop : goal.returns-in-Stop

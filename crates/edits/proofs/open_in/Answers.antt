@@ -7,7 +7,6 @@ use Rattle.aerosnap.specs.Content.{content_of, secs, render}
 use Rattle.cards.specs.Cards.{open_answer}
 use lib.ListN.{length}
 use mathlib.Core.Path.{◌≡◌, refl, sym, ◌∙◌, ap}
-use borrow.Author.Rules.{rules}
 use Rattle.edits.proofs.open_in.Goals as goal
 
 pub site_at-site-requires : goal.site_at-site-requires

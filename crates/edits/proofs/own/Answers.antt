@@ -1,4 +1,3 @@
-use borrow.Author.Rules.{rules}
 use Rattle.edits.proofs.own.Goals as goal
 
 pub returns-in-AddDevice : goal.returns-in-AddDevice

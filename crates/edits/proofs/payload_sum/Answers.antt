@@ -1,8 +1,5 @@
-use Rattle.edits.proofs.Summing.{Summing, summing_start, summing_long, summing_small, summing_next, summing_done}
-use lib.ListN.{length}
-use Prim.Native.Nat.{◌-◌}
+use Rattle.edits.proofs.Summing.{summing_start, summing_long, summing_small, summing_next, summing_done}
 use native.Mathlib.Omega.{arith}
-use borrow.Author.Rules.{rules}
 use Rattle.edits.proofs.payload_sum.Goals as goal
 
 pub loop-i-init : goal.loop-i-init

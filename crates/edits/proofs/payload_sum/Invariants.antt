@@ -1,8 +1,6 @@
-use Rattle.edits.proofs.Summing.{Summing, summing_start, summing_long, summing_small, summing_next, summing_done}
+use Rattle.edits.proofs.Summing.{Summing}
 use lib.ListN.{length}
 use Prim.Native.Nat.{◌-◌}
-use native.Mathlib.Omega.{arith}
-use borrow.Author.Rules.{rules}
 use Rattle.edits.proofs.payload_sum.Given as goal
 
 abbrev pub invariant-loop-i : goal.invariant-loop-i

@@ -6,7 +6,6 @@ use Rattle.sections.specs.Walks.{sections_in}
 use Rattle.aerosnap.specs.Content.{content_of, secs, render}
 use lib.ListN.{length}
 use mathlib.Core.Path.{◌≡◌, ◌∙◌, ap}
-use borrow.Author.Rules.{rules}
 use Rattle.edits.proofs.plan_at.Goals as goal
 
 pub resized-new-requires : goal.resized-new-requires

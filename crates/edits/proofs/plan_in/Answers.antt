@@ -3,7 +3,6 @@ use Rattle.edits.proofs.Judging.{call_stop, call_own, call_goes, own_passes}
 use Rattle.sections.specs.Steps.{WholeFile}
 use Rattle.edits.specs.Edits.{edit_of}
 use Rattle.aerosnap.specs.Edits.{Edit}
-use borrow.Author.Rules.{rules}
 use Rattle.edits.proofs.plan_in.Goals as goal
 
 pub site_at-requires : goal.site_at-requires

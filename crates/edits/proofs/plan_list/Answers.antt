@@ -11,9 +11,7 @@ use Rattle.lists.specs.declared.Found.{Found}
 use Rattle.lists.specs.Promises.{find_in}
 use mathlib.Core.Bool.{Bool}
 use mathlib.Core.Path.{◌≡◌, sym, ◌∙◌, subst}
-use borrow.Author.Tests.{not-true, not-false}
 use native.Mathlib.Omega.{arith}
-use borrow.Author.Rules.{rules}
 use Rattle.edits.proofs.plan_list.Goals as goal
 
 pub returns-then-not-wants : goal.returns-then-not-wants

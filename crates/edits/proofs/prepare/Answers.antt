@@ -10,7 +10,6 @@ use Rattle.sections.proofs.Directed.{whole-held}
 use mathlib.Core.Path.{◌≡◌}
 use lib.ListN.{length}
 use native.Mathlib.Omega.{arith}
-use borrow.Author.Rules.{rules}
 use Rattle.edits.proofs.prepare.Goals as goal
 
 pub ask_rows-requires : goal.ask_rows-requires

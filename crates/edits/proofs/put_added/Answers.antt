@@ -1,7 +1,6 @@
 use Rattle.edits.proofs.Tabled.{table_moves, answer_refused, answer_taken}
 use Rattle.wire.specs.Numbers.{Bytes}
 use native.Mathlib.Omega.{arith}
-use borrow.Author.Rules.{rules}
 use Rattle.edits.proofs.put_added.Goals as goal
 
 pub card_before-requires : goal.card_before-requires

@@ -4,14 +4,12 @@ use Rattle.cards.proofs.Answers.{beside_refused, beside_taken}
 use Rattle.edits.proofs.Landing.{side_same}
 use Rattle.edits.specs.Edits.{edit_of}
 use Rattle.edits.specs.Cuts.{PayloadWith, side_for, entry_for, file_bytes}
-use Rattle.edits.specs.Plans.{EditReady}
 use Rattle.edits.specs.Steps.{Holds}
 use Rattle.aerosnap.specs.declared.Side.{Side}
 use Rattle.aerosnap.specs.Adding.{side_of}
-use Rattle.aerosnap.specs.Edits.{Edit, target, edit_file}
+use Rattle.aerosnap.specs.Edits.{Edit, target}
 use lib.ListN.{length}
 use mathlib.Core.Path.{◌≡◌, sym, ◌∙◌, subst}
-use borrow.Author.Rules.{rules}
 use Rattle.edits.proofs.put_change.Goals as goal
 
 pub card_before-requires : goal.card_before-requires

@@ -1,7 +1,6 @@
 use Rattle.edits.proofs.Entry.{device_wrote}
 use Rattle.aerosnap.proofs.Framed.{length-framed}
 use native.Mathlib.Omega.{arith}
-use borrow.Author.Rules.{rules}
 use Rattle.edits.proofs.put_device.Goals as goal
 
 pub put_frame-requires : goal.put_frame-requires

@@ -1,5 +1,4 @@
 use Rattle.edits.proofs.Entry.{disk_wrote}
-use borrow.Author.Rules.{rules}
 use Rattle.edits.proofs.put_disk.Goals as goal
 
 pub returns : goal.returns

@@ -4,10 +4,9 @@ use Rattle.edits.specs.Edits.{edit_of}
 use Rattle.edits.specs.Cuts.{side_for, entry_for, front_bytes, low_bytes, high_bytes, old_tail, back_bytes}
 use mathlib.Core.List.{List, ◌++◌}
 use mathlib.Core.Path.{◌≡◌, refl}
-use Prim.Native.Nat.{ℕ, ◌+◌, ◌-◌}
+use Prim.Native.Nat.{ℕ, ◌+◌}
 use lib.ListN.{length, length-append}
 use native.Mathlib.Omega.{arith}
-use borrow.Author.Rules.{rules}
 use Rattle.edits.proofs.put_edited.Goals as goal
 
 pub front-i-requires : goal.front-i-requires

@@ -1,7 +1,6 @@
 use Rattle.edits.proofs.Writing.{no_entries}
 use Rattle.writer.specs.Runs.{entry_by}
 use Rattle.entries.specs.Code.{describe}
-use borrow.Author.Rules.{rules}
 use Rattle.edits.proofs.put_entries.Goals as goal
 
 pub returns-then-starts-eq0 : goal.returns-then-starts-eq0

@@ -7,7 +7,6 @@ use lib.ListN.{length, length-append}
 use borrow.Author.Tests.{le-leb, lt-leb}
 use Prim.Native.Nat.{◌≤◌}
 use native.Mathlib.Omega.{arith}
-use borrow.Author.Rules.{rules}
 use Rattle.edits.proofs.put_head.Goals as goal
 
 pub returns-then-bytes-le4 : goal.returns-then-bytes-le4

@@ -3,7 +3,6 @@ use Rattle.edits.proofs.Entry.{keyed_long, keyed_wrote}
 use mathlib.Core.List.{[], ◌∷◌}
 use lib.ListN.{length}
 use native.Mathlib.Omega.{arith}
-use borrow.Author.Rules.{rules}
 use Rattle.edits.proofs.put_keyed.Goals as goal
 
 pub returns : goal.returns

@@ -2,7 +2,6 @@ use Rattle.edits.proofs.Writing.{low-span}
 use mathlib.Core.Path.{ap}
 use lib.ListN.{length}
 use native.Mathlib.Omega.{arith}
-use borrow.Author.Rules.{rules}
 use Rattle.edits.proofs.put_low.Goals as goal
 
 pub put_some-requires : goal.put_some-requires

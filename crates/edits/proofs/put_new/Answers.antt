@@ -1,5 +1,4 @@
 use Rattle.edits.proofs.Landing.{images_short}
-use borrow.Author.Rules.{rules}
 use Rattle.edits.proofs.put_new.Goals as goal
 
 pub put_device-requires : goal.put_device-requires

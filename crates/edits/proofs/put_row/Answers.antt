@@ -1,7 +1,6 @@
 use native.Mathlib.Omega.{arith}
 use Rattle.wire.specs.Numbers.{Bytes}
 use Rattle.edits.proofs.Turning.{inside_le, row_is}
-use borrow.Author.Rules.{rules}
 use Rattle.edits.proofs.put_row.Goals as goal
 
 pub overflow_add-to : goal.overflow_add-to

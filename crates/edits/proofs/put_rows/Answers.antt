@@ -1,9 +1,6 @@
 use native.Mathlib.Omega.{arith}
-use borrow.Author.Rules.{rules}
-use Rattle.edits.proofs.Turning.{Turning, turning_start, turning_done, turning_room, turning_fits, turning_inside, turning_next}
+use Rattle.edits.proofs.Turning.{turning_start, turning_done, turning_room, turning_fits, turning_inside, turning_next}
 use Rattle.wire.proofs.Filling.{filling_at, filling_long}
-use lib.ListN.{length}
-use Prim.Native.Nat.{◌-◌}
 use Rattle.edits.proofs.put_rows.Goals as goal
 
 pub loop-i-init : goal.loop-i-init

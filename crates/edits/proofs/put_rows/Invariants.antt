@@ -1,7 +1,4 @@
-use native.Mathlib.Omega.{arith}
-use borrow.Author.Rules.{rules}
-use Rattle.edits.proofs.Turning.{Turning, turning_start, turning_done, turning_room, turning_fits, turning_inside, turning_next}
-use Rattle.wire.proofs.Filling.{filling_at, filling_long}
+use Rattle.edits.proofs.Turning.{Turning}
 use lib.ListN.{length}
 use Prim.Native.Nat.{◌-◌}
 use Rattle.edits.proofs.put_rows.Given as goal

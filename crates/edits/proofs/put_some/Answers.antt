@@ -1,6 +1,5 @@
 use Rattle.edits.proofs.Writing.{span_none}
 use Rattle.wire.proofs.Parts.{none}
-use borrow.Author.Rules.{rules}
 use Rattle.edits.proofs.put_some.Goals as goal
 
 pub returns-then-from-to : goal.returns-then-from-to

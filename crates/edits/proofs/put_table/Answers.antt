@@ -1,7 +1,6 @@
 use Rattle.edits.proofs.Tabled.{ready_long, begun_rest, begun_left}
 use Rattle.edits.specs.Rows.{turns, old_from}
 use Rattle.order.specs.Entries.{join}
-use Rattle.wire.specs.Parts.{Wrote}
 use Rattle.wire.proofs.Filling.{Filling, filling_at, filling_room, filling_next_room, filling_next, filling_sum, filling_done}
 use Rattle.writer.proofs.Whole.{back}
 use Rattle.aerosnap.specs.declared.Side.TheVariants.{OfDevices}
@@ -9,11 +8,10 @@ use Rattle.sections.specs.Walks.{sections_in}
 use Rattle.canon.specs.Steps.{ranks}
 use Rattle.edits.specs.Cuts.{old_entries, old_tail, front_bytes}
 use mathlib.Core.List.{List, ◌++◌}
-use mathlib.Core.Path.{◌≡◌, refl, sym, subst}
-use Prim.Native.Nat.{ℕ, ◌+◌, ◌-◌}
+use mathlib.Core.Path.{refl, subst}
+use Prim.Native.Nat.{ℕ, ◌+◌}
 use lib.ListN.{length, length-append}
 use native.Mathlib.Omega.{arith}
-use borrow.Author.Rules.{rules}
 use Rattle.edits.proofs.put_table.Goals as goal
 
 pub front-i-requires : goal.front-i-requires

@@ -10,7 +10,6 @@ use mathlib.Core.List.{List}
 use Rattle.aerosnap.specs.Many.{is_inside}
 use mathlib.Core.Path.{refl, ◌∙◌, ap}
 use Prim.Native.Nat.{ℕ, ◌-◌}
-use borrow.Author.Rules.{rules}
 use Rattle.edits.proofs.put_turn.Goals as goal
 
 pub put_some-n-requires : goal.put_some-n-requires

@@ -1,6 +1,5 @@
 use Rattle.edits.proofs.Changed.{shown_most, space_most, space_back}
 use native.Mathlib.Omega.{arith}
-use borrow.Author.Rules.{rules}
 use Rattle.edits.proofs.resized.Goals as goal
 
 pub list_extent-less-requires : goal.list_extent-less-requires

@@ -1,8 +1,5 @@
 use native.Mathlib.Omega.{arith}
-use borrow.Author.Rules.{rules}
-use Rattle.edits.proofs.Asking.{Laid, laid_start, laid_next, laid_done}
-use lib.ListN.{length}
-use Prim.Native.Nat.{◌-◌}
+use Rattle.edits.proofs.Asking.{laid_start, laid_next, laid_done}
 use Rattle.edits.proofs.row_starts.Goals as goal
 
 pub loop-i-init : goal.loop-i-init

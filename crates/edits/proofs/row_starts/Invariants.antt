@@ -1,6 +1,4 @@
-use native.Mathlib.Omega.{arith}
-use borrow.Author.Rules.{rules}
-use Rattle.edits.proofs.Asking.{Laid, laid_start, laid_next, laid_done}
+use Rattle.edits.proofs.Asking.{Laid}
 use lib.ListN.{length}
 use Prim.Native.Nat.{◌-◌}
 use Rattle.edits.proofs.row_starts.Given as goal

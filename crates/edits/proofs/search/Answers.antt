@@ -1,7 +1,6 @@
 use Rattle.edits.proofs.Sites.{searched}
 use Rattle.aerosnap.specs.Content.{kind_at}
 use mathlib.Core.Path.{◌∙◌, ap}
-use borrow.Author.Rules.{rules}
 use Rattle.edits.proofs.search.Goals as goal
 
 pub returns : goal.returns

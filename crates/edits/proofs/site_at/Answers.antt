@@ -6,7 +6,6 @@ use lib.ListN.{length, get_or}
 use mathlib.Core.Path.{◌≡◌, ap}
 use Prim.Native.Nat.{ℕ, ◌+◌, ◌≤◌}
 use native.Mathlib.Omega.{arith}
-use borrow.Author.Rules.{rules}
 use Rattle.edits.proofs.site_at.Goals as goal
 
 pub overflow_cast-at : goal.overflow_cast-at

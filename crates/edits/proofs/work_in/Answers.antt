@@ -1,5 +1,4 @@
 use mathlib.Core.Path.{refl}
-use borrow.Author.Rules.{rules}
 use Rattle.edits.proofs.work_in.Goals as goal
 
 pub returns-in-Opening : goal.returns-in-Opening

@@ -1,5 +1,4 @@
 use Rattle.newcomers.proofs.Laws.{near_stored, far_stored}
-use borrow.Author.Rules.{rules}
 use Rattle.newcomers.proofs.put.Goals as goal
 
 pub returns-then-i-lt4097-clause-stored : goal.returns-then-i-lt4097-clause-stored

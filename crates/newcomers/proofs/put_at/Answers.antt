@@ -6,7 +6,6 @@ use lib.ListN.{length}
 use borrow.Author.Tests.{leb-true}
 use mathlib.Core.Path.{refl, sym, ◌∙◌}
 use native.Mathlib.Omega.{arith}
-use borrow.Author.Rules.{rules}
 use Rattle.newcomers.proofs.put_at.Goals as goal
 
 pub slice_bounds-put_record-count : goal.slice_bounds-put_record-count

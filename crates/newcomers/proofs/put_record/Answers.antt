@@ -1,6 +1,5 @@
 use Rattle.wire.proofs.Records.{stored_record}
 use mathlib.Core.List.{[], ◌∷◌}
-use borrow.Author.Rules.{rules}
 use Rattle.newcomers.proofs.put_record.Goals as goal
 
 pub returns : goal.returns

@@ -1,6 +1,5 @@
 use Rattle.ready.proofs.Contents.{judged}
 use mathlib.Core.Path.{◌∙◌}
-use borrow.Author.Rules.{rules}
 use Rattle.ready.proofs.by_table.Goals as goal
 
 pub returns : goal.returns

@@ -3,7 +3,6 @@ use mathlib.Core.Path.{sym, ap}
 use lib.ListN.{take}
 use lib.Seq.{length-take-le}
 use native.Mathlib.Omega.{arith}
-use borrow.Author.Rules.{rules}
 use Rattle.ready.proofs.bytes_in.Goals as goal
 
 pub returns-then-rest-len : goal.returns-then-rest-len

@@ -2,7 +2,6 @@ use mathlib.Core.Path.{refl, sym}
 use mathlib.Core.List.{[]}
 use lib.Seq.{length-take-le}
 use Rattle.ready.proofs.Exits.{all_inside, tells_yes, tells_room, tells_no}
-use borrow.Author.Rules.{rules}
 use Rattle.ready.proofs.hand_list.Goals as goal
 
 pub returns-then-n-eq0 : goal.returns-then-n-eq0

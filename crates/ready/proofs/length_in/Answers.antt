@@ -1,4 +1,3 @@
-use borrow.Author.Rules.{rules}
 use Rattle.ready.proofs.length_in.Goals as goal
 
 pub returns-in-Devices : goal.returns-in-Devices

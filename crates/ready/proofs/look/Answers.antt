@@ -2,7 +2,6 @@ use Rattle.ready.specs.Steps.{wrapper_at}
 use Rattle.ready.proofs.Exits.{nine, either_same}
 use mathlib.Core.Path.{◌∙◌, ap}
 use native.Mathlib.Omega.{arith}
-use borrow.Author.Rules.{rules}
 use Rattle.ready.proofs.look.Goals as goal
 
 pub returns : goal.returns

@@ -1,5 +1,4 @@
 use Rattle.ready.proofs.Exits.{noted-first, noted_more, noted-none}
-use borrow.Author.Rules.{rules}
 use Rattle.ready.proofs.note.Goals as goal
 
 pub returns-then-notes-id-eq0 : goal.returns-then-notes-id-eq0

@@ -1,13 +1,10 @@
 use Rattle.format.specs.Format.{span}
-use Rattle.ready.specs.Steps.{Stands}
-use Rattle.ready.proofs.Walks.{Passing, passing_start, passing_next, passing_end, pass-room}
+use Rattle.ready.proofs.Walks.{passing_start, passing_next, passing_end, pass-room}
 use Rattle.entries.specs.Code.{describe}
-use mathlib.Core.Path.{◌≡◌, refl, ◌∙◌}
-use mathlib.Core.List.{List}
-use Prim.Native.Nat.{ℕ, ◌+◌, ◌-◌, ◌≤◌}
+use mathlib.Core.Path.{refl, ◌∙◌}
+use Prim.Native.Nat.{◌+◌, ◌≤◌}
 use lib.ListN.{length, drop}
 use native.Mathlib.Omega.{arith}
-use borrow.Author.Rules.{rules}
 use Rattle.ready.proofs.note_all.Goals as goal
 
 pub loop-i-init : goal.loop-i-init
@@ -15,13 +12,13 @@ loop-i-init c = (refl, omega arith, λ m v. passing_start _ c.u32_at-n.ensures v
 
 pub overflow_add-at : goal.overflow_add-at
 overflow_add-at c =
-    let room : c.loop-i.at + c.length_in-at.result ≤ length c.args.list.now + 4 =     let s = c.args.list.now in
+    let room : c.loop-i.at + c.length_in-at.result ≤ length c.args.list.now + 4 = let s = c.args.list.now in
     rw c.length_in-at.ensures (pass-room (span (describe c.args.kind).form (drop c.loop-i.at s)) c.loop-i.at s c.loop-i.invariant.1) in
     omega (arith, room)
 
 pub loop-i-preserved : goal.loop-i-preserved
 loop-i-preserved c =
-    let room : c.loop-i.at + c.length_in-at.result ≤ length c.args.list.now + 4 =     let s = c.args.list.now in
+    let room : c.loop-i.at + c.length_in-at.result ≤ length c.args.list.now + 4 = let s = c.args.list.now in
     rw c.length_in-at.ensures (pass-room (span (describe c.args.kind).form (drop c.loop-i.at s)) c.loop-i.at s c.loop-i.invariant.1) in
     let a = c.args in (
       c.note.auto.notes ∙ c.loop-i.invariant.0,

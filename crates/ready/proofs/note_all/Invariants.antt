@@ -1,13 +1,10 @@
-use Rattle.format.specs.Format.{span}
 use Rattle.ready.specs.Steps.{Stands}
-use Rattle.ready.proofs.Walks.{Passing, passing_start, passing_next, passing_end, pass-room}
+use Rattle.ready.proofs.Walks.{Passing}
 use Rattle.entries.specs.Code.{describe}
-use mathlib.Core.Path.{◌≡◌, refl, ◌∙◌}
+use mathlib.Core.Path.{◌≡◌}
 use mathlib.Core.List.{List}
 use Prim.Native.Nat.{ℕ, ◌+◌, ◌-◌, ◌≤◌}
-use lib.ListN.{length, drop}
-use native.Mathlib.Omega.{arith}
-use borrow.Author.Rules.{rules}
+use lib.ListN.{length}
 use Rattle.ready.proofs.note_all.Given as goal
 
 abbrev pub invariant-loop-i : goal.invariant-loop-i

@@ -1,10 +1,8 @@
 use Rattle.ready.specs.Steps.{NamesSections}
-use Rattle.ready.proofs.Walks.{Seeks, seeks_start, seeks_found, seeks_next, seeks_end}
+use Rattle.ready.proofs.Walks.{Seeks}
 use mathlib.Core.List.{List}
 use Prim.Native.Nat.{ℕ, ◌-◌}
 use lib.ListN.{length}
-use native.Mathlib.Omega.{arith}
-use borrow.Author.Rules.{rules}
 use Rattle.ready.proofs.payload_of.Given as goal
 
 abbrev pub invariant-loop-at : goal.invariant-loop-at

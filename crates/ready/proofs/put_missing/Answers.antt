@@ -1,8 +1,5 @@
 use borrow.Author.Rules.{rules}
-use borrow.Kind.Array.{good_length, e_int}
-use mir.Syntax.{w64}
-use Rattle.ready.proofs.Walks.{Listing, listing_start, listing_length, listing_next, listing_end}
-use Prim.Native.Nat.{◌-◌, ◌≤◌}
+use Rattle.ready.proofs.Walks.{listing_start, listing_length, listing_next, listing_end}
 use native.Mathlib.Omega.{arith}
 use Rattle.ready.proofs.put_missing.Goals as goal
 

@@ -1,8 +1,5 @@
-use borrow.Kind.Array.{good_length, e_int}
-use mir.Syntax.{w64}
-use Rattle.ready.proofs.Walks.{Listing, listing_start, listing_length, listing_next, listing_end}
+use Rattle.ready.proofs.Walks.{Listing}
 use Prim.Native.Nat.{◌-◌, ◌≤◌}
-use native.Mathlib.Omega.{arith}
 use Rattle.ready.proofs.put_missing.Given as goal
 
 abbrev pub invariant-loop-i : goal.invariant-loop-i

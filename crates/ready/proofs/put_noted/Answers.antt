@@ -4,7 +4,6 @@ use mathlib.Core.Path.{◌∙◌, ap}
 use Prim.Native.Nat.{ℕ, ◌+◌}
 use Rattle.wire.specs.Numbers.{bytes_of}
 use Rattle.wire.specs.Parts.{put}
-use borrow.Author.Rules.{rules}
 use Rattle.ready.proofs.put_noted.Goals as goal
 
 pub returns-then-note-ne0 : goal.returns-then-note-ne0

@@ -1,5 +1,4 @@
 use Rattle.ready.proofs.Exits.{too_early, wrapper_there, wrapper_not}
-use borrow.Author.Rules.{rules}
 use Rattle.ready.proofs.wrapper_at.Goals as goal
 
 pub returns-then-at-lt4 : goal.returns-then-at-lt4

@@ -12,7 +12,6 @@ use Prim.Native.Nat.{◌-◌}
 use lib.ListN.{length, take, drop}
 use lib.Seq.{length-take-le}
 use native.Mathlib.Omega.{arith}
-use borrow.Author.Rules.{rules}
 use Rattle.salvage.proofs.put_form.Goals as goal
 
 pub slice_bounds-copy-end : goal.slice_bounds-copy-end

@@ -1,6 +1,5 @@
 use Rattle.salvage.proofs.Rescuing.{records_none, records_made}
 use mathlib.Core.Path.{sym, ◌∙◌}
-use borrow.Author.Rules.{rules}
 use Rattle.salvage.proofs.put_losses.Goals as goal
 
 pub returns-then-lost-eq0 : goal.returns-then-lost-eq0

@@ -1,6 +1,5 @@
 use Rattle.sections.proofs.Needed.{parts_placed}
 use mathlib.Core.Path.{sym, ◌∙◌}
-use borrow.Author.Rules.{rules}
 use Rattle.salvage.proofs.salvage.Goals as goal
 
 pub salvage_by-requires : goal.salvage_by-requires

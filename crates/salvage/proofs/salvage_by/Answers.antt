@@ -1,7 +1,6 @@
 use Rattle.sections.proofs.Directed.{divided_whole, divided_lost}
 use Rattle.salvage.proofs.Rescuing.{divided_fault, salvage_stop}
 use lib.ListN.{length}
-use borrow.Author.Rules.{rules}
 use Rattle.salvage.proofs.salvage_by.Goals as goal
 
 pub salvage_in-requires : goal.salvage_in-requires

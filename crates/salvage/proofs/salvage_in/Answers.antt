@@ -2,7 +2,6 @@ use Rattle.sections.proofs.Directed.{filed_long, filed_short}
 use Rattle.salvage.proofs.Rescuing.{losses_few, salvage-room, salvage-rows, salvage_ready, salvage-done}
 use mathlib.Core.Path.{◌∙◌}
 use native.Mathlib.Omega.{arith}
-use borrow.Author.Rules.{rules}
 use Rattle.salvage.proofs.salvage_in.Goals as goal
 
 pub returns-then-out-need : goal.returns-then-out-need

@@ -1,7 +1,6 @@
 use Rattle.answer.proofs.Outcomes.{verdict-done}
 use Rattle.aerosnap.specs.File.{file_of}
 use mathlib.Core.Path.{◌∙◌}
-use borrow.Author.Rules.{rules}
 use Rattle.snapshot.proofs.check.Goals as goal
 
 pub returns : goal.returns

@@ -1,6 +1,5 @@
 use Rattle.aerosnap.specs.Known.{CPUS}
 use Rattle.snapshot.proofs.Reading.{bare-table}
-use borrow.Author.Rules.{rules}
 use Rattle.snapshot.proofs.cpus.Goals as goal
 
 pub returns-then-file-le-HEADER : goal.returns-then-file-le-HEADER

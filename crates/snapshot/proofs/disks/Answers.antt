@@ -1,6 +1,5 @@
 use Rattle.aerosnap.specs.Known.{DISKS}
 use Rattle.snapshot.proofs.Reading.{bare-table}
-use borrow.Author.Rules.{rules}
 use Rattle.snapshot.proofs.disks.Goals as goal
 
 pub returns-then-file-le-HEADER : goal.returns-then-file-le-HEADER

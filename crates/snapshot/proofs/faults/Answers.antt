@@ -1,5 +1,4 @@
 use Rattle.snapshot.proofs.Reading.{faults_stop, faults_fine}
-use borrow.Author.Rules.{rules}
 use Rattle.snapshot.proofs.faults.Goals as goal
 
 pub returns-in-Stop : goal.returns-in-Stop

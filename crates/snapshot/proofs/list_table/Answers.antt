@@ -1,6 +1,5 @@
 use Rattle.sections.proofs.Needed.{starts-placed}
 use mathlib.Core.Path.{sym, ◌∙◌}
-use borrow.Author.Rules.{rules}
 use Rattle.snapshot.proofs.list_table.Goals as goal
 
 pub list_table_in-requires : goal.list_table_in-requires

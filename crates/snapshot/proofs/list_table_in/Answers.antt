@@ -1,6 +1,5 @@
 use Rattle.snapshot.proofs.Reading.{list_none, list_stop}
 use Rattle.sections.proofs.Reading.{Opened, spot_opened}
-use borrow.Author.Rules.{rules}
 use Rattle.snapshot.proofs.list_table_in.Goals as goal
 
 pub returns-then-file-at : goal.returns-then-file-at

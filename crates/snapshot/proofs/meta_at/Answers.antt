@@ -1,5 +1,4 @@
 use Rattle.snapshot.proofs.MetaSection.{meta_said}
-use borrow.Author.Rules.{rules}
 use Rattle.snapshot.proofs.meta_at.Goals as goal
 
 pub returns : goal.returns

@@ -1,6 +1,5 @@
 use Rattle.aerosnap.specs.Known.{MMUS}
 use Rattle.snapshot.proofs.Reading.{bare-table}
-use borrow.Author.Rules.{rules}
 use Rattle.snapshot.proofs.mmus.Goals as goal
 
 pub returns-then-file-le-HEADER : goal.returns-then-file-le-HEADER

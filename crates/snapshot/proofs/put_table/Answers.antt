@@ -3,7 +3,6 @@ use Rattle.aerosnap.proofs.Standing.{end_at}
 use lib.ListN.{length}
 use Prim.Native.Nat.{◌+◌, ◌≤◌}
 use native.Mathlib.Omega.{arith}
-use borrow.Author.Rules.{rules}
 use Rattle.snapshot.proofs.put_table.Goals as goal
 
 pub end_at-e-requires : goal.end_at-e-requires

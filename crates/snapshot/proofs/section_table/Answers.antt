@@ -5,7 +5,6 @@ use Rattle.answer.specs.Outcome.{taken}
 use Rattle.answer.specs.Calls.{piece_of}
 use mathlib.Core.Path.{◌≡◌, sym, ◌∙◌, ap}
 use native.Mathlib.Omega.{arith}
-use borrow.Author.Rules.{rules}
 use Rattle.snapshot.proofs.section_table.Goals as goal
 
 pub overflow_mul-need : goal.overflow_mul-need

@@ -1,5 +1,4 @@
 use Rattle.snapshot.proofs.Reading.{bare-sections}
-use borrow.Author.Rules.{rules}
 use Rattle.snapshot.proofs.sections.Goals as goal
 
 pub returns-then-file-le-HEADER : goal.returns-then-file-le-HEADER
