@@ -8,9 +8,6 @@ loop-i-init c = summing_start c.requires
 pub overflow_cast-at : goal.overflow_cast-at
 overflow_cast-at c = omega (arith, c.type_inv.starts c.loop-i.i)
 
-pub overflow_sub-n : goal.overflow_sub-n
-overflow_sub-n c = omega (arith, summing_long c.loop-i.invariant c.loop-i-test.true c.device_length.ensures)
-
 pub overflow_add-n : goal.overflow_add-n
 overflow_add-n c = omega (arith, summing_small c.loop-i.invariant c.loop-i-test.true c.device_length.ensures)
 
