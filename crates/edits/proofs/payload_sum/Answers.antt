@@ -1,4 +1,5 @@
-use Rattle.edits.proofs.Summing.{summing_start, summing_long, summing_small, summing_next, summing_done}
+use borrow.Author.Rules.{rules}
+use Rattle.edits.proofs.Summing.{summing_start, summing_fits, summing_next, summing_done}
 use native.Mathlib.Omega.{arith}
 use Rattle.edits.proofs.payload_sum.Goals as goal
 
@@ -9,10 +10,10 @@ pub overflow_cast-at : goal.overflow_cast-at
 overflow_cast-at c = omega (arith, c.type_inv.starts c.loop-i.i)
 
 pub overflow_add-n : goal.overflow_add-n
-overflow_add-n c = omega (arith, summing_small c.loop-i.invariant c.loop-i-test.true c.device_length.ensures)
+overflow_add-n c = search (rules, summing_fits)
 
 pub loop-i-preserved : goal.loop-i-preserved
-loop-i-preserved c = summing_next c.loop-i.invariant c.loop-i-test.true c.device_length.ensures
+loop-i-preserved c = search (rules, summing_next)
 
 pub returns : goal.returns
 returns c = summing_done c.loop-i.invariant c.loop-i-test.false
