@@ -33,8 +33,8 @@ const PART: u64 = 0x10000;
 /// An instruction that sets how many bytes a `memmove` moves or a `memset` clears stands at most this many before its call.
 const NEAR: usize = 8;
 
-/// The bytes of a page, of which a large frame takes one after the other.
-const PAGE: u64 = 0x1000;
+/// The bytes of a step, of which a large frame takes one after the other: a page, or what the kit has compilers take, which is less.
+const STEPS: [u64; 2] = [0x1000, 0xc00];
 
 /// The bytes of an address to return to, and of a register that is pushed. On Arm the caller's address is counted twice.
 const RETURN: u64 = 8;
@@ -157,10 +157,10 @@ fn functions(listing: &str) -> BTreeMap<String, Function> {
         }
         length.pass(line);
         let taken = stack(line);
-        // A page of a loop that takes pages up to an address below: the whole is counted where the address is made.
-        let page = far && taken == PAGE;
-        function.stack += if page { 0 } else { taken };
-        far = (far || is_far(line)) && !page;
+        // A step of a loop that takes steps up to an address below: the whole is counted where the address is made.
+        let step = far && STEPS.contains(&taken);
+        function.stack += if step { 0 } else { taken };
+        far = (far || is_far(line)) && !step;
     }
     functions
 }
@@ -214,7 +214,7 @@ fn words(line: &str) -> Vec<&str> {
     instruction.split_ascii_whitespace().collect()
 }
 
-/// Whether an instruction makes the address at which a loop over the pages of a large frame ends: `sub $0x11000,%r11`,
+/// Whether an instruction makes the address at which a loop over the steps of a large frame ends: `sub $0x11000,%r11`,
 /// or `sub x9, sp, #0x11, lsl #12`.
 fn is_far(line: &str) -> bool {
     let arm = matches!(words(line)[..], ["sub", to, "sp,", ..] if to != "sp,");
@@ -227,7 +227,7 @@ fn stack(line: &str) -> u64 {
     stack_x86(&words).or_else(|| stack_arm(&words)).unwrap_or(0)
 }
 
-/// `push %rbx`, `sub $0x1000,%rsp`, or for all pages of a loop `lea -0x10000(%rsp),%r11` and `sub $0x11000,%r11`.
+/// `push %rbx`, `sub $0x1000,%rsp`, or for all steps of a loop `lea -0x10000(%rsp),%r11` and `sub $0x11000,%r11`.
 fn stack_x86(words: &[&str]) -> Option<u64> {
     let digits = match words {
         ["push", _] => return Some(RETURN),
@@ -241,7 +241,7 @@ fn stack_x86(words: &[&str]) -> Option<u64> {
     u64::from_str_radix(digits, 16).ok()
 }
 
-/// `stp x29, x30, [sp, #-96]!`, `sub sp, sp, #0x1, lsl #12`, or for all pages of a loop `sub x9, sp, #0x11, lsl #12`.
+/// `stp x29, x30, [sp, #-96]!`, `sub sp, sp, #0x1, lsl #12`, or for all steps of a loop `sub x9, sp, #0x11, lsl #12`.
 fn stack_arm(words: &[&str]) -> Option<u64> {
     match words {
         ["stp", _, _, "[sp,", bytes] | ["str", _, "[sp,", bytes] => {
@@ -302,6 +302,9 @@ mod tests {
         let pages = "   a:\tmov    %rsp,%r11\n   d:\tsub    $0x8000,%r11\n  14:\tsub    $0x1000,%rsp\n   9:";
         let paged = judged(&listing(&MOVES.replace("   9:", pages))).unwrap();
         assert_eq!(paged.stack, 8 + (8 + 0x8000 + 0x20));
+        let shorter = pages.replace("$0x1000", "$0xc00");
+        let stepped = judged(&listing(&MOVES.replace("   9:", &shorter))).unwrap();
+        assert_eq!(stepped.stack, paged.stack);
     }
 
     const MOVES_ARM: &str = "
@@ -321,6 +324,9 @@ mod tests {
         let pages = "   4:\tsub\tx9, sp, #0x8, lsl #12\n   8:\tsub\tsp, sp, #0x1, lsl #12\n   9:";
         let paged = judged(&listing(&MOVES_ARM.replace("   9:", pages))).unwrap();
         assert_eq!(paged.stack, 8 + (8 + 96 + 0x8000 + 0x20));
+        let shorter = pages.replace("#0x1, lsl #12", "#0xc00");
+        let stepped = judged(&listing(&MOVES_ARM.replace("   9:", &shorter))).unwrap();
+        assert_eq!(stepped.stack, paged.stack);
         assert!(judged(&listing(&MOVES_ARM.replace("#0x20", "#0x10, lsl #12"))).is_err());
         assert!(judged(&listing(&MOVES_ARM.replace("memmove", "memset"))).is_err());
     }

@@ -1,10 +1,8 @@
-//! The proved program `listing`, which `rt check listing` makes: what document 01 has it print, and the same as `cim list` where that reads the file too.
+//! The proved program `listing`, which `rt ci` makes, or `rt run` in its folder: what document 01 has it print, and the same as `cim list` where that reads the file too.
 
-use std::ffi::OsString;
 use std::io::Write;
-use std::path::{Path, PathBuf};
+use std::path::Path;
 use std::process::{Command, Stdio};
-use std::sync::OnceLock;
 
 const ROOT: &str = concat!(env!("CARGO_MANIFEST_DIR"), "/../..");
 
@@ -18,45 +16,18 @@ fn printed(command: &mut Command, input: &[u8]) -> (String, bool) {
         .stdout(Stdio::piped())
         .stderr(Stdio::null())
         .spawn()
-        .unwrap_or_else(|error| panic!("{command:?}: {error}; make it with `rt check listing`"));
+        .unwrap_or_else(|error| {
+            panic!("{command:?}: {error}; make it with `rt run` in crates/listing")
+        });
     // A program that has read enough closes its end first.
     let _ = child.stdin.take().unwrap().write_all(input);
     let output = child.wait_with_output().unwrap();
     (String::from_utf8(output.stdout).unwrap(), output.status.success())
 }
 
-/// The folder of the Rattle kit, in which its guides stand under `docs`.
-fn kit() -> PathBuf {
-    let output =
-        Command::new("rt").arg("doc").output().expect("rt says where the kit's guides are");
-    let guide = PathBuf::from(String::from_utf8(output.stdout).unwrap().trim());
-    guide.ancestors().nth(2).expect("the kit's folder").to_path_buf()
-}
-
-/// The words that run a program of the kit. It is made for x86-64; other machines run it by the kit's emulator and loader.
-fn runner() -> &'static [OsString] {
-    static WORDS: OnceLock<Vec<OsString>> = OnceLock::new();
-    WORDS.get_or_init(|| {
-        let program = Path::new(ROOT).join("target/bin/listing").into_os_string();
-        if cfg!(target_arch = "x86_64") {
-            return vec![program];
-        }
-        let tools = kit().join("on").join(std::env::consts::ARCH).join("toolchain");
-        let library = tools.join("lib");
-        let loader = library.join("ld-linux-x86-64.so.2");
-        vec![
-            tools.join("bin/qemu-x86_64").into(),
-            loader.into(),
-            "--library-path".into(),
-            library.into(),
-            program,
-        ]
-    })
-}
-
 fn listing(input: &[u8]) -> String {
-    let words = runner();
-    printed(Command::new(&words[0]).args(&words[1..]), input).0
+    // It is made for x86-64, as all that the kit itself runs.
+    printed(&mut Command::new(Path::new(ROOT).join("crates/listing/out/listing")), input).0
 }
 
 fn cim_list(input: &[u8]) -> (String, bool) {
