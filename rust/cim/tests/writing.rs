@@ -54,6 +54,11 @@ fn what_is_no_file_or_is_read_only_is_not_replaced() {
     assert_eq!(names(&at), ["folder", "in", "kept"]);
 }
 
+/// Removes a folder with links in it: `rt ci` wants none in the checkout.
+fn gone(at: &Path) {
+    fs::remove_dir_all(at).unwrap();
+}
+
 #[test]
 fn a_link_stays_and_permissions_too() {
     let at = folder("link");
@@ -67,6 +72,7 @@ fn a_link_stays_and_permissions_too() {
     assert_eq!(fs::read(&real).unwrap().len(), 71);
     assert_eq!(fs::metadata(&real).unwrap().permissions().mode() & 0o777, 0o640);
     assert_eq!(names(&at.join("store")), ["real"]);
+    gone(&at);
 }
 
 /// Runs `cim canon in out` where no file can grow past a few KiB, so that writing fails half-way. `guard` is what the
@@ -241,6 +247,7 @@ fn a_link_to_what_is_not_there_stays_a_link() {
     let told = "cim: cannot write round: its links lead to no end\n";
     fails(run(&at, &["canon", "in", "round"]), told, 3);
     assert_eq!(names(&at), ["first", "in", "round", "store"]);
+    gone(&at);
 }
 
 // ---- memory
