@@ -170,7 +170,9 @@ fn common_folder(test: &str) -> (PathBuf, PathBuf) {
     let _ = fs::remove_dir_all(&at);
     fs::create_dir_all(&at).unwrap();
     let program = at.join("bin");
-    fs::copy(env!("CARGO_BIN_EXE_cim"), &program).unwrap();
+    // By another process: a file that this one writes is busy for as long as a child of another test holds it.
+    let copied = Command::new("cp").arg(env!("CARGO_BIN_EXE_cim")).arg(&program).status().unwrap();
+    assert!(copied.success());
     let folder = at.join("folder");
     fs::create_dir(&folder).unwrap();
     fs::set_permissions(&folder, fs::Permissions::from_mode(0o777)).unwrap();
