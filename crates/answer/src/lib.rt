@@ -68,21 +68,21 @@ pub const CARD: u32 = 28;
 pub const TURN: u32 = 29;
 
 #[repr(C)]
-#[derive(Drop)]
+#[derive(Clone, Copy)]
 pub struct Answer {
     pub number: u32,
     pub place: u64,
 }
 
 // Where a piece of the input ends, or its first fault.
-#[derive(Drop)]
+#[derive(Clone, Copy)]
 pub enum Piece {
     Stop(u32, usize),
     Ends(usize),
 }
 
 // A test of some bytes passed, or its first fault.
-#[derive(Drop)]
+#[derive(Clone, Copy)]
 pub enum Test {
     Fault(u32, usize),
     Fine,

@@ -20,7 +20,7 @@ pub enum State {
 }
 
 // A field: where its first stands, its bytes, how many there are, and from one to the next.
-#[derive(Drop)]
+#[derive(Clone, Copy)]
 pub struct Row {
     pub at: usize,
     pub width: usize,
@@ -128,7 +128,7 @@ fn row_of(kind: State, n: usize) -> Row
 }
 
 // A field's place in a state and its bytes.
-#[derive(Drop)]
+#[derive(Clone, Copy)]
 pub enum Spot {
     At(usize, usize),
     Lacks,

@@ -11,7 +11,7 @@ ghost use Rattle.format.specs.Places.{read_at, present_at, flag_of};
 use answer::{LIMIT, Piece, SHAPE, TEXT, VALUE};
 
 // A presence byte: refused, 0, or 1 with something behind it.
-#[derive(Drop)]
+#[derive(Clone, Copy)]
 pub enum Flag {
     Bad(u32, usize),
     Absent,

@@ -4,7 +4,7 @@ use mathlib.Core.Path.{◌≡◌, refl, sym, ◌∙◌, ap}
 use mathlib.Core.Logic.{◌≢◌}
 use mathlib.Core.Bool.{Bool, true, false}
 use mathlib.Core.List.Permᴰ
-use mathlib.Core.List.{List, [], ◌++◌, map, append-nil, Permᴰ}
+use mathlib.Core.List.{List, ◌++◌, map, Permᴰ}
 use Prim.Native.Nat.{ℕ}
 use lib.ListN.{length, drop}
 use Rattle.answer.specs.Outcome.{taken}

@@ -13,7 +13,7 @@ use Rattle.wire.specs.Numbers.{le_at}
 use Rattle.format.specs.Format.{Is}
 use Rattle.format.proofs.Meaning.{complete}
 use Rattle.order.specs.Keyed.{weigh, sort, Apart}
-use Rattle.order.specs.Entries.{join, starts_from, split}
+use Rattle.order.specs.Entries.{join, starts_from}
 use Rattle.order.proofs.Entries.{SelfDelimiting, split-join, length-join}
 use Rattle.order.proofs.Keys.{apart_same}
 use Rattle.order.proofs.Sorts.{inserts-sort}

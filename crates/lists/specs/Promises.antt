@@ -1,10 +1,8 @@
 -- What the calls promise: a list indexed, and a place found in an index.
 -- Assumes nothing.
-use Rattle.std.specs.Prelude.{◌≡◌, ◌⊎◌, Bool, true, false, cond, List, [], ◌∷◌, ◌++◌, ℕ, zero, suc, ◌+◌, ◌-◌, ◌/◌, ◌≤◌, ◌<◌, leb, eqb, length, take, drop, get_or, replicate}
+use Rattle.std.specs.Prelude.{◌≡◌, Bool, true, false, List, [], ◌∷◌, ◌++◌, ℕ, zero, suc, ◌+◌, ◌-◌, ◌/◌, ◌≤◌, ◌<◌, leb, eqb, length, take, drop, get_or, replicate}
 use Rattle.answer.specs.declared.Piece.{Piece}
 use Rattle.answer.specs.Numbers.{HAVE, ABSENT}
-use Rattle.answer.specs.declared.Test.{Test}
-use Rattle.answer.specs.declared.Test.TheVariants.{Fault, Fine}
 use Rattle.answer.specs.Outcome.{Outcome, taken, refused, after}
 use Rattle.answer.specs.Calls.{piece_of}
 use Rattle.order.specs.Keyed.{has, sort, Apart}

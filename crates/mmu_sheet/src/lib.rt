@@ -13,13 +13,13 @@ use registers::{Segment, put_segment, put_words, segment_at, words};
 use wire::{put_u16, put_u64, u16_at, u64_at};
 
 // Base and limit of a descriptor table.
-#[derive(Drop)]
+#[derive(Clone, Copy)]
 pub struct Bound {
     pub base: u64,
     pub limit: u16,
 }
 
-#[derive(Drop)]
+#[derive(Clone, Copy)]
 pub struct MmuSheet {
     pub control: [u64; 5],
     pub debug: [u64; 8],
@@ -31,7 +31,7 @@ pub struct MmuSheet {
 }
 
 // Number and place, and the sheet; beside a refusal the sheet of a state of zeros.
-#[derive(Drop)]
+#[derive(Clone, Copy)]
 pub struct MmuShown {
     pub number: u32,
     pub place: u64,

@@ -19,7 +19,7 @@ use tables::ROW;
 
 // The answer: number and place; 1 for a yes, 0 for a no and beside a refusal.
 #[repr(C)]
-#[derive(Drop)]
+#[derive(Clone, Copy)]
 pub struct Readiness {
     pub number: u32,
     pub ready: u32,
@@ -27,7 +27,7 @@ pub struct Readiness {
 }
 
 // Where bytes stand.
-#[derive(Drop)]
+#[derive(Clone, Copy)]
 pub struct Run {
     pub at: usize,
     pub len: usize,

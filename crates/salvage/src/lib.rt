@@ -18,7 +18,7 @@ use sections::{Division, Places};
 
 // The answer of a salvage: number and place, and how many losses there are.
 #[repr(C)]
-#[derive(Drop)]
+#[derive(Clone, Copy)]
 pub struct Salvaged {
     pub number: u32,
     pub place: u64,

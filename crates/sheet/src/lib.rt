@@ -16,7 +16,7 @@ use fields::State;
 use registers::{Segment, put_segment, put_words, segment_at, words};
 use wire::{put_u8, put_u16, put_u32, put_u64, u8_at, u16_at, u32_at, u64_at};
 
-#[derive(Drop)]
+#[derive(Clone, Copy)]
 pub struct Front {
     pub rip: u64,
     pub rflags: u64,
@@ -24,7 +24,7 @@ pub struct Front {
     pub halted: u8,
 }
 
-#[derive(Drop)]
+#[derive(Clone, Copy)]
 pub struct Math {
     pub fcw: u16,
     pub fsw: u16,
@@ -54,7 +54,7 @@ pub struct Extension {
 }
 
 // `st` has the eight x87 registers of 16 bytes.
-#[derive(Drop)]
+#[derive(Clone, Copy)]
 pub struct CpuSheet {
     pub gpr: [u64; 16],
     pub front: Front,
@@ -67,7 +67,7 @@ pub struct CpuSheet {
 }
 
 // Number and place, and the sheet; beside a refusal the sheet of a state of zeros.
-#[derive(Drop)]
+#[derive(Clone, Copy)]
 pub struct CpuShown {
     pub number: u32,
     pub place: u64,

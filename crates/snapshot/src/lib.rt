@@ -257,7 +257,7 @@ pub fn mmus(file: &[u8], table: &mut [u8]) -> Answer
 // What META says: number and place of the file's first fault, or 0 and 0; whether META is there, and if so the snapshot's id, whether it has a parent and the parent's id,
 // the time in ms, whether it has a label, and the label's place in the file and length. What is not there is 0.
 #[repr(C)]
-#[derive(Drop)]
+#[derive(Clone, Copy)]
 pub struct MetaFields {
     pub number: u32,
     pub present: u32,

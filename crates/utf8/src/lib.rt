@@ -8,14 +8,14 @@ ghost use Rattle.utf8.specs.Scan.{scan, is_text};
 ghost use Rattle.utf8.specs.Steps.{AtMost, Passes, Reaches};
 
 // A text; or the first place at which none continues, which is the length where the last character is cut short.
-#[derive(Drop)]
+#[derive(Clone, Copy)]
 pub enum Found {
     Whole,
     Broken(usize),
 }
 
 // The bytes of a character that are to come: where they end, or where they break.
-#[derive(Drop)]
+#[derive(Clone, Copy)]
 enum Reach {
     Ends(usize),
     Breaks(usize),

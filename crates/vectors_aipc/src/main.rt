@@ -97,10 +97,9 @@ fn trial(rt: &impl Print, message: Message, n: usize) -> io::Result<()> {
     let mut out = [0u8; 64];
     if n <= 3 {
         let a = aipc::write(message, &text[..n], &mut out);
-        let is_written = a.number == 0;
-        let long = a.place as usize;
         show_written(rt, a)?;
-        if is_written {
+        if a.number == 0 {
+            let long = a.place as usize;
             lengths(rt, &out, long)?;
             changes(rt, &mut out, long)?;
         }
