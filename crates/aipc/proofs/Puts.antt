@@ -3,11 +3,14 @@
 use mathlib.Core.Path.{◌≡◌, refl, sym, ap, ◌∙◌}
 use mathlib.Core.Bool.{Bool, true, false, cond}
 use mathlib.Core.List.{List, [], ◌∷◌, ◌++◌, append_assoc, append-nil}
-use Prim.Native.Nat.{ℕ, ◌+◌, ◌%◌, ◌^◌, ◌≤◌}
+use Prim.Native.Nat.{ℕ, ◌+◌, ◌*◌, ◌%◌, ◌^◌, ◌≤◌, ◌<◌}
 use native.Mathlib.Nat.{add-zero, add_assoc}
 use native.Mathlib.Omega.{arith}
 use lib.Dec.{leb}
-use lib.ListN.{length, take, drop, take-append-drop}
+use lib.ListN.{length, take, drop, get_or, take-append-drop}
+use Rattle.std.proofs.Math.Seq.{drop-cons}
+use Rattle.std.proofs.Math.ListN.{drop_of_length-le}
+use native.Mathlib.Numerals.{add-one}
 use Rattle.wire.specs.Numbers.{bytes_of}
 use Rattle.wire.specs.Parts.{splice, put, Wrote}
 use Rattle.wire.proofs.Numbers.{length-bytes_of, bytes_of-halves}
@@ -16,7 +19,7 @@ use Rattle.kinds.specs.declared.Body.{Body}
 use Rattle.kinds.specs.declared.Body.TheVariants.{Empty, Bytes, Text}
 use Rattle.kinds.specs.declared.Cell.{Cell}
 use Rattle.kinds.specs.declared.Form.{Form}
-use Rattle.kinds.specs.Kinds.{cells, ok_of}
+use Rattle.kinds.specs.Kinds.{cells, ok_of, none as no_cell}
 use Rattle.messages.specs.Fields.{field_width, size_of}
 use Rattle.messages.specs.Reading.{numbers_end}
 use Rattle.messages.specs.Writing.{field_bytes, body_bytes, with_length, form_bytes}
@@ -27,6 +30,14 @@ use Rattle.aipc.specs.Steps.{put_cells, put_sized, put_body, put_form}
 pub bytes_low : (n x : ℕ) → bytes_of n (x % 256 ^ n) ≡ bytes_of n x
 unfolding bytes_of
 bytes_low n x = sym (append-nil _) ∙ bytes_of-halves n 0 x ∙ ap (λ (k : ℕ). bytes_of k x) (add-zero n)
+
+-- a number of a known width, put by its low bytes
+pub put_low : (at n x : ℕ) (out : List ℕ) {w : ℕ} {new : List ℕ} → n ≡ w → new ≡ put at (bytes_of n (x % 256 ^ n)) out → new ≡ put at (bytes_of w x) out
+put_low at n x out e h = rw (← e) (h ∙ ap (λ (l : List ℕ). put at l out) (bytes_low n x))
+
+-- a length and as many bytes
+pub sized_so : (at : ℕ) (d out : List ℕ) {l new : List ℕ} → l ≡ put at (bytes_of 4 (length d % 4294967296)) out → new ≡ put (at + 4) d l → new ≡ put_sized d at out
+sized_so at d out e h = rw (← put_low at 4 (length d) out refl e) h
 
 -- nothing put is nothing changed
 pub put-none : (at : ℕ) (x : ℕ) (out : List ℕ) → out ≡ put at (bytes_of 0 x) out
@@ -85,15 +96,22 @@ put-form f d out h =
     let all = wrote_body f.body d two (omega arith) in
     all.bytes ∙ ap (λ (w : List ℕ). w ++ drop (length w) out) (append_assoc t q (body_bytes f.body d))
 
-abbrev pub cell_bytes : ℕ → Cell → List ℕ
-cell_bytes ok c = bytes_of (field_width ok c.0) c.1
+-- as the code comes to the fields from the i-th on: what is still to be put
+pub record Putting (ok : ℕ) (cs : List Cell) (out : List ℕ) (i at : ℕ) (l : List ℕ) : Type 0 where
+  pub same : put_cells ok (drop i cs) at l ≡ put_cells ok cs 2 out
+  pub small : at ≤ 2 + 8 * i
 
--- four fields, each put where the one before it ends
-pub put_four : (f : Form) (out : List ℕ) {l₁ l₂ l₃ l₄ : List ℕ} {w₁ w₂ w₃ : ℕ} → w₁ ≡ field_width (ok_of f) f.a.0 → w₂ ≡ field_width (ok_of f) f.b.0 → w₃ ≡ field_width (ok_of f) f.c.0
-    → l₁ ≡ put 2 (cell_bytes (ok_of f) f.a) out
-    → l₂ ≡ put (2 + w₁) (cell_bytes (ok_of f) f.b) l₁
-    → l₃ ≡ put (2 + w₁ + w₂) (cell_bytes (ok_of f) f.c) l₂
-    → l₄ ≡ put (2 + w₁ + w₂ + w₃) (cell_bytes (ok_of f) f.d) l₃
-    → l₄ ≡ put_cells (ok_of f) (cells f) 2 out
-unfolding put_cells
-put_four f out a b c p q r s = s ∙ rw (r, q, p, a, b, c)
+module _ (ok : ℕ) (cs : List Cell) (out : List ℕ) where
+  pub putting_next : {i at : ℕ} {l l' : List ℕ} → Putting ok cs out i at l → i < length cs → {items : List Cell} {o w : ℕ} → items ≡ cs → o ≡ ok → (w ≡ field_width o (get_or items i no_cell).0) × (w ≤ 8)
+      → l' ≡ put at (bytes_of (field_width o (get_or items i no_cell).0) (get_or items i no_cell).1) l → Putting ok cs out (i + 1) (at + w) l'
+  unfolding put_cells
+  putting_next {i} {at} {l} {l'} r k q p e h =
+      let c : Cell = get_or cs i no_cell in
+      let s : drop i cs ≡ c ∷ drop (i + 1) cs = rw add-one (drop-cons cs i no_cell k) in
+      let m = r.small in
+      let b = e.1 in
+      record { same = rw (rw (q, p) at e.0, rw (q, p) at h) (rw s at r.same); small = omega arith }
+
+  pub putting_all : {i at : ℕ} {l : List ℕ} → Putting ok cs out i at l → length cs ≤ i → l ≡ put_cells ok cs 2 out
+  unfolding put_cells
+  putting_all {i} {at} {l} r k = let d : drop i cs ≡ [] = drop_of_length-le cs k in rw d at r.same

@@ -1,8 +1,9 @@
 -- For contracts of private functions: what they say to each other.
 -- Assumes nothing.
-use Rattle.std.specs.Prelude.{Bool, ◌&&◌, List, [], ◌∷◌, ◌++◌, ℕ, ◌+◌, ◌-◌, leb, length, take, drop}
+use Rattle.std.specs.Prelude.{Bool, List, [], ◌∷◌, ◌++◌, ℕ, ◌+◌, ◌-◌, leb, length, take, drop}
+use Rattle.std.specs.List.{list_all}
 use Rattle.answer.specs.Numbers.{SHAPE, LIMIT, TEXT, VALUE}
-use Rattle.answer.specs.Outcome.{Outcome, taken, Checks, checked, after, room}
+use Rattle.answer.specs.Outcome.{Outcome, taken, Checks, checked, room}
 use Rattle.wire.specs.Numbers.{bytes_of}
 use Rattle.wire.specs.Parts.{put}
 use Rattle.utf8.specs.Scan.{is_text, break_at}
@@ -13,7 +14,8 @@ use Rattle.kinds.specs.declared.Cell.{Cell}
 use Rattle.kinds.specs.declared.Form.{Form}
 use Rattle.kinds.specs.Kinds.{cells, ok_of}
 use Rattle.messages.specs.Fields.{field_width, allowed}
-use Rattle.messages.specs.Reading.{MessageAndData, message_most, cell_checks, body_checks, numbers_end, message_content}
+use Rattle.messages.specs.Reading.{MessageAndData}
+use Rattle.messages.specs.Reading.{message_most, cell_checks, body_checks, numbers_end, message_content}
 use Rattle.messages.specs.Writing.{data_checks, form_bytes, write_checks}
 
 -- one field at a place, and where it ends
@@ -22,10 +24,6 @@ field_at ok c m at =
     checked
     ((leb (at + field_width ok c.0) (length m), SHAPE, at) ∷ (allowed ok c.0 c.1, VALUE, at) ∷ [])
     (taken (at + field_width ok c.0))
-
--- one test, and the other if that is passed
-abbrev pub then : Outcome (Unit {0}) → Outcome (Unit {0}) → Outcome (Unit {0})
-then a b = after a (λ _. b)
 
 -- a text from start to end
 abbrev pub text_part : ℕ → ℕ → List ℕ → Checks
@@ -41,9 +39,7 @@ formed k f m = checked (cell_checks (ok_of f) (cells f) 2 m) (behind k f.body (n
 
 -- each number is among its values
 abbrev pub all_allowed : Form → Bool
-all_allowed f =
-    let ok = ok_of f in
-    allowed ok f.a.0 f.a.1 && (allowed ok f.b.0 f.b.1 && (allowed ok f.c.0 f.c.1 && allowed ok f.d.0 f.d.1))
+all_allowed f = list_all (λ c. allowed (ok_of f) c.0 c.1) (cells f)
 
 -- the first checks of writing, which go by the numbers and the data
 abbrev pub write_faults : Form → List ℕ → Checks

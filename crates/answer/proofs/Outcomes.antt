@@ -1,11 +1,16 @@
 -- The laws of outcomes: what follows from one that is taken or refused, and places moved twice.
 -- Assumes nothing.
-use mathlib.Core.Path.{◌≡◌, refl, sym, ap}
-use Prim.Native.Nat.{ℕ, ◌+◌}
+use mathlib.Core.Path.{◌≡◌, refl, sym, ◌∙◌, ap}
+use mathlib.Core.List.{List, ◌++◌}
+use lib.ListN.{length, drop}
+use Prim.Native.Nat.{ℕ, ◌+◌, ◌≤◌}
 use native.Mathlib.Omega.{arith}
-use Rattle.answer.specs.declared.Test.{Test}
-use Rattle.answer.specs.Calls.{test_of, verdict}
-use Rattle.answer.specs.Outcome.{Outcome, taken, refused, after, moved, shift, done}
+use Rattle.std.proofs.Common.{Result, Ok, Err, IsErrAnd}
+use Rattle.answer.specs.declared.Fault.{Fault}
+use Rattle.answer.specs.Calls.{fault_of, outcome_of, asked, verdict, count_answer, Writes, WritesCount}
+use Rattle.answer.specs.Outcome.{Outcome, taken, refused, after, moved, shift, done, room, fitting}
+use Rattle.answer.proofs.Checks.{asked-pass, asked_stop}
+use borrow.Author.Tests.{leb-true}
 
 pub taken_is : {A : Type 0} {a b : A} → taken a ≡ taken b → a ≡ b
 taken_is h = cc
@@ -66,6 +71,38 @@ pub done_stop : {A : Type 0} (o : Outcome A) {n p : ℕ} → refused n p ≡ don
 done_stop o h = made_stop o (λ _. tt) h
 
 -- a call that writes nothing
-pub verdict-done : {A : Type 0} (o : Outcome A) (t : Test) → test_of t ≡ done o → verdict (test_of t) ≡ verdict o
+pub verdict-done : {A : Type 0} (o : Outcome A) (t : Result (Unit {0}) Fault) → outcome_of t ≡ done o → verdict (outcome_of t) ≡ verdict o
 verdict-done (taken a) t h = ap verdict h
 verdict-done (refused n p) t h = ap verdict h
+
+-- ---- a fault that `?` hands on
+
+-- the call answers the error of the one within it
+pub handed_on : {A E : Type 0} (r : Result A E) (e : E) → IsErrAnd r (λ g. g ≡ e) → r ≡ Err e
+handed_on (Ok a) e h = absurd h
+handed_on (Err g) e h = ap Err h
+
+-- and so its outcome
+pub passes : {A : Type 0} (r : Result A Fault) (f : Fault) {o : Outcome A} → IsErrAnd r (λ g. g ≡ f) → fault_of f ≡ o → outcome_of r ≡ o
+passes r f h e = ap outcome_of (handed_on r f h) ∙ e
+
+-- ---- a call that writes
+
+-- its answer by the number of bytes
+pub fills-writes : (o : Outcome (List ℕ)) {old new : List ℕ} (r : Result ℕ Fault) → WritesCount o old r new → Writes o old (count_answer (outcome_of r)) new
+fills-writes (taken b) r w = record { answers = ap count_answer w.answers; leaves = w.leaves }
+fills-writes (refused n p) r w = record { answers = ap count_answer w.answers; leaves = w.leaves }
+
+-- nothing is written where it is refused
+pub fills_stop : {o : Outcome (List ℕ)} (old : List ℕ) (f : Fault) → o ≡ fault_of f → WritesCount o old (Err f) old
+fills_stop old f e = rw e (record { answers = refl; leaves = refl })
+
+pub fills_done : {o : Outcome (List ℕ)} {old new : List ℕ} {n : ℕ} (b : List ℕ) → o ≡ taken b → n ≡ length b → new ≡ b ++ drop (length b) old → WritesCount o old (Ok n) new
+fills_done b e n w = rw e (record { answers = ap taken n; leaves = w })
+
+-- the room that a call asks for before it writes
+pub room_holds : (have need : ℕ) → taken tt ≡ asked (room have need) → need ≤ have
+room_holds have need h = leb-true need have (asked-pass (room have need) h).0
+
+pub room_stop : (have : ℕ) (b : List ℕ) {n p : ℕ} → refused n p ≡ asked (room have (length b)) → fitting have b ≡ refused n p
+room_stop have b h = asked_stop (room have (length b)) (taken b) h

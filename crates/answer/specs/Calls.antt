@@ -1,21 +1,19 @@
 -- What a call shows its caller: number, place, and every byte of lent memory afterwards.
 -- Assumes nothing.
-use Rattle.std.specs.Prelude.{◌≡◌, List, ◌++◌, ℕ, length, drop}
+use Rattle.std.specs.Prelude.{◌≡◌, Result, Ok, Err, List, ◌++◌, ℕ, length, drop}
 use Rattle.answer.specs.declared.Answer.{Answer}
-use Rattle.answer.specs.declared.Piece.{Piece}
-use Rattle.answer.specs.declared.Piece.TheVariants.{Stop, Ends}
-use Rattle.answer.specs.declared.Test.{Test}
-use Rattle.answer.specs.declared.Test.TheVariants.{Fault, Fine}
-use Rattle.answer.specs.Outcome.{Outcome, taken, refused, Checks, checked}
+use Rattle.answer.specs.declared.Fault.{Fault}
+use Rattle.answer.specs.Refusals.{number_of}
+use Rattle.answer.specs.Outcome.{Outcome, taken, refused, Checks, checked, after}
 
--- the outcomes that the code's own answers stand for
-abbrev pub piece_of : Piece → Outcome ℕ
-piece_of (Stop n p) = refused n p
-piece_of (Ends e) = taken e
+-- the fault that a call of the code answers, as an outcome
+abbrev pub fault_of : {A : Type 0} → Fault → Outcome A
+fault_of f = refused (number_of f.0) f.1
 
-abbrev pub test_of : Test → Outcome (Unit {0})
-test_of (Fault n p) = refused n p
-test_of Fine = taken tt
+-- the outcome that an answer of the code stands for
+abbrev pub outcome_of : {A : Type 0} → Result A Fault → Outcome A
+outcome_of (Ok a) = taken a
+outcome_of (Err f) = fault_of f
 
 -- checks with nothing behind them
 abbrev pub asked : Checks → Outcome (Unit {0})
@@ -31,6 +29,11 @@ abbrev pub answer : Outcome (List ℕ) → Answer
 answer (taken b) = record { number = 0; place = length b }
 answer (refused n p) = record { number = n; place = p }
 
+-- the same by that number alone
+abbrev pub count_answer : Outcome ℕ → Answer
+count_answer (taken n) = record { number = 0; place = n }
+count_answer (refused n p) = record { number = n; place = p }
+
 -- the lent memory after it: the bytes, and behind them what was there; a refusal leaves all as it was
 abbrev pub memory : Outcome (List ℕ) → List ℕ → List ℕ
 memory (taken b) old = b ++ drop (length b) old
@@ -39,4 +42,9 @@ memory (refused n p) old = old
 -- the promise of a call that writes: its answer r, and `new` in the lent memory that held `old`
 pub record Writes (o : Outcome (List ℕ)) (old : List ℕ) (r : Answer) (new : List ℕ) : Type 0 where
   pub answers : r ≡ answer o
+  pub leaves : new ≡ memory o old
+
+-- the promise of one that answers how many bytes it wrote, or its fault
+pub record WritesCount (o : Outcome (List ℕ)) (old : List ℕ) (r : Result ℕ Fault) (new : List ℕ) : Type 0 where
+  pub answers : outcome_of r ≡ after o (λ b. taken (length b))
   pub leaves : new ≡ memory o old

@@ -1,72 +1,70 @@
 // What a call answers: the number and the place of its first refusal, or 0 and the bytes that it wrote.
-// The numbers are those of document 01's table. Public calls answer by `Answer`; readers inside the library by `Piece` and `Test`,
-// whose places are places of a slice.
+// The numbers are those of document 01's table. What C calls answers by `Answer`; readers inside the library by a `Result` with a
+// `Fault`, whose place is a place of a slice.
 #![tactic(auto)]
 
 ghost use Rattle.std.specs.Prelude.{◌≡◌};
-ghost use Rattle.answer.specs.Calls.{piece_of, test_of, verdict, asked};
+ghost use Rattle.answer.specs.Calls.{fault_of, outcome_of, verdict, count_answer, asked};
+ghost use Rattle.answer.specs.Refusals.{number_of};
 ghost use Rattle.answer.specs.Outcome.{room};
 
 pub const TAKEN: u32 = 0;
 
-pub const SHORT: u32 = 1;
+// The refusals of document 01's table, each by its number there; 0 is the number of a call that refuses nothing.
+#[derive(Clone, Copy, Debug, PartialEq, Eq)]
+pub enum Refusal {
+    Short = 1,
+    Magic = 2,
+    Version = 3,
+    Endian = 4,
+    Reserved = 5,
+    Size = 6,
+    Cut = 7,
+    Many = 8,
+    Twice = 9,
+    Secver = 10,
+    Shape = 11,
+    Limit = 12,
+    Key = 13,
+    Text = 14,
+    Value = 15,
+    Room = 16,
+    Have = 17,
+    Tag = 18,
 
-pub const MAGIC: u32 = 2;
+    // The rings' own (request 1 of document 02).
+    Region = 20,
+    Big = 21,
+    Full = 22,
+    Empty = 23,
+    Record = 24,
 
-pub const VERSION: u32 = 3;
+    // Of a removal or a replacement (request 3).
+    Absent = 25,
 
-pub const ENDIAN: u32 = 4;
+    // Of many devices at once (request 8).
+    Payload = 26,
 
-pub const RESERVED: u32 = 5;
+    // Of an edit beside an untrue card (request 12).
+    Card = 28,
 
-pub const SIZE: u32 = 6;
+    // The rings' last.
+    Turn = 29,
+}
 
-pub const CUT: u32 = 7;
+impl From<Refusal> for u32 {
+    ghost from_gives = { λ r n. n ≡ number_of r };
 
-pub const MANY: u32 = 8;
+    fn from(r: Refusal) -> u32 {
+        r as u32
+    }
+}
 
-pub const TWICE: u32 = 9;
+// Why a call refuses, and the place where.
+#[derive(Clone, Copy, Debug, PartialEq, Eq)]
+pub struct Fault(pub Refusal, pub usize);
 
-pub const SECVER: u32 = 10;
-
-pub const SHAPE: u32 = 11;
-
-pub const LIMIT: u32 = 12;
-
-pub const KEY: u32 = 13;
-
-pub const TEXT: u32 = 14;
-
-pub const VALUE: u32 = 15;
-
-pub const ROOM: u32 = 16;
-
-pub const HAVE: u32 = 17;
-
-pub const TAG: u32 = 18;
-
-// The rings' own (request 1 of document 02).
-pub const REGION: u32 = 20;
-
-pub const BIG: u32 = 21;
-
-pub const FULL: u32 = 22;
-
-pub const EMPTY: u32 = 23;
-
-pub const RECORD: u32 = 24;
-
-// Of a removal or a replacement (request 3).
-pub const ABSENT: u32 = 25;
-
-// Of many devices at once (request 8).
-pub const PAYLOAD: u32 = 26;
-
-// Of an edit beside an untrue card (request 12).
-pub const CARD: u32 = 28;
-
-pub const TURN: u32 = 29;
-
+// What C is told: the number and the place of the first refusal, or 0 and the bytes written.
 #[repr(C)]
 #[derive(Clone, Copy)]
 pub struct Answer {
@@ -74,42 +72,48 @@ pub struct Answer {
     pub place: u64,
 }
 
-// Where a piece of the input ends, or its first fault.
-#[derive(Clone, Copy)]
-pub enum Piece {
-    Stop(u32, usize),
-    Ends(usize),
-}
+// The answer of a call that refuses.
+impl From<Fault> for Answer {
+    ghost from_gives = { λ f a. a ≡ count_answer (fault_of f) };
 
-// A test of some bytes passed, or its first fault.
-#[derive(Clone, Copy)]
-pub enum Test {
-    Fault(u32, usize),
-    Fine,
+    fn from(f: Fault) -> Answer {
+        Answer {
+            number: u32::from(f.0),
+            place: f.1 as u64,
+        }
+    }
 }
 
 // The answer of a call that has nothing to write.
-pub fn answered(t: Test) -> Answer
-    ensures { result ≡ verdict (test_of t) }
-{
-    match t {
-        Test::Fault(number, place) => Answer {
-            number,
-            place: place as u64,
-        },
-        Test::Fine => Answer {
-            number: TAKEN,
-            place: 0,
-        },
+impl From<Result<(), Fault>> for Answer {
+    ghost from_gives = { λ r a. a ≡ verdict (outcome_of r) };
+
+    fn from(r: Result<(), Fault>) -> Answer {
+        Answer::from(r.map(|()| 0usize))
+    }
+}
+
+// The answer of a call that writes: how many bytes it wrote.
+impl From<Result<usize, Fault>> for Answer {
+    ghost from_gives = { λ r a. a ≡ count_answer (outcome_of r) };
+
+    fn from(r: Result<usize, Fault>) -> Answer {
+        match r {
+            Ok(written) => Answer {
+                number: TAKEN,
+                place: written as u64,
+            },
+            Err(f) => Answer::from(f),
+        }
     }
 }
 
 // Whether `have` bytes of output hold the `need` that are to be written: the last check of each call that writes.
-pub fn roomy(have: usize, need: usize) -> Test
-    ensures { test_of result ≡ asked (room have need) }
+pub fn roomy(have: usize, need: usize) -> Result<(), Fault>
+    ensures { outcome_of result ≡ asked (room have need) }
 {
     if have < need {
-        return Test::Fault(ROOM, need);
+        return Err(Fault(Refusal::Room, need));
     }
-    Test::Fine
+    Ok(())
 }

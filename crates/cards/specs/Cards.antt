@@ -9,8 +9,10 @@ use Rattle.order.specs.Keyed.{weigh}
 use Rattle.entries.specs.Kinds.{devices}
 use Rattle.cards.specs.declared.Card.{Card}
 use Rattle.cards.specs.declared.Edited.{Edited}
-use Rattle.cards.specs.declared.Moved.{Moved}
-use Rattle.cards.specs.declared.Moved.TheVariants.{Out, To}
+use Rattle.cards.specs.declared.Written.{Written}
+use Rattle.cards.specs.declared.Refused.{Refused}
+use Rattle.std.specs.Prelude.{Result, Ok, Err}
+use Rattle.answer.specs.Refusals.{number_of}
 use Rattle.aerosnap.specs.File.{file_most, sections_most, devices_most}
 use Rattle.aerosnap.specs.Content.{Content, secs, render, content_at}
 use Rattle.aerosnap.specs.Edits.{Edit, apply, edit_to}
@@ -56,11 +58,6 @@ moved_card k a b = record {
   payloads = goes a.payloads b.payloads k.payloads;
 }
 
--- where a card goes, or that it leaves its bounds
-abbrev pub move_of : Moved → Outcome Card
-move_of Out = refused CARD 0
-move_of (To k) = taken k
-
 -- ---- an edit beside a card
 
 -- bytes that are written of u, which came of c, and the card then
@@ -90,6 +87,11 @@ answer_beside k i (refused n p) = record { number = n; index = i; place = p; car
 pub record WritesBeside (k : Card) (o : ℕ × Outcome (List ℕ × Card)) (old : List ℕ) (r : Edited) (new : List ℕ) : Type 0 where
   pub answers : r ≡ answer_beside k o.0 o.1
   pub leaves : new ≡ memory (bytes_beside o.1) old
+
+-- what is told of the code's own answer beside the card k: a refusal leaves it as it was
+abbrev pub edited_answer : Card → Result Written Refused → Edited
+edited_answer k (Ok w) = record { number = 0; index = 0; place = w.bytes; card = w.card }
+edited_answer k (Err r) = record { number = number_of r.fault.0; index = r.index; place = r.fault.1; card = k }
 
 -- a card that says nothing
 abbrev pub blank_card : Card

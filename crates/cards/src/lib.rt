@@ -3,9 +3,11 @@
 
 ghost use Rattle.std.specs.Prelude.{◌≡◌, true, ◌&&◌, ◌+◌, ◌≤◌, leb};
 ghost use Rattle.answer.specs.Outcome.{taken, checked};
-ghost use Rattle.cards.specs.Cards.{stays, goes, card_checks, moved_card, move_of};
+ghost use Rattle.answer.specs.Calls.{outcome_of};
+ghost use Rattle.cards.specs.Cards.{stays, goes, card_checks, moved_card, edited_answer};
 
 use aerosnap::{DEVICES_MOST, SECTIONS_MOST};
+use answer::{Fault, Refusal, TAKEN};
 use lists::FILE_MOST;
 
 // A canonical file's length, its sections, its devices, and the bytes of their payloads together.
@@ -28,11 +30,46 @@ pub struct Edited {
     pub card: Card,
 }
 
-// Where a card goes, or that a number of it leaves its bounds.
+// What an edit writes: how many bytes, and the card that goes with them.
 #[derive(Clone, Copy)]
-pub enum Moved {
-    Out,
-    To(Card),
+pub struct Written {
+    pub bytes: usize,
+    pub card: Card,
+}
+
+// Why an edit is refused, and the index of the entry that is where there are many.
+#[derive(Clone, Copy)]
+pub struct Refused {
+    pub index: u32,
+    pub fault: Fault,
+}
+
+impl From<Fault> for Refused {
+    ghost from_gives = { λ f r. r ≡ record { index = 0; fault = f } };
+
+    fn from(fault: Fault) -> Refused {
+        Refused { index: 0, fault }
+    }
+}
+
+// What is told of an edit beside a card: a refusal leaves the card as it was.
+pub fn edited_answer(card: Card, r: Result<Written, Refused>) -> Edited
+    ensures { result ≡ edited_answer card r }
+{
+    match r {
+        Ok(written) => Edited {
+            number: TAKEN,
+            index: 0,
+            place: written.bytes as u64,
+            card: written.card,
+        },
+        Err(refused) => Edited {
+            number: u32::from(refused.fault.0),
+            index: refused.index,
+            place: refused.fault.1 as u64,
+            card,
+        },
+    }
 }
 
 // The bounds of its numbers.
@@ -99,23 +136,23 @@ fn gone_to(a: u64, b: u64, n: u64) -> u64
     n - (a - b)
 }
 
-// A card that moves as from a to b, whatever these are.
-pub fn move_by(card: Card, a: Card, b: Card) -> Moved
-    ensures { move_of result ≡ checked (card_checks card a b) (taken (moved_card card a b)) }
+// Where a card goes that moves as from a to b, whatever these are, or that a number of it leaves its bounds.
+pub fn move_by(card: Card, a: Card, b: Card) -> Result<Card, Fault>
+    ensures { outcome_of result ≡ checked (card_checks card a b) (taken (moved_card card a b)) }
 {
     if !is_within(SHORTEST, LONGEST, a.length, b.length, card.length) {
-        return Moved::Out;
+        return Err(Fault(Refusal::Card, 0));
     }
     if !is_within(0, MOST_SECTIONS, a.sections, b.sections, card.sections) {
-        return Moved::Out;
+        return Err(Fault(Refusal::Card, 0));
     }
     if !is_within(0, MOST_DEVICES, a.devices, b.devices, card.devices) {
-        return Moved::Out;
+        return Err(Fault(Refusal::Card, 0));
     }
     if !is_within(0, MOST_PAYLOADS, a.payloads, b.payloads, card.payloads) {
-        return Moved::Out;
+        return Err(Fault(Refusal::Card, 0));
     }
-    Moved::To(Card {
+    Ok(Card {
         length: gone_to(a.length, b.length, card.length),
         sections: gone_to(a.sections, b.sections, card.sections),
         devices: gone_to(a.devices, b.devices, card.devices),

@@ -147,9 +147,8 @@ pub extern "C" fn cimbrolau_add_devices_of(
 {
     let mut records = [0u8; 98328];
     let n = newcomers::looked_at(table.len());
-    let mut i = 0;
-    while i < n {
-        i = newcomers::put(&mut records, i, table[i]);
+    for i in 0..n {
+        newcomers::put(&mut records, i, table[i]);
     }
     newcomers::add_records(file, card, &records, n, store, out)
 }

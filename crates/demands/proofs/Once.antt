@@ -1,9 +1,9 @@
 -- The promise of every public function determines number, place, reading and each byte of lent memory afterwards, refusals too: any two answers that it
 -- allows are equal. Here are the proofs of that, crate by crate, each behind the functions that it speaks of. No public function lacks one.
 -- Assumes nothing.
-
--- answer: answered; roomy
-pub use Rattle.answer.proofs.Once.{answered_once, roomy_once}
+use mathlib.Core.Path.{◌≡◌, sym, ◌∙◌}
+-- answer: u32 from a refusal; Answer from a fault, from what writes nothing, and from what writes; roomy
+pub use Rattle.answer.proofs.Once.{number_of_once, count_answer_once, answered_once, roomy_once}
 -- wire: fits; left; tail; u8_at, u16_at, u32_at, u64_at; put_u8, put_u16, put_u32, put_u64, copy
 pub use Rattle.wire.proofs.Once.{fits_once, left_once, tail_once, load_once, store_once}
 -- utf8: text; is_text
@@ -48,8 +48,8 @@ pub use Rattle.mmu_sheet.proofs.Once.{mmu_once, mmu_over_once}
 pub use Rattle.payloads.proofs.Once.{index_once as payloads-index-once}
 -- sections: small; scan; is_list; check_and_find; fits; places_for; noted; divide; index_file
 pub use Rattle.sections.proofs.Once.{small_once, scan_once, is_list_once, check_and_find_once, fits_once as sections-fits-once, places_for_once, noted_once, divide_once, index_file_once}
--- cards: move_by
-pub use Rattle.cards.proofs.Once.{move_by_once}
+-- cards: move_by; edited_answer; Refused from a fault
+pub use Rattle.cards.proofs.Once.{move_by_once, edited_answer_once, refused_from_once}
 -- canon: put_between; canon and snapshot: canonical
 pub use Rattle.canon.proofs.Once.{canonical_once, put_between_once}
 -- salvage and snapshot: salvage
@@ -64,3 +64,8 @@ pub use Rattle.newcomers.proofs.Once.{looked_at_once, put_once, add_records_once
 pub use Rattle.ready.proofs.Once.{ready_once}
 -- cimbrolau: the same calls for C, each law named after its function
 pub use Rattle.cimbrolau.proofs.Once.{check_once as cimbrolau-check-once, sections_once as cimbrolau-sections-once, devices_once as cimbrolau-devices-once, disks_once as cimbrolau-disks-once, cpus_once as cimbrolau-cpus-once, mmus_once as cimbrolau-mmus-once, meta_once as cimbrolau-meta-once, canonical_once as cimbrolau-canonical-once, salvage_once as cimbrolau-salvage-once, open_once as cimbrolau-open-once, edit_once as cimbrolau-edit-once, add-devices_once as cimbrolau-add-devices-once, add-devices_of_once as cimbrolau-add-devices-of-once, wrapper_check_once as cimbrolau-wrapper-check-once, controllers_once as cimbrolau-controllers-once, wrapper_canonical_once as cimbrolau-wrapper-canonical-once, message_read_once as cimbrolau-message-read-once, message_write_once as cimbrolau-message-write-once, region_check_once, ring_report_once, ring_reserve_once, ring_fill_once, ring_commit_once, ring-take_once, cpu_field_once as cimbrolau-cpu-field-once, mmu_field_once as cimbrolau-mmu-field-once, cpu_set_once as cimbrolau-cpu-set-once, mmu_set_once as cimbrolau-mmu-set-once, access_once as cimbrolau-access-once, ready_once as cimbrolau-ready-once}
+
+-- kinds: cells, ok; Cell from a number. messages: Reading, numbers: Told, region: Cursors, rings: Pair and Record, sheet: CpuShown, mmu_sheet: MmuShown, ready:
+-- Readiness, salvage: Salvaged, each from a result. Each promise names the value that is given, so one law is all of theirs.
+pub given_once : {A : Type 0} {x a b : A} → a ≡ x → b ≡ x → a ≡ b
+given_once x y = x ∙ sym y

@@ -7,7 +7,7 @@ use Rattle.answer.specs.Outcome.{taken, refused}
 use Rattle.wire.specs.Numbers.{le_at}
 use Rattle.format.specs.Format.{utf8, text}
 use Rattle.format.specs.Places.{read_at}
-use Rattle.utf8.specs.declared.Found.{Found}
+use Rattle.std.specs.Prelude.{Result}
 use Rattle.utf8.specs.Grammar.{Text, Begins, Breaks, text_of, Reads}
 use Rattle.utf8.specs.Scan.{is_text}
 use Rattle.kinds.specs.declared.Message.{Message}
@@ -27,7 +27,7 @@ pub record Texts : Type 0 where
   -- in Log and Panic, and in what an add or a message is given
   pub tests : (s : List ℕ) → (is_text s ≡ true) ↔ Text s
   -- by the call that looks at it
-  pub calls : (s : List ℕ) (r : Found) → Reads s (text_of r) → (text_of r ≡ taken tt) ↔ Text s
+  pub calls : (s : List ℕ) (r : Result (Unit {0}) ℕ) → Reads s (text_of r) → (text_of r ≡ taken tt) ↔ Text s
 
 -- ---- request 2: TEXT points at the first byte at which no valid UTF-8 continues (the length, if the text ends early)
 
@@ -52,7 +52,7 @@ pub record BrokenTexts : Type 0 where
   -- it is the only such place
   pub only : (s : List ℕ) (k : ℕ) → Breaks s k → (j : ℕ) → j ≤ length s → Begins (take j s) → (j < length s → Begins (take (j + 1) s) → ⊥) → j ≡ k
   -- the call that looks at a text names it
-  pub calls : (s : List ℕ) (r : Found) → Reads s (text_of r) → (k : ℕ) → (text_of r ≡ refused TEXT k) ↔ Breaks s k
+  pub calls : (s : List ℕ) (r : Result (Unit {0}) ℕ) → Reads s (text_of r) → (k : ℕ) → (text_of r ≡ refused TEXT k) ↔ Breaks s k
   -- TEXT of a file points there in one of its texts
   pub files : (s : List ℕ) (p : ℕ) → check_call s ≡ refused TEXT p → Pointer s p
   -- and of a label or an image text, whose length stands at a place, in that one

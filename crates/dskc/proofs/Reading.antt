@@ -1,24 +1,24 @@
 -- A wrapper by its header and the index of its list, and the exits of the calls that read it.
 -- Assumes nothing.
-use mathlib.Core.Path.{◌≡◌, refl, sym, ◌∙◌, ap, subst}
+use mathlib.Core.Path.{◌≡◌, sym, ◌∙◌, ap}
 use mathlib.Core.List.{List}
-use Prim.Native.Nat.{ℕ, ◌+◌, ◌*◌, ◌/◌, ◌≤◌, ◌<◌}
+use Prim.Native.Nat.{ℕ, ◌+◌, ◌*◌, ◌/◌, ◌≤◌}
 use native.Mathlib.Omega.{arith}
-use lib.ListN.{length, take, drop, length-take, length-drop}
-use borrow.Author.Tests.{leb-true, le-leb, lt-leb}
-use Rattle.answer.specs.declared.Piece.TheVariants.{Stop, Ends}
-use Rattle.answer.specs.Numbers.{ROOM}
-use Rattle.answer.specs.Outcome.{Outcome, taken, refused, Pass, after, moved, fitting}
-use Rattle.answer.specs.Calls.{asked, Writes}
-use Rattle.answer.proofs.Checks.{checked-pass, pass-checked, asked_stop}
-use Rattle.answer.proofs.Outcomes.{moved_taken, taken_is}
+use lib.ListN.{length, take, drop, length-drop}
+use borrow.Author.Tests.{leb-true, le-leb}
+use Rattle.std.proofs.Common.{Ok, Err}
+use Rattle.answer.specs.declared.Fault.{Fault}
+use Rattle.answer.specs.Outcome.{Outcome, taken, refused, Pass, after, moved, room, fitting}
+use Rattle.answer.specs.Calls.{asked, WritesCount}
+use Rattle.answer.specs.Refusals.{number_of}
+use Rattle.answer.proofs.Checks.{checked-pass, pass-checked, asked-pass, asked_stop}
+use Rattle.answer.proofs.Outcomes.{moved_taken, fills_done}
 use Rattle.wire.specs.Parts.{Wrote}
-use Rattle.wire.proofs.Calls.{writes_taken}
 use Rattle.entries.specs.Kinds.{controllers}
 use Rattle.entries.specs.declared.Kind.TheVariants as kind
 use Rattle.entries.proofs.Lawful.{lawful}
 use Rattle.lists.specs.Lists.{list_at, part_checks, index_of}
-use Rattle.lists.specs.Promises.{lent_after, Indexed}
+use Rattle.lists.specs.Promises.{Indexed}
 use Rattle.lists.proofs.Callers.{indexed_stop, indexed_done, index_roomy}
 use Rattle.lists.proofs.Taken.{list_sound}
 use Rattle.lists.proofs.Ordered.{index_length}
@@ -29,16 +29,21 @@ use Rattle.tables.proofs.Rows.{length-rows, rows_all}
 use Rattle.writer.specs.Steps.{Listed}
 use Rattle.dskc.specs.Wrapper.{wrapper_most, wrapper_header_checks, wrapper_of, controllers_call}
 
--- a refusal, with the places as they were
-stopped : {o : Outcome (List ℕ)} {old new : List ℕ} {n p : ℕ} → o ≡ refused n p → new ≡ old → Indexed o old (Stop n p) new
-stopped {o} {old} e k = record { answers = sym (ap (λ (x : Outcome (List ℕ)). after x (λ l. taken (length l))) e); leaves = k ∙ sym (ap (λ (x : Outcome (List ℕ)). lent_after x old) e) }
+-- ---- bytes for a lent output, by whether they fit there
+
+module _ (have : ℕ) {need : ℕ} (b : List ℕ) (e : length b ≡ need) where
+  pub full : {n p : ℕ} → refused n p ≡ asked (room have need) → fitting have b ≡ refused n p
+  full h = rw e (asked_stop (room have need) (taken b) h)
+
+  pub fits : taken tt ≡ asked (room have need) → (fitting have b ≡ taken b) × (need ≤ have)
+  fits h = let w = asked-pass (room have need) h in (rw e (pass-checked (room have need) (taken b) w), leb-true need have w.0)
 
 -- ---- the wrapper, by the index of the list behind its header
 
 module _ (s : List ℕ) where
-  pub header_stop : {n p : ℕ} (old : List ℕ) → refused n p ≡ asked (wrapper_header_checks s) → Indexed (wrapper_of s) old (Stop n p) old
+  pub header_stop : {n p : ℕ} → refused n p ≡ asked (wrapper_header_checks s) → refused n p ≡ wrapper_of s
   unfolding wrapper_of
-  header_stop old h = stopped (asked_stop (wrapper_header_checks s) (moved 16 (list_at controllers (drop 16 s))) h) refl
+  header_stop h = sym (asked_stop (wrapper_header_checks s) (moved 16 (list_at controllers (drop 16 s))) h)
 
   -- a header that passes
   module _ (g : Pass (wrapper_header_checks s)) where
@@ -59,16 +64,14 @@ module _ (s : List ℕ) where
           ∙ index_roomy (lawful kind.Controllers) (length old) (drop 16 s) k
           ∙ pass-checked (part_checks (drop 16 s)) (list_at controllers (drop 16 s)) (le-leb (length (drop 16 s)) 1073741824 small, tt)
 
-      pub list_stop : {n p : ℕ} {new : List ℕ} → Indexed index old (Stop n p) new → Indexed (wrapper_of s) old (Stop n (16 + p)) new × (16 + p ≤ length s)
+      pub list_stop : {f : Fault} {new : List ℕ} → Indexed index old (Err f) new → (refused (number_of f.0) (16 + f.1) ≡ wrapper_of s) × (16 + f.1 ≤ length s)
       list_stop i =
           let f = indexed_stop index i in
           let w = rw (sym kept ∙ f) at (list_within (lawful kind.Controllers) (drop 16 s)) in
-          (stopped (behind ∙ ap (moved 16) (sym kept ∙ f)) (i.leaves ∙ ap (λ (x : Outcome (List ℕ)). lent_after x old) f), omega (arith, leb-true 16 (length s) g.1.0, length-drop 16 s, w))
+          (sym (behind ∙ ap (moved 16) (sym kept ∙ f)), omega (arith, leb-true 16 (length s) g.1.0, length-drop 16 s, w))
 
-      pub list_done : {n : ℕ} {new : List ℕ} → Indexed index old (Ends n) new → Indexed (wrapper_of s) old (Ends n) new
-      list_done {n} {new} i =
-          let f = indexed_done index i in
-          subst (λ (o : Outcome (List ℕ)). Indexed o old (Ends n) new) (f ∙ sym (behind ∙ ap (moved 16) (sym kept ∙ f))) i
+      pub list_done : {n : ℕ} {new : List ℕ} → Indexed index old (Ok n) new → taken (take n new) ≡ wrapper_of s
+      list_done i = sym (behind ∙ ap (moved 16) (sym kept ∙ indexed_done index i))
 
 -- a wrapper that is taken has a header that passes, and a list that is taken
 pub whole : (s : List ℕ) {l : List ℕ} → wrapper_of s ≡ taken l → Pass (wrapper_header_checks s) × (list_at controllers (drop 16 s) ≡ taken l)
@@ -79,44 +82,31 @@ whole s {l} h =
 
 -- ---- the calls that go on from the index
 
-module _ (s : List ℕ) {old new : List ℕ} where
-  pub refused_so : {n p : ℕ} → Indexed (wrapper_of s) old (Stop n p) new → wrapper_of s ≡ refused n p
-  refused_so i = indexed_stop (wrapper_of s) i
+module _ (s : List ℕ) {l : List ℕ} (h : taken l ≡ wrapper_of s) where
+  pub few : length l ≤ controllers.most
+  few =
+      let t = (whole s (sym h)).1 in
+      omega (arith, index_length (lawful kind.Controllers) (drop 16 s) t, (list_sound (lawful kind.Controllers) (drop 16 s) t).few)
 
-  module _ {n : ℕ} (i : Indexed (wrapper_of s) old (Ends n) new) where
-    pub taken_so : wrapper_of s ≡ taken (take n new)
-    taken_so = indexed_done (wrapper_of s) i
+  pub listed_so : Listed controllers (drop 16 s) l
+  listed_so = let w = whole s (sym h) in record { short = small s w.0; list = w.1 }
 
-    -- as many starts as it says, and no more than there may be
-    pub counted : (length (take n new) ≡ n) × (n ≤ controllers.most)
-    counted =
-        let c : n ≡ length (take n new) = taken_is (i.answers ∙ ap (λ (o : Outcome (List ℕ)). after o (λ l. taken (length l))) taken_so) in
-        let l = (whole s taken_so).1 in
-        (sym c, omega (arith, index_length (lawful kind.Controllers) (drop 16 s) l, (list_sound (lawful kind.Controllers) (drop 16 s) l).few))
+  -- ---- the table
 
-    pub places : n ≤ length new
-    places = omega (arith, counted.0, length-take n new)
+  abbrev table : List ℕ
+  table = rows_at Controllers 16 (drop 16 s) l
 
-    pub listed_so : Listed controllers (drop 16 s) (take n new)
-    listed_so = let w = whole s taken_so in record { short = small s w.0; list = w.1 }
+  module _ (have : ℕ) where
+    found : controllers_call have s ≡ fitting have table
+    found = ap (λ (o : Outcome (List ℕ)). after o (λ m. fitting have (rows_at Controllers 16 (drop 16 s) m))) (sym h)
 
-    -- ---- the table
+    pub table_full : {n p : ℕ} → refused n p ≡ asked (room have (ROW * length l)) → controllers_call have s ≡ refused n p
+    table_full g = found ∙ full have table (length-rows Controllers 16 (drop 16 s) l) g
 
-    module _ (have : ℕ) where
-      need : length (rows_at Controllers 16 (drop 16 s) (take n new)) ≡ ROW * n
-      need = length-rows Controllers 16 (drop 16 s) (take n new) ∙ ap (λ (m : ℕ). ROW * m) counted.0
-
-      found : controllers_call have s ≡ fitting have (rows_at Controllers 16 (drop 16 s) (take n new))
-      found = ap (λ (o : Outcome (List ℕ)). after o (λ l. fitting have (rows_at Controllers 16 (drop 16 s) l))) taken_so
-
-      pub table_short : have < ROW * n → controllers_call have s ≡ refused ROOM (ROW * n)
-      table_short k = found ∙ rw (need, lt-leb (ROW * n) have k)
-
-      pub table_done : ROW * n ≤ have → {b out last : List ℕ} {r : ℕ} → b ≡ drop 16 s → Wrote (rows_in Controllers 16 b (take n new) (take (have / ROW) (take n new))) out last r
-          → Writes (controllers_call have s) out (record { number = 0; place = ROW * n }) last
-      table_done k {b} {out} {last} {r} e w =
-          let v : Wrote (rows_at Controllers 16 (drop 16 s) (take n new)) out last r = rw (e, rows_all (take n new) have (omega (arith, counted.0))) at w in
-          writes_taken {b = rows_at Controllers 16 (drop 16 s) (take n new)} (found ∙ rw (need, le-leb (ROW * n) have k)) (record { count = sym need; bytes = v.bytes })
-
-pub table_stop : (have : ℕ) (s : List ℕ) {n p : ℕ} → wrapper_of s ≡ refused n p → controllers_call have s ≡ refused n p
-table_stop have s h = ap (λ (o : Outcome (List ℕ)). after o (λ l. fitting have (rows_at Controllers 16 (drop 16 s) l))) h
+    pub table_done : taken tt ≡ asked (room have (ROW * length l)) → {b out last : List ℕ} {r : ℕ} → b ≡ drop 16 s → Wrote (rows_in Controllers 16 b l (take (have / ROW) l)) out last r
+        → WritesCount (controllers_call have s) out (Ok (ROW * length l)) last
+    table_done g {b} {out} {last} {r} e w =
+        let need : length table ≡ ROW * length l = length-rows Controllers 16 (drop 16 s) l in
+        let q = fits have table need g in
+        let v : Wrote table out last r = rw (e, rows_all l have (omega (arith, q.1))) at w in
+        fills_done table (found ∙ q.0) (sym need) v.bytes

@@ -2,17 +2,17 @@
 // Slices that are handed on as `&s[..]` go in registers (decision 38).
 #![tactic(auto)]
 
-ghost use Rattle.std.specs.Prelude.{◌≡◌, ◌&&◌, ◌+◌, ◌≤◌, eqb, length};
-ghost use Rattle.answer.specs.Calls.{test_of, asked, verdict, Writes};
-ghost use Rattle.wire.specs.Numbers.{le_at};
+ghost use Rattle.std.specs.Prelude.{◌≡◌, ◌≤◌, length, MatchResult};
+ghost use Rattle.answer.specs.Outcome.{taken};
+ghost use Rattle.answer.specs.Calls.{fault_of, outcome_of, asked, verdict, WritesCount, Writes};
 ghost use Rattle.wire.specs.Parts.{Wrote};
 ghost use Rattle.entries.specs.Kinds.{controllers};
-ghost use Rattle.lists.specs.Promises.{Indexed};
 ghost use Rattle.writer.specs.Steps.{Listed, sorted_bytes};
 ghost use Rattle.dskc.specs.Wrapper.{wrapper_header_checks, wrapper_of, controllers_call, wrapper_canonical_call};
 ghost use Rattle.dskc.specs.Wrapper as wrapper;
+ghost use Rattle.dskc.specs.Steps.{tag_checks};
 
-use answer::{Answer, MAGIC, Piece, ROOM, SHORT, SIZE, TAKEN, Test, VERSION};
+use answer::{Answer, Fault, Refusal, roomy};
 use entries::Kind;
 use tables::{ROW, Table};
 use wire::{u16_at, u32_at};
@@ -28,105 +28,75 @@ const AERO: u32 = 0x4F524541;
 
 const DSKC: u32 = 0x434B5344;
 
-// u16 1, u16 0.
-fn pair_at(s: &[u8], at: usize) -> bool
-    requires { at ≤ 12 }
-    ensures { result ≡ (eqb (le_at 2 s.now at) 1 && eqb (le_at 2 s.now (at + 2)) 0) }
+// Four letters at a place, and behind them the pair 1, 0.
+fn tagged(s: &[u8], at: usize, letters: u32) -> Result<(), Fault>
+    requires { at ≤ 8 }
+    ensures { outcome_of result ≡ asked (tag_checks letters at s.now) }
 {
-    if u16_at(s, at) == 1 {
-        return u16_at(s, at + 2) == 0;
+    if u32_at(s, at) != letters {
+        return Err(Fault(Refusal::Magic, at));
     }
-    false
+    if u16_at(s, at + 4) != 1 || u16_at(s, at + 6) != 0 {
+        return Err(Fault(Refusal::Version, at + 4));
+    }
+    Ok(())
 }
 
-fn header(s: &[u8]) -> Test
-    ensures { test_of result ≡ asked (wrapper_header_checks s.now) }
+fn header(s: &[u8]) -> Result<(), Fault>
+    ensures { outcome_of result ≡ asked (wrapper_header_checks s.now) }
 {
     if WRAPPER_MOST < s.len() {
-        return Test::Fault(SIZE, 0);
+        return Err(Fault(Refusal::Size, 0));
     }
     if s.len() < 16 {
-        return Test::Fault(SHORT, 0);
+        return Err(Fault(Refusal::Short, 0));
     }
-    if u32_at(s, 0) != AERO {
-        return Test::Fault(MAGIC, 0);
-    }
-    if !pair_at(s, 4) {
-        return Test::Fault(VERSION, 4);
-    }
-    if u32_at(s, 8) != DSKC {
-        return Test::Fault(MAGIC, 8);
-    }
-    if !pair_at(s, 12) {
-        return Test::Fault(VERSION, 12);
-    }
-    Test::Fine
+    tagged(s, 0, AERO)?;
+    tagged(s, 8, DSKC)
 }
 
 // Where the controllers of a wrapper start behind its header, in address order; or its first fault.
-fn index(s: &[u8], starts: &mut [u32]) -> Piece
-    requires { controllers.most ≤ length starts.old }
-    ensures { Indexed (wrapper_of s.now) starts.old result starts.new }
+fn index<'a>(s: &[u8], places: &'a mut [u32]) -> Result<&'a [u32], Fault>
+    requires { controllers.most ≤ length places.old }
+    ensures { MatchResult result (λ starts. taken starts.now ≡ wrapper_of s.now) (λ fault. fault_of fault ≡ wrapper_of s.now) }
 {
-    match header(&s[..]) {
-        Test::Fault(number, place) => Piece::Stop(number, place),
-        Test::Fine => match lists::index(Kind::Controllers, wire::tail(&s[..], 16), starts) {
-            Piece::Stop(number, place) => {
-                let at = 16 + place;
-                Piece::Stop(number, at)
-            }
-            Piece::Ends(n) => Piece::Ends(n),
-        },
+    header(&s[..])?;
+    match lists::index(Kind::Controllers, wire::tail(&s[..], 16), places) {
+        Ok(n) => Ok(&places[..n]),
+        Err(Fault(refusal, place)) => Err(Fault(refusal, 16 + place)),
     }
 }
 
 pub fn check(wrapper: &[u8]) -> Answer
     ensures { result ≡ verdict (wrapper_of wrapper.now) }
 {
-    let mut starts = [0u32; CONTROLLERS_MOST];
-    match index(wrapper, &mut starts) {
-        Piece::Stop(number, place) => Answer {
-            number,
-            place: place as u64,
-        },
-        Piece::Ends(_) => Answer {
-            number: TAKEN,
-            place: 0,
-        },
-    }
+    let mut places = [0; CONTROLLERS_MOST];
+    Answer::from(index(wrapper, &mut places).map(|_| ()))
+}
+
+// The table of controllers in address order, and its length.
+fn put_table(wrapper: &[u8], table: &mut [u8]) -> Result<usize, Fault>
+    ensures { WritesCount (controllers_call (length table.old) wrapper.now) table.old result table.new }
+{
+    let mut places = [0; CONTROLLERS_MOST];
+    let starts = index(wrapper, &mut places)?;
+    let need = ROW * starts.len();
+    roomy(table.len(), need)?;
+    tables::put_rows(
+        Table::Controllers,
+        wire::tail(wrapper, 16),
+        16,
+        starts,
+        table,
+    );
+    Ok(need)
 }
 
 // The table of controllers in address order.
 pub fn controllers(wrapper: &[u8], table: &mut [u8]) -> Answer
     ensures { Writes (controllers_call (length table.old) wrapper.now) table.old result table.new }
 {
-    let mut starts = [0u32; CONTROLLERS_MOST];
-    match index(wrapper, &mut starts) {
-        Piece::Stop(number, place) => Answer {
-            number,
-            place: place as u64,
-        },
-        Piece::Ends(n) => {
-            let need = ROW * n;
-            if table.len() < need {
-                return Answer {
-                    number: ROOM,
-                    place: need as u64,
-                };
-            }
-            tables::put_rows(
-                Table::Controllers,
-                wire::tail(wrapper, 16),
-                16,
-                &starts[..n],
-                table,
-            );
-            Answer {
-                number: TAKEN,
-                place: need as u64,
-            }
-        }
-    }
+    Answer::from(put_table(wrapper, table))
 }
 
 // The header: the fixed letters and pairs.
@@ -147,35 +117,27 @@ fn put_list(s: &[u8], starts: &[u32], out: &mut [u8])
 {
     if writer::in_order(starts) {
         wire::copy(out, 0, s);
-        return;
+    } else {
+        writer::put_by_starts(Kind::Controllers, s, starts, out);
     }
-    writer::put_by_starts(Kind::Controllers, s, starts, out);
+}
+
+// The canonical wrapper, and its length.
+fn put_canonical(wrapper: &[u8], out: &mut [u8]) -> Result<usize, Fault>
+    ensures { WritesCount (wrapper_canonical_call (length out.old) wrapper.now) out.old result out.new }
+{
+    let mut places = [0; CONTROLLERS_MOST];
+    let starts = index(wrapper, &mut places)?;
+    let need = wrapper.len();
+    roomy(out.len(), need)?;
+    put_header(out);
+    put_list(wire::tail(wrapper, 16), starts, &mut out[16..]);
+    Ok(need)
 }
 
 // The canonical wrapper: the header, and the controllers in address order, a count of 0 kept.
 pub fn canonical(wrapper: &[u8], out: &mut [u8]) -> Answer
     ensures { Writes (wrapper_canonical_call (length out.old) wrapper.now) out.old result out.new }
 {
-    let mut starts = [0u32; CONTROLLERS_MOST];
-    match index(wrapper, &mut starts) {
-        Piece::Stop(number, place) => Answer {
-            number,
-            place: place as u64,
-        },
-        Piece::Ends(n) => {
-            let need = wrapper.len();
-            if out.len() < need {
-                return Answer {
-                    number: ROOM,
-                    place: need as u64,
-                };
-            }
-            put_header(out);
-            put_list(wire::tail(wrapper, 16), &starts[..n], &mut out[16..]);
-            Answer {
-                number: TAKEN,
-                place: need as u64,
-            }
-        }
-    }
+    Answer::from(put_canonical(wrapper, out))
 }

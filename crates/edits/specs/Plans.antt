@@ -1,8 +1,7 @@
 -- For contracts of private functions: what the parts of the code ask and give that plan an edit, move its card, and do the work of a call.
 -- Assumes nothing.
 use Rattle.std.specs.Prelude.{◌≡◌, List, ◌++◌, map, ℕ, ◌+◌, ◌-◌, ◌*◌, ◌≤◌, length}
-use Rattle.answer.specs.Outcome.{Outcome, taken, refused, Pass}
-use Rattle.answer.specs.declared.Answer.{Answer}
+use Rattle.answer.specs.Outcome.{Outcome, taken, Pass}
 use Rattle.order.specs.Keyed.{Every, weigh}
 use Rattle.entries.specs.Kinds.{devices}
 use Rattle.lists.specs.Lists.{list_bytes}
@@ -14,18 +13,15 @@ use Rattle.aerosnap.specs.Content.{content_of, secs, render}
 use Rattle.aerosnap.specs.Adding.{side_of}
 use Rattle.aerosnap.specs.Edits.{Edit, target, apply}
 use Rattle.cards.specs.declared.Card.{Card}
-use Rattle.cards.specs.declared.Edited.{Edited}
-use Rattle.cards.specs.Cards.{payload_size, open_file, open_answer, edit_card, WritesBeside, blank_card}
+use Rattle.cards.specs.Cards.{payload_size}
 use Rattle.sections.specs.Walks.{sections_in}
 use Rattle.edits.specs.declared.Site.{Site}
 use Rattle.edits.specs.declared.Cut.{Cut}
 use Rattle.edits.specs.declared.Change.{Change}
-use Rattle.edits.specs.declared.Planned.{Planned}
-use Rattle.edits.specs.declared.Planned.TheVariants.{Fault, Fits}
-use Rattle.edits.specs.declared.Work.{Work}
-use Rattle.edits.specs.declared.Work.TheVariants.{Opening, Editing}
+use Rattle.std.specs.Prelude.{Result, Ok, Err}
+use Rattle.answer.specs.declared.Fault.{Fault}
+use Rattle.answer.specs.Calls.{fault_of}
 use Rattle.sections.specs.Steps.{WholeFile}
-use Rattle.edits.specs.Edits.{edit_of}
 use Rattle.edits.specs.Cuts.{own_rows, old_entries, old_tail, payload_long, Lands}
 
 -- ---- the plan of an edit
@@ -55,9 +51,9 @@ pub record EditReady (have : ℕ) (o : Outcome (List ℕ)) (e : Edit) (s index :
   pub new_sections : x.new.sections ≡ length (secs (apply e (content_of (sections_in s))))
   pub new_bytes : x.new.bytes ≡ length (render (apply e (content_of (sections_in s))))
 
-abbrev pub PlanOf : ℕ → Outcome (List ℕ) → Edit → List ℕ → List ℕ → Planned → Type 0
-PlanOf have o e s index (Fault n p) = o ≡ refused n p
-PlanOf have o e s index (Fits x) = EditReady have o e s index x
+abbrev pub PlanOf : ℕ → Outcome (List ℕ) → Edit → List ℕ → List ℕ → Result Change Fault → Type 0
+PlanOf have o e s index (Err f) = o ≡ fault_of f
+PlanOf have o e s index (Ok x) = EditReady have o e s index x
 
 -- ---- the card
 
@@ -83,14 +79,3 @@ card_behind OfDisks x = record { length = x.new.bytes; sections = x.new.sections
 pub record Lightly (p starts : List ℕ) : Type 0 where
   pub each : Every (λ y. 16 ≤ length (entry_by devices p y)) starts
   pub all : weigh payload_size (map (entry_by devices p) starts) ≤ file_most
-
--- ---- the calls
-
--- an answer that has no card
-abbrev pub plain_answer : Answer → Edited
-plain_answer r = record { number = r.number; index = 0; place = r.place; card = blank_card }
-
--- what is done with a file s: the answer r, and `new` in the lent memory that held `old`
-abbrev pub Works : Work → List ℕ → List ℕ → List ℕ → List ℕ → Edited → List ℕ → Type 0
-Works Opening s a b old r new = (r ≡ open_answer (open_file s)) × (new ≡ old)
-Works (Editing e k) s a b old r new = WritesBeside k (0, edit_card (length old) k s (edit_of e a b)) old r new

@@ -1,17 +1,15 @@
 -- For contracts of private functions: what the parts of the code ask and give that add the rows of a table.
 -- Assumes nothing.
 use Rattle.std.specs.Prelude.{◌≡◌, ◌⊎◌, Bool, true, ◌||◌, List, [], ◌∷◌, ◌++◌, ℕ, zero, suc, ◌+◌, ◌-◌, ◌*◌, ◌/◌, ◌≤◌, ◌<◌, eqb, length, take, drop, get_or}
-use Rattle.answer.specs.Numbers.{ROOM}
-use Rattle.answer.specs.Outcome.{Outcome, taken, refused, after}
-use Rattle.answer.specs.declared.Piece.{Piece}
-use Rattle.answer.specs.Calls.{asked, piece_of}
+use Rattle.answer.specs.Outcome.{Outcome, taken, after, room}
+use Rattle.std.specs.Prelude.{Result, Ok, Err}
+use Rattle.answer.specs.declared.Fault.{Fault}
+use Rattle.answer.specs.Calls.{asked, outcome_of, fault_of}
 use Rattle.wire.specs.Numbers.{bytes_of}
 use Rattle.wire.specs.Parts.{Wrote}
 use Rattle.order.specs.Entries.{join}
 use Rattle.order.specs.Keyed.{Every}
 use Rattle.entries.specs.Kinds.{devices}
-use Rattle.lists.specs.declared.Found.{Found}
-use Rattle.lists.specs.declared.Found.TheVariants.{There, Free}
 use Rattle.sorting.specs.Sorting.{arranged_most}
 use Rattle.lists.specs.Promises.{find_in}
 use Rattle.aerosnap.specs.declared.NewDevice.{NewDevice}
@@ -29,10 +27,7 @@ use Rattle.sections.specs.Walks.{sections_in}
 use Rattle.sections.specs.Steps.{WholeFile}
 use Rattle.aerosnap.specs.Content.{Content, content_of, secs, render}
 use Rattle.edits.specs.Cuts.{old_entries, old_tail, payload_long, shown, space, HoldsList, front_bytes}
-use Rattle.edits.specs.declared.Counted.{Counted}
-use Rattle.edits.specs.declared.Counted.TheVariants.{Refused, Passed}
-use Rattle.edits.specs.declared.Prepared.{Prepared}
-use Rattle.edits.specs.declared.Prepared.TheVariants.{Stopped, Stands}
+use Rattle.cards.specs.declared.Refused.{Refused}
 
 -- ---- the rows of a table
 
@@ -76,8 +71,8 @@ pub record Modestly (w : Site) (x : Extent) (i g : ℕ) : Type 0 where
   pub small : payload_long w + g ≤ file_most
 
 -- a row is asked, beside those before it and the file's devices
-abbrev pub RowAsked : ℕ → List ℕ → NewDevice → Bool → Tally → ℕ → Piece → Type 0
-RowAsked have store x known k g r = (again old : Bool) → known ≡ (again || old) → piece_of r ≡ after (asked (pass_checks have store again old (grow x.length k) x)) (λ _. taken (g + (16 + x.length)))
+abbrev pub RowAsked : ℕ → List ℕ → NewDevice → Bool → Tally → ℕ → Result ℕ Fault → Type 0
+RowAsked have store x known k g r = (again old : Bool) → known ≡ (again || old) → outcome_of r ≡ after (asked (pass_checks have store again old (grow x.length k) x)) (λ _. taken (g + (16 + x.length)))
 
 -- all rows are asked
 abbrev pub pass_of : ℕ → List ℕ → List ℕ → List (List ℕ) → Site → Extent → ℕ × Outcome Tally
@@ -90,9 +85,9 @@ pub record PassedBy (o : ℕ × Outcome Tally) (t : List ℕ) (r : ℕ) (w : Sit
   pub many : w.last - w.first + length t / 24 ≤ 4096
   pub modest : Modestly w x (length t / 24) g
 
-abbrev pub CountedBy : ℕ × Outcome Tally → List ℕ → ℕ → Site → Extent → Counted → Type 0
-CountedBy o t r w x (Refused n i p) = (o ≡ (i, refused n p)) × (i ≤ 4096)
-CountedBy o t r w x (Passed g) = PassedBy o t r w x g
+abbrev pub CountedBy : ℕ × Outcome Tally → List ℕ → ℕ → Site → Extent → Result ℕ Refused → Type 0
+CountedBy o t r w x (Err f) = o ≡ (f.index, fault_of f.fault)
+CountedBy o t r w x (Ok g) = PassedBy o t r w x g
 
 -- ---- the bytes
 
@@ -105,9 +100,9 @@ abbrev pub row_entry : List ℕ → List ℕ → ℕ → List ℕ
 row_entry t store y = entry_of (new_item store (new_device_at t y))
 
 -- how many of some entries stand before it
-abbrev pub place_in : Found → ℕ
-place_in (There p) = p
-place_in (Free p) = p
+abbrev pub place_in : Result ℕ ℕ → ℕ
+place_in (Ok p) = p
+place_in (Err p) = p
 
 abbrev pub before : List ℕ → ℕ → List (List ℕ) → ℕ
 before t y old = place_in (find_in devices.key (key_at devices t y) old)
@@ -159,9 +154,9 @@ pub record TableReady (have : ℕ) (t store starts s index : List ℕ) (x : Chan
   pub new_sections : x.new.sections ≡ length (secs (with_rows t store s))
   pub new_bytes : x.new.bytes ≡ length (render (with_rows t store s))
 
-abbrev pub PreparedBy : ℕ → List ℕ → List ℕ → List ℕ → List ℕ → List ℕ → Prepared → Type 0
-PreparedBy have t store starts s index (Stopped n i p) = (add_all have s (new_devices t) store ≡ (i, refused n p)) × (i ≤ 4096)
-PreparedBy have t store starts s index (Stands x) = TableReady have t store starts s index x
+abbrev pub PreparedBy : ℕ → List ℕ → List ℕ → List ℕ → List ℕ → List ℕ → Result Change Refused → Type 0
+PreparedBy have t store starts s index (Err f) = add_all have s (new_devices t) store ≡ (f.index, fault_of f.fault)
+PreparedBy have t store starts s index (Ok x) = TableReady have t store starts s index x
 
 -- so many places for the starts of the rows: one for each, or more than a list may have
 pub record RowsFor (t : List ℕ) (n : ℕ) : Type 0 where
@@ -170,7 +165,7 @@ pub record RowsFor (t : List ℕ) (n : ℕ) : Type 0 where
   pub all : (length t / 24 ≤ n) ⊎ (n ≡ arranged_most)
 
 -- what is planned where every row passed, by the numbers
-abbrev pub StandsAt : Site → Extent → ℕ → ℕ → ℕ → Prepared → Type 0
-StandsAt w e m g have (Stopped n i p) = (n ≡ ROOM) × (i ≡ 0) × (p ≡ e.bytes - space (payload_long w) + space (payload_long w + g)) × (have < p)
-StandsAt w e m g have (Stands x) = (x.site ≡ w) × (x.old ≡ e) × (x.cut.count ≡ w.last - w.first + m) × (x.cut.bytes ≡ payload_long w + g)
+abbrev pub StandsAt : Site → Extent → ℕ → ℕ → ℕ → Result Change Fault → Type 0
+StandsAt w e m g have (Err f) = fault_of f ≡ asked (room have (e.bytes - space (payload_long w) + space (payload_long w + g)))
+StandsAt w e m g have (Ok x) = (x.site ≡ w) × (x.old ≡ e) × (x.cut.count ≡ w.last - w.first + m) × (x.cut.bytes ≡ payload_long w + g)
     × (x.new.sections ≡ e.sections - shown (payload_long w) + shown (payload_long w + g)) × (x.new.bytes ≡ e.bytes - space (payload_long w) + space (payload_long w + g)) × (x.new.bytes ≤ have)

@@ -3,9 +3,9 @@
 // Slices that are handed on as `&s[..]` go in registers (decision 38).
 #![tactic(auto)]
 
-ghost use Rattle.std.specs.Prelude.{◌≡◌, true, cond, ◌&&◌, ◌||◌, List, [], ◌++◌, map, ℕ, ◌+◌, ◌-◌, ◌*◌, ◌/◌, ◌≤◌, ◌<◌, eqb, leb, length, take, drop};
-ghost use Rattle.answer.specs.Calls.{test_of, asked, Writes};
-ghost use Rattle.answer.specs.Outcome.{done, Pass};
+ghost use Rattle.std.specs.Prelude.{◌≡◌, true, cond, ◌&&◌, ◌||◌, ◌⊎◌, List, [], ◌++◌, map, ℕ, ◌+◌, ◌-◌, ◌*◌, ◌/◌, ◌≤◌, ◌<◌, eqb, leb, length, take, drop};
+ghost use Rattle.answer.specs.Calls.{outcome_of, asked};
+ghost use Rattle.answer.specs.Outcome.{taken, Pass};
 ghost use Rattle.wire.specs.Parts.{Wrote};
 ghost use Rattle.entries.specs.Kinds.{image_most, devices};
 ghost use Rattle.entries.specs.Code.{describe};
@@ -20,7 +20,7 @@ ghost use Rattle.aerosnap.specs.Adding.{device, disk, device_named, entry_of, ow
 ghost use Rattle.aerosnap.specs.Edits.{target, key_of, edit_file};
 ghost use Rattle.aerosnap.specs.Edits as edits;
 ghost use Rattle.aerosnap.specs.Calls.{canonical_call};
-ghost use Rattle.cards.specs.Cards.{payload_size, open_file, open_answer, edit_card, WritesBeside};
+ghost use Rattle.cards.specs.Cards.{payload_size, open_file, open_answer, edit_card, edited_answer, WritesBeside};
 ghost use Rattle.order.specs.Keyed.{has, flat, weigh};
 ghost use Rattle.sections.specs.Walks.{sections_in, Read};
 ghost use Rattle.sections.specs.Index.{starts_of, count_in};
@@ -29,22 +29,19 @@ ghost use Rattle.lists.specs.Promises.{find_in};
 ghost use Rattle.aerosnap.specs.declared.Side.TheVariants.{OfDevices};
 ghost use Rattle.aerosnap.specs.Many.{new_device_at, is_inside};
 ghost use Rattle.cards.specs.Whole.{many_card};
-ghost use Rattle.lists.specs.declared.Found.TheVariants.{There};
 ghost use Rattle.edits.specs.Steps.{frame, bound_checks, Holds};
 ghost use Rattle.edits.specs.Edits.{edit_of};
 ghost use Rattle.edits.specs.Cuts.{bare, side_for, own_rows, entry_for, old_entries, payload_long, HoldsList, Fair, CutBy, Cuts, shown, space, list_head, front_bytes, span_bytes, PayloadWith, BytesBehind, low_bytes, high_bytes, old_tail, back_bytes, file_bytes, bounded_edit, keyed_edit};
 ghost use Rattle.edits.specs.Rows.{keyed_entry, table_row, HoldsRows, OwnKeys, tallied_by, Modestly, RowAsked, pass_of, CountedBy, row_entry, place_in, before, turn_bytes, turns, InsideAt, Begun, old_from, with_rows, TableReady, PreparedBy, RowsFor, StandsAt};
-ghost use Rattle.edits.specs.Plans.{Measured, Planning, EditReady, PlanOf, Modest, card_before, card_behind, Lightly, plain_answer, Works};
+ghost use Rattle.edits.specs.Plans.{Measured, Planning, EditReady, PlanOf, Modest, card_before, card_behind, Lightly};
 
 use aerosnap::{SECTIONS_MOST, Side};
-use answer::{
-    ABSENT, Answer, CARD, HAVE, LIMIT, MANY, PAYLOAD, Piece, ROOM, SIZE, TAKEN, TEXT, Test,
-};
-use cards::{Card, Edited, Moved};
+use answer::{Fault, Refusal, TAKEN, roomy};
+use cards::{Card, Edited, Refused, Written, edited_answer};
 use entries::{
     IMAGE_MOST, Kind, PAYLOAD_MOST, device_key, device_length, key_at, length_at, most_of,
 };
-use lists::{FILE_MOST, Found, find, find_ordered};
+use lists::{FILE_MOST, find, find_ordered};
 use sections::Places;
 use wire::{u16_at, u32_at, u64_at};
 
@@ -120,43 +117,43 @@ fn edit_key(edit: Edit) -> u64
 // ---- what an edit brings
 
 // A device's payload: its length.
-fn payload(p: &[u8]) -> Test
-    ensures { test_of result ≡ asked (own_checks (device 0 0 0 p.now)) }
+fn payload(p: &[u8]) -> Result<(), Fault>
+    ensures { outcome_of result ≡ asked (own_checks (device 0 0 0 p.now)) }
 {
     if PAYLOAD_MOST < p.len() {
-        return Test::Fault(LIMIT, 0);
+        return Err(Fault(Refusal::Limit, 0));
     }
-    Test::Fine
+    Ok(())
 }
 
 // The images of a disk: their lengths, then their texts.
-fn images(base: &[u8], overlay: &[u8]) -> Test
-    ensures { test_of result ≡ asked (own_checks (disk 0 base.now overlay.now)) }
+fn images(base: &[u8], overlay: &[u8]) -> Result<(), Fault>
+    ensures { outcome_of result ≡ asked (own_checks (disk 0 base.now overlay.now)) }
 {
     if IMAGE_MOST < base.len() {
-        return Test::Fault(LIMIT, 0);
+        return Err(Fault(Refusal::Limit, 0));
     }
     if IMAGE_MOST < overlay.len() {
-        return Test::Fault(LIMIT, 0);
+        return Err(Fault(Refusal::Limit, 0));
     }
     if !utf8::is_text(base) {
-        return Test::Fault(TEXT, 0);
+        return Err(Fault(Refusal::Text, 0));
     }
     if !utf8::is_text(overlay) {
-        return Test::Fault(TEXT, 0);
+        return Err(Fault(Refusal::Text, 0));
     }
-    Test::Fine
+    Ok(())
 }
 
 // What is asked of it alone.
-fn own(edit: Edit, a: &[u8], b: &[u8]) -> Test
-    ensures { test_of result ≡ asked (own_rows (edit_of edit a.now b.now)) }
+fn own(edit: Edit, a: &[u8], b: &[u8]) -> Result<(), Fault>
+    ensures { outcome_of result ≡ asked (own_rows (edit_of edit a.now b.now)) }
 {
     match edit {
         Edit::AddDevice(_, _, _) => payload(a),
         Edit::AddDisk(_) => images(a, b),
-        Edit::RemoveDevice(_, _, _) => Test::Fine,
-        Edit::RemoveDisk(_) => Test::Fine,
+        Edit::RemoveDevice(_, _, _) => Ok(()),
+        Edit::RemoveDisk(_) => Ok(()),
         Edit::ReplaceDevice(_, _, _) => payload(a),
     }
 }
@@ -297,7 +294,7 @@ fn list_length(site: Site) -> usize
 }
 
 // Where an entry with the key of the edit stands in the list, or goes.
-fn search(edit: Edit, file: &[u8], index: &[u32], site: Site) -> Found
+fn search(edit: Edit, file: &[u8], index: &[u32], site: Site) -> Result<usize, usize>
     requires { HoldsList (side_for edit) file.now index.now site }
     ensures { result ≡ find_in (kind_at (side_for edit)).key (key_of (target (bare edit))) (old_entries (side_for edit) file.now) }
 {
@@ -395,25 +392,29 @@ fn resized(size: Extent, old: usize, new: usize) -> Extent
 }
 
 // What is asked of the result, and its room.
-fn bounds(most: usize, id: u32, entries: usize, bytes: usize, size: Extent, have: usize) -> Test
-    ensures { test_of result ≡ asked (bound_checks most id entries bytes size.sections size.bytes have) }
+fn bounds(
+    most: usize,
+    id: u32,
+    entries: usize,
+    bytes: usize,
+    size: Extent,
+    have: usize,
+) -> Result<(), Fault>
+    ensures { outcome_of result ≡ asked (bound_checks most id entries bytes size.sections size.bytes have) }
 {
     if most < entries {
-        return Test::Fault(LIMIT, 0);
+        return Err(Fault(Refusal::Limit, 0));
     }
     if !sections::small(id, bytes) {
-        return Test::Fault(LIMIT, 0);
+        return Err(Fault(Refusal::Limit, 0));
     }
     if SECTIONS_MOST < size.sections {
-        return Test::Fault(MANY, 0);
+        return Err(Fault(Refusal::Many, 0));
     }
     if FILE_MOST < size.bytes {
-        return Test::Fault(SIZE, 0);
+        return Err(Fault(Refusal::Size, 0));
     }
-    if have < size.bytes {
-        return Test::Fault(ROOM, size.bytes);
-    }
-    Test::Fine
+    roomy(have, size.bytes)
 }
 
 // ---- the file with the list changed
@@ -598,36 +599,34 @@ struct Change {
     new: Extent,
 }
 
-// Every check but the card's passed, or the first that failed.
-#[derive(Clone, Copy)]
-enum Planned {
-    Fault(u32, usize),
-    Fits(Change),
-}
-
 // The list cut so: the bounds of the result and its room.
-fn plan_at(side: Side, file: &[u8], index: &[u32], site: Site, cut: Cut, have: usize) -> Planned
+fn plan_at(
+    side: Side,
+    file: &[u8],
+    index: &[u32],
+    site: Site,
+    cut: Cut,
+    have: usize,
+) -> Result<Change, Fault>
     requires { WholeFile file.now index.now × Measured side file.now site cut }
     ensures { (e : edits.Edit) → Planning e side file.now index.now site cut → PlanOf have (bounded_edit have (content_of (sections_in file.now)) e) e file.now index.now result }
 {
     let old = sized(&file[..], &index[..]);
     let new = resized(old, list_length(site), cut.bytes);
-    match bounds(
+    bounds(
         most_of(kind_at(side)) as usize,
         id_at(side),
         cut.count as usize,
         cut.bytes,
         new,
         have,
-    ) {
-        Test::Fault(number, place) => Planned::Fault(number, place),
-        Test::Fine => Planned::Fits(Change {
-            site,
-            cut,
-            old,
-            new,
-        }),
-    }
+    )?;
+    Ok(Change {
+        site,
+        cut,
+        old,
+        new,
+    })
 }
 
 // An edit that wants an entry, where it stands.
@@ -640,9 +639,9 @@ fn plan_there(
     site: Site,
     q: usize,
     have: usize,
-) -> Planned
+) -> Result<Change, Fault>
     requires whole_file { WholeFile file.now index.now × HoldsList (side_for edit) file.now index.now site }
-    requires pass { Pass (own_rows (edit_of edit a.now b.now)) × (edits.wants (bare edit) ≡ true) × (There q ≡ find_in (kind_at (side_for edit)).key (key_of (target (bare edit))) (old_entries (side_for edit) file.now)) }
+    requires pass { Pass (own_rows (edit_of edit a.now b.now)) × (edits.wants (bare edit) ≡ true) × (Ok q ≡ find_in (kind_at (side_for edit)).key (key_of (target (bare edit))) (old_entries (side_for edit) file.now)) }
     ensures { PlanOf have (bounded_edit have (content_of (sections_in file.now)) (edit_of edit a.now b.now)) (edit_of edit a.now b.now) file.now index.now result }
 {
     let begin = site.begin;
@@ -663,21 +662,21 @@ fn plan_list(
     index: &[u32],
     site: Site,
     have: usize,
-) -> Planned
+) -> Result<Change, Fault>
     requires whole_file { WholeFile file.now index.now × HoldsList (side_for edit) file.now index.now site }
     requires pass { Pass (own_rows (edit_of edit a.now b.now)) }
     ensures { PlanOf have (keyed_edit have (content_of (sections_in file.now)) (edit_of edit a.now b.now)) (edit_of edit a.now b.now) file.now index.now result }
 {
     match search(edit, &file[..], &index[..], site) {
-        Found::There(q) => {
+        Ok(q) => {
             if !wants(edit) {
-                return Planned::Fault(HAVE, 0);
+                return Err(Fault(Refusal::Have, 0));
             }
             plan_there(edit, &a[..], &b[..], &file[..], &index[..], site, q, have)
         }
-        Found::Free(q) => {
+        Err(q) => {
             if wants(edit) {
-                return Planned::Fault(ABSENT, 0);
+                return Err(Fault(Refusal::Absent, 0));
             }
             let cut = cut_free(site, q, entry_size(edit, &a[..], &b[..]));
             plan_at(side_of(edit), &file[..], &index[..], site, cut, have)
@@ -686,25 +685,21 @@ fn plan_list(
 }
 
 // The whole plan: the file's faults, what is asked of what the edit brings, its key, the bounds and the room.
-fn plan_in(edit: Edit, a: &[u8], b: &[u8], file: &[u8], index: &mut [u32], have: usize) -> Planned
+fn plan_in(
+    edit: Edit,
+    a: &[u8],
+    b: &[u8],
+    file: &[u8],
+    index: &mut [u32],
+    have: usize,
+) -> Result<Change, Fault>
     requires { HoldsParts file.now (length index.old) }
     ensures { PlanOf have (edit_file have file.now (edit_of edit a.now b.now)) (edit_of edit a.now b.now) file.now index.new result }
 {
-    match sections::index_file(&file[..], index) {
-        Test::Fault(number, place) => Planned::Fault(number, place),
-        Test::Fine => match own(edit, &a[..], &b[..]) {
-            Test::Fault(number, place) => Planned::Fault(number, place),
-            Test::Fine => plan_list(
-                edit,
-                &a[..],
-                &b[..],
-                &file[..],
-                index,
-                site_at(side_of(edit), &file[..], index),
-                have,
-            ),
-        },
-    }
+    sections::index_file(&file[..], index)?;
+    own(edit, &a[..], &b[..])?;
+    let site = site_at(side_of(edit), &file[..], index);
+    plan_list(edit, &a[..], &b[..], &file[..], index, site, have)
 }
 
 // ---- the card
@@ -761,34 +756,23 @@ fn put_change(
     index: &[u32],
     x: Change,
     out: &mut [u8],
-) -> Edited
+) -> Result<Written, Refused>
     requires { EditReady (length out.old) (edit_file (length out.old) file.now (edit_of edit a.now b.now)) (edit_of edit a.now b.now) file.now index.now x }
-    ensures { WritesBeside card (0, edit_card (length out.old) card file.now (edit_of edit a.now b.now)) out.old result out.new }
+    ensures { WritesBeside card (0, edit_card (length out.old) card file.now (edit_of edit a.now b.now)) out.old (edited_answer card result) out.new }
 {
     let side = side_of(edit);
-    match cards::move_by(card, card_before(side, x), card_behind(side, x)) {
-        Moved::Out => Edited {
-            number: CARD,
-            index: 0,
-            place: 0,
-            card,
-        },
-        Moved::To(then) => Edited {
-            number: TAKEN,
-            index: 0,
-            place: put_edited(
-                edit,
-                &a[..],
-                &b[..],
-                &file[..],
-                &index[..],
-                x.site,
-                x.cut,
-                out,
-            ) as u64,
-            card: then,
-        },
-    }
+    let moved = cards::move_by(card, card_before(side, x), card_behind(side, x))?;
+    let bytes = put_edited(
+        edit,
+        &a[..],
+        &b[..],
+        &file[..],
+        &index[..],
+        x.site,
+        x.cut,
+        out,
+    );
+    Ok(Written { bytes, card: moved })
 }
 
 // A file edited beside a card, with room for its index.
@@ -800,19 +784,12 @@ fn edit_in(
     file: &[u8],
     index: &mut [u32],
     out: &mut [u8],
-) -> Edited
+) -> Result<Written, Refused>
     requires { HoldsParts file.now (length index.old) }
-    ensures { WritesBeside card (0, edit_card (length out.old) card file.now (edit_of edit a.now b.now)) out.old result out.new }
+    ensures { WritesBeside card (0, edit_card (length out.old) card file.now (edit_of edit a.now b.now)) out.old (edited_answer card result) out.new }
 {
-    match plan_in(edit, &a[..], &b[..], &file[..], index, out.len()) {
-        Planned::Fault(number, place) => Edited {
-            number,
-            index: 0,
-            place: place as u64,
-            card,
-        },
-        Planned::Fits(x) => put_change(edit, card, &a[..], &b[..], &file[..], index, x, out),
-    }
+    let x = plan_in(edit, &a[..], &b[..], &file[..], index, out.len())?;
+    put_change(edit, card, &a[..], &b[..], &file[..], index, x, out)
 }
 
 // ---- a table of new devices: its rows
@@ -822,10 +799,8 @@ fn row_starts(starts: &mut [u32])
     requires { length starts.old ≤ 4097 }
     ensures { HoldsRows starts.new }
 {
-    let mut i = 0;
-    while i < starts.len() {
-        starts[i] = (24 * i) as u32;
-        i += 1;
+    for (i, start) in starts.iter_mut().enumerate() {
+        *start = (24 * i) as u32;
     }
 }
 
@@ -857,8 +832,8 @@ fn is_known(table: &[u8], i: usize, r: usize, file: &[u8], index: &[u32], site: 
     let last = site.last;
     let k = key_at(Kind::Devices, table, 24 * i);
     match find_ordered(Kind::Devices, &file[begin..end], &index[first..last], k) {
-        Found::There(_) => true,
-        Found::Free(_) => false,
+        Ok(_) => true,
+        Err(_) => false,
     }
 }
 
@@ -872,45 +847,36 @@ fn ask_row(
     old: Extent,
     grown: usize,
     have: usize,
-) -> Piece
+) -> Result<usize, Fault>
     requires { Modestly site old i grown }
     ensures { RowAsked have store.now (new_device_at part.now 0) known (tallied_by site old i grown) grown result }
 {
     let len = u64_at(part, 16);
     if !is_part(store, u64_at(part, 8), len) {
-        return Piece::Stop(PAYLOAD, 0);
+        return Err(Fault(Refusal::Payload, 0));
     }
     let n = len as usize;
     if PAYLOAD_MOST < n {
-        return Piece::Stop(LIMIT, 0);
+        return Err(Fault(Refusal::Limit, 0));
     }
     if known {
-        return Piece::Stop(HAVE, 0);
+        return Err(Fault(Refusal::Have, 0));
     }
     let more = grown + (16 + n);
     let long = list_length(site);
     let bytes = long + more;
-    match bounds(
+    bounds(
         4096,
         4,
         site.last - site.first + (i + 1),
         bytes,
         resized(old, long, bytes),
         have,
-    ) {
-        Test::Fault(number, place) => Piece::Stop(number, place),
-        Test::Fine => Piece::Ends(more),
-    }
+    )?;
+    Ok(more)
 }
 
-// The first refusal of a row and its number, or how many bytes the entries have together.
-#[derive(Clone, Copy)]
-enum Counted {
-    Refused(u32, usize, usize),
-    Passed(usize),
-}
-
-// The rows in their order; r is the first whose key came before.
+// The rows in their order, and how many bytes their entries have together; r is the first whose key came before.
 fn ask_rows(
     table: &[u8],
     store: &[u8],
@@ -920,28 +886,29 @@ fn ask_rows(
     site: Site,
     old: Extent,
     have: usize,
-) -> Counted
+) -> Result<usize, Refused>
     requires { Read file.now × HoldsList OfDevices file.now index.now site × OwnKeys table.now r × Modestly site old 0 0 × (site.last - site.first ≤ 4096) }
     ensures { CountedBy (pass_of have table.now store.now (old_entries OfDevices file.now) site old) table.now r site old result }
 {
     let n = table.len() / 24;
     let mut grown = 0;
-    let mut i = 0;
-    while i < n {
+    for i in 0..n {
         let known = is_known(table, i, r, file, index, site);
         let at = 24 * i;
         let e = at + 24;
         match ask_row(&table[at..e], store, i, known, site, old, grown, have) {
-            Piece::Stop(number, place) => {
-                return Counted::Refused(number, i, place);
+            Err(fault) => {
+                return Err(Refused {
+                    index: i as u32,
+                    fault,
+                });
             }
-            Piece::Ends(more) => {
+            Ok(more) => {
                 grown = more;
-                i += 1;
             }
         }
     }
-    Counted::Passed(grown)
+    Ok(grown)
 }
 
 // ---- their bytes among those of the file
@@ -975,12 +942,12 @@ fn put_row(part: &[u8], store: &[u8], out: &mut [u8]) -> usize
 }
 
 // Where a search ended.
-fn place_of(found: Found) -> usize
+fn place_of(found: Result<usize, usize>) -> usize
     ensures { result ≡ place_in found }
 {
     match found {
-        Found::There(p) => p,
-        Found::Free(p) => p,
+        Ok(p) => p,
+        Err(p) => p,
     }
 }
 
@@ -1037,37 +1004,32 @@ fn put_rows(
 {
     let mut bytes = 0;
     let mut next = site.first;
-    let mut i = 0;
-    while i < starts.len() {
-        let y = starts[i] as usize;
+    for start in starts {
+        let y = *start as usize;
         let run = put_turn(table, store, y, file, index, site, next, &mut out[bytes..]);
         bytes += run.bytes;
         next = run.next;
-        i += 1;
     }
     Run { bytes, next }
 }
 
 // ---- all of them added
 
-// Every check but the card's passed, or the first that failed and its row.
-#[derive(Clone, Copy)]
-enum Prepared {
-    Stopped(u32, usize, usize),
-    Stands(Change),
-}
-
 // The rows passed, and their entries have `grown` bytes: the numbers of the result, and its room, which an empty table is asked too.
-fn stand_at(site: Site, old: Extent, rows: usize, grown: usize, have: usize) -> Prepared
+fn stand_at(
+    site: Site,
+    old: Extent,
+    rows: usize,
+    grown: usize,
+    have: usize,
+) -> Result<Change, Fault>
     requires { Modestly site old rows grown × (site.last - site.first + rows ≤ 4096) }
     ensures { StandsAt site old rows grown have result }
 {
     let long = list_length(site);
     let bytes = long + grown;
     let new = resized(old, long, bytes);
-    if have < new.bytes {
-        return Prepared::Stopped(ROOM, 0, new.bytes);
-    }
+    roomy(have, new.bytes)?;
     let low = site.first;
     let cut = Cut {
         low,
@@ -1075,7 +1037,7 @@ fn stand_at(site: Site, old: Extent, rows: usize, grown: usize, have: usize) -> 
         count: (site.last - site.first + rows) as u32,
         bytes,
     };
-    Prepared::Stands(Change {
+    Ok(Change {
         site,
         cut,
         old,
@@ -1092,14 +1054,14 @@ fn prepare(
     index: &[u32],
     site: Site,
     have: usize,
-) -> Prepared
+) -> Result<Change, Refused>
     requires { WholeFile file.now index.now × HoldsList OfDevices file.now index.now site × RowsFor table.now (length starts.old) }
     ensures { PreparedBy have table.now store.now starts.new file.now index.now result }
 {
     row_starts(starts);
     let r = lists::arrange(Kind::Devices, &table[..], starts);
     let old = sized(&file[..], &index[..]);
-    match ask_rows(
+    let grown = ask_rows(
         &table[..],
         &store[..],
         r,
@@ -1108,10 +1070,8 @@ fn prepare(
         site,
         old,
         have,
-    ) {
-        Counted::Refused(number, i, place) => Prepared::Stopped(number, i, place),
-        Counted::Passed(grown) => stand_at(site, old, table.len() / 24, grown, have),
-    }
+    )?;
+    Ok(stand_at(site, old, table.len() / 24, grown, have)?)
 }
 
 // The file with all rows.
@@ -1159,36 +1119,23 @@ fn put_added(
     index: &[u32],
     x: Change,
     out: &mut [u8],
-) -> Edited
+) -> Result<Written, Refused>
     requires { TableReady (length out.old) table.now store.now starts.now file.now index.now x }
-    ensures { WritesBeside card (many_card (length out.old) card file.now table.now store.now) out.old result out.new }
+    ensures { WritesBeside card (many_card (length out.old) card file.now table.now store.now) out.old (edited_answer card result) out.new }
 {
-    match cards::move_by(
-        card,
-        card_before(Side::OfDevices, x),
-        card_behind(Side::OfDevices, x),
-    ) {
-        Moved::Out => Edited {
-            number: CARD,
-            index: 0,
-            place: 0,
-            card,
-        },
-        Moved::To(moved) => Edited {
-            number: TAKEN,
-            index: 0,
-            place: put_table(
-                &table[..],
-                &store[..],
-                &starts[..],
-                &file[..],
-                &index[..],
-                x,
-                out,
-            ) as u64,
-            card: moved,
-        },
-    }
+    let before = card_before(Side::OfDevices, x);
+    let behind = card_behind(Side::OfDevices, x);
+    let moved = cards::move_by(card, before, behind)?;
+    let bytes = put_table(
+        &table[..],
+        &store[..],
+        &starts[..],
+        &file[..],
+        &index[..],
+        x,
+        out,
+    );
+    Ok(Written { bytes, card: moved })
 }
 
 // The rows added to the list at a site, with places for their starts.
@@ -1201,11 +1148,11 @@ fn add_rows(
     index: &[u32],
     site: Site,
     out: &mut [u8],
-) -> Edited
+) -> Result<Written, Refused>
     requires { WholeFile file.now index.now × HoldsList OfDevices file.now index.now site × RowsFor table.now (length starts.old) }
-    ensures { WritesBeside card (many_card (length out.old) card file.now table.now store.now) out.old result out.new }
+    ensures { WritesBeside card (many_card (length out.old) card file.now table.now store.now) out.old (edited_answer card result) out.new }
 {
-    match prepare(
+    let x = prepare(
         &table[..],
         &store[..],
         starts,
@@ -1213,28 +1160,21 @@ fn add_rows(
         &index[..],
         site,
         out.len(),
-    ) {
-        Prepared::Stopped(number, i, place) => Edited {
-            number,
-            index: i as u32,
-            place: place as u64,
-            card,
-        },
-        Prepared::Stands(x) => put_added(
-            card,
-            &table[..],
-            &store[..],
-            starts,
-            &file[..],
-            &index[..],
-            x,
-            out,
-        ),
-    }
+    )?;
+    put_added(
+        card,
+        &table[..],
+        &store[..],
+        starts,
+        &file[..],
+        &index[..],
+        x,
+        out,
+    )
 }
 
-// The same, with as many places as there are rows: clearing more costs more than adding a few. Of more rows than a list may have, one more than that is looked at.
-fn add_at(
+// The same, with as many of N places as there are rows. Of more rows than a list may have, one more than that is looked at.
+fn add_with_rows<const N: usize>(
     card: Card,
     table: &[u8],
     store: &[u8],
@@ -1242,42 +1182,18 @@ fn add_at(
     index: &[u32],
     site: Site,
     out: &mut [u8],
-) -> Edited
-    requires { WholeFile file.now index.now × HoldsList OfDevices file.now index.now site }
-    ensures { WritesBeside card (many_card (length out.old) card file.now table.now store.now) out.old result out.new }
+) -> Result<Written, Refused>
+    requires lists { WholeFile file.now index.now × HoldsList OfDevices file.now index.now site }
+    requires places { (N ≤ 4097) × (length table.now / 24 ≤ N ⊎ (N ≡ 4097)) }
+    ensures { WritesBeside card (many_card (length out.old) card file.now table.now store.now) out.old (edited_answer card result) out.new }
 {
-    let n = table.len() / 24;
-    if n <= 64 {
-        let mut starts = [0u32; 64];
-        return add_rows(
-            card,
-            &table[..],
-            &store[..],
-            &mut starts[..n],
-            &file[..],
-            &index[..],
-            site,
-            out,
-        );
-    }
-    let mut starts = [0u32; 4097];
-    if n <= 4097 {
-        return add_rows(
-            card,
-            &table[..],
-            &store[..],
-            &mut starts[..n],
-            &file[..],
-            &index[..],
-            site,
-            out,
-        );
-    }
+    let mut starts = [0u32; N];
+    let n = (table.len() / 24).min(N);
     add_rows(
         card,
         &table[..],
         &store[..],
-        &mut starts,
+        &mut starts[..n],
         &file[..],
         &index[..],
         site,
@@ -1285,7 +1201,7 @@ fn add_at(
     )
 }
 
-// The rows of a table added to a file beside a card, with room for its index.
+// The rows of a table added to a file beside a card, with room for its index. Clearing more places for their starts costs more than adding a few.
 fn add_in(
     card: Card,
     table: &[u8],
@@ -1293,22 +1209,16 @@ fn add_in(
     file: &[u8],
     index: &mut [u32],
     out: &mut [u8],
-) -> Edited
+) -> Result<Written, Refused>
     requires { HoldsParts file.now (length index.old) }
-    ensures { WritesBeside card (many_card (length out.old) card file.now table.now store.now) out.old result out.new }
+    ensures { WritesBeside card (many_card (length out.old) card file.now table.now store.now) out.old (edited_answer card result) out.new }
 {
-    match sections::index_file(&file[..], index) {
-        Test::Fault(number, place) => Edited {
-            number,
-            index: 0,
-            place: place as u64,
-            card,
-        },
-        Test::Fine => {
-            let site = site_at(Side::OfDevices, &file[..], index);
-            add_at(card, &table[..], &store[..], &file[..], index, site, out)
-        }
+    sections::index_file(&file[..], index)?;
+    let site = site_at(Side::OfDevices, &file[..], index);
+    if table.len() / 24 <= 64 {
+        return add_with_rows::<64>(card, &table[..], &store[..], &file[..], index, site, out);
     }
+    add_with_rows::<4097>(card, &table[..], &store[..], &file[..], index, site, out)
 }
 
 // ---- the true card
@@ -1318,165 +1228,170 @@ fn payload_sum(p: &[u8], starts: &[u32]) -> usize
     requires { Lightly p.now starts.now }
     ensures { result ≡ weigh payload_size (map (entry_by devices p.now) starts.now) }
 {
-    let mut i = 0;
     let mut n = 0;
-    while i < starts.len() {
-        let at = starts[i] as usize;
-        n += device_length(p, at) - 16;
-        i += 1;
+    for start in starts {
+        n += device_length(p, *start as usize) - 16;
     }
     n
 }
 
-// An answer that has no card.
-fn plain(r: Answer) -> Edited
-    ensures { result ≡ plain_answer r }
-{
-    Edited {
-        number: r.number,
-        index: 0,
-        place: r.place,
-        card: Card {
-            length: 0,
-            sections: 0,
-            devices: 0,
-            payloads: 0,
-        },
-    }
-}
+// The card that is told of beside a refusal: it says nothing.
+const BLANK: Card = Card {
+    length: 0,
+    sections: 0,
+    devices: 0,
+    payloads: 0,
+};
 
 // The card of a file that has no section.
-fn open_bare(file: &[u8]) -> Edited
+fn open_bare(file: &[u8]) -> Result<Card, Fault>
     requires { length file.now ≤ 16 }
-    ensures { result ≡ open_answer (open_file file.now) }
+    ensures { outcome_of result ≡ open_file file.now }
 {
     let mut none = [0u32; 1];
-    match sections::scan(&file[..], &mut none[..0]) {
-        Piece::Stop(number, place) => plain(Answer {
-            number,
-            place: place as u64,
-        }),
-        Piece::Ends(_) => Edited {
-            number: TAKEN,
-            index: 0,
-            place: 0,
-            card: Card {
-                length: 16,
-                sections: 0,
-                devices: 0,
-                payloads: 0,
-            },
-        },
+    sections::scan(&file[..], &mut none[..0])?;
+    Ok(Card {
+        length: 16,
+        sections: 0,
+        devices: 0,
+        payloads: 0,
+    })
+}
+
+// The card of the canonical form of a file that is taken.
+fn card_by(file: &[u8], index: &[u32]) -> Card
+    requires { WholeFile file.now index.now }
+    ensures { open_file file.now ≡ taken result }
+{
+    let site = site_at(Side::OfDevices, &file[..], &index[..]);
+    let size = sized(&file[..], &index[..]);
+    let begin = site.begin;
+    let end = site.end;
+    let from = site.first;
+    let to = site.last;
+    let sum = payload_sum(&file[begin..end], &index[from..to]);
+    Card {
+        length: size.bytes as u64,
+        sections: size.sections as u64,
+        devices: (to - from) as u64,
+        payloads: sum as u64,
     }
 }
 
-// The card of a file's canonical form, with room for its index.
-fn open_in(file: &[u8], index: &mut [u32]) -> Edited
-    requires { HoldsParts file.now (length index.old) }
-    ensures { result ≡ open_answer (open_file file.now) }
+// The card of a file's canonical form, with an index of so many places.
+fn open_with<const N: usize>(file: &[u8]) -> Result<Card, Fault>
+    requires holds { HoldsParts file.now N }
+    requires few { N ≤ 4883 }
+    ensures { outcome_of result ≡ open_file file.now }
 {
-    match sections::index_file(&file[..], index) {
-        Test::Fault(number, place) => plain(Answer {
-            number,
-            place: place as u64,
-        }),
-        Test::Fine => {
-            let site = site_at(Side::OfDevices, &file[..], index);
-            let size = sized(&file[..], index);
-            let begin = site.begin;
-            let end = site.end;
-            let from = site.first;
-            let to = site.last;
-            let sum = payload_sum(&file[begin..end], &index[from..to]);
-            Edited {
-                number: TAKEN,
-                index: 0,
-                place: 0,
-                card: Card {
-                    length: size.bytes as u64,
-                    sections: size.sections as u64,
-                    devices: (to - from) as u64,
-                    payloads: sum as u64,
-                },
-            }
-        }
+    let mut index = [0u32; N];
+    sections::index_file(&file[..], &mut index)?;
+    Ok(card_by(&file[..], &index))
+}
+
+// The same, with an index of as many places as the file needs.
+fn opened(file: &[u8]) -> Result<Card, Fault>
+    ensures { outcome_of result ≡ open_file file.now }
+{
+    if file.len() <= 16 {
+        return open_bare(&file[..]);
+    }
+    match sections::places_for(&file[..], file.len()) {
+        Places::Few => open_with::<51>(&file[..]),
+        Places::Some => open_with::<275>(&file[..]),
+        Places::All => open_with::<4883>(&file[..]),
+    }
+}
+
+// An edit of a file beside a card, with an index of so many places.
+fn edit_with<const N: usize>(
+    edit: Edit,
+    card: Card,
+    a: &[u8],
+    b: &[u8],
+    file: &[u8],
+    out: &mut [u8],
+) -> Result<Written, Refused>
+    requires holds { HoldsParts file.now N }
+    requires few { N ≤ 4883 }
+    ensures { WritesBeside card (0, edit_card (length out.old) card file.now (edit_of edit a.now b.now)) out.old (edited_answer card result) out.new }
+{
+    let mut index = [0u32; N];
+    edit_in(edit, card, &a[..], &b[..], &file[..], &mut index, out)
+}
+
+// The rows of a table added to a file beside a card, with an index of so many places.
+fn add_with<const N: usize>(
+    card: Card,
+    table: &[u8],
+    store: &[u8],
+    file: &[u8],
+    out: &mut [u8],
+) -> Result<Written, Refused>
+    requires holds { HoldsParts file.now N }
+    requires few { N ≤ 4883 }
+    ensures { WritesBeside card (many_card (length out.old) card file.now table.now store.now) out.old (edited_answer card result) out.new }
+{
+    let mut index = [0u32; N];
+    add_in(card, &table[..], &store[..], &file[..], &mut index, out)
+}
+
+// The same, with an index of as many places as the file needs.
+fn edit_placed(
+    edit: Edit,
+    card: Card,
+    a: &[u8],
+    b: &[u8],
+    file: &[u8],
+    out: &mut [u8],
+) -> Result<Written, Refused>
+    ensures { WritesBeside card (0, edit_card (length out.old) card file.now (edit_of edit a.now b.now)) out.old (edited_answer card result) out.new }
+{
+    match sections::places_for(&file[..], file.len()) {
+        Places::Few => edit_with::<51>(edit, card, &a[..], &b[..], &file[..], out),
+        Places::Some => edit_with::<275>(edit, card, &a[..], &b[..], &file[..], out),
+        Places::All => edit_with::<4883>(edit, card, &a[..], &b[..], &file[..], out),
+    }
+}
+
+fn add_placed(
+    card: Card,
+    table: &[u8],
+    store: &[u8],
+    file: &[u8],
+    out: &mut [u8],
+) -> Result<Written, Refused>
+    ensures { WritesBeside card (many_card (length out.old) card file.now table.now store.now) out.old (edited_answer card result) out.new }
+{
+    match sections::places_for(&file[..], file.len()) {
+        Places::Few => add_with::<51>(card, &table[..], &store[..], &file[..], out),
+        Places::Some => add_with::<275>(card, &table[..], &store[..], &file[..], out),
+        Places::All => add_with::<4883>(card, &table[..], &store[..], &file[..], out),
     }
 }
 
 // ---- the calls
 
-// What is done with a file: the canonical form of its content after an edit is written beside a card; or its card is made, and nothing is written.
-#[derive(Clone, Copy)]
-enum Work {
-    Opening,
-    Editing(Edit, Card),
-}
-
-fn work_in(work: Work, a: &[u8], b: &[u8], file: &[u8], index: &mut [u32], out: &mut [u8]) -> Edited
-    requires { HoldsParts file.now (length index.old) }
-    ensures { Works work file.now a.now b.now out.old result out.new }
-{
-    match work {
-        Work::Opening => open_in(&file[..], index),
-        Work::Editing(edit, card) => edit_in(edit, card, &a[..], &b[..], &file[..], index, out),
-    }
-}
-
-// The same, with an index of as many places as the file needs.
-fn do_work(work: Work, a: &[u8], b: &[u8], file: &[u8], out: &mut [u8]) -> Edited
-    ensures { Works work file.now a.now b.now out.old result out.new }
-{
-    match sections::places_for(&file[..], file.len()) {
-        Places::Few => {
-            let mut index = [0u32; 51];
-            work_in(work, &a[..], &b[..], &file[..], &mut index, out)
-        }
-        Places::Some => {
-            let mut index = [0u32; 275];
-            work_in(work, &a[..], &b[..], &file[..], &mut index, out)
-        }
-        Places::All => {
-            let mut index = [0u32; 4883];
-            work_in(work, &a[..], &b[..], &file[..], &mut index, out)
-        }
-    }
-}
-
 // The true card of a file's canonical form.
 pub fn open(file: &[u8]) -> Edited
     ensures { result ≡ open_answer (open_file file.now) }
 {
-    if file.len() <= 16 {
-        return open_bare(&file[..]);
+    match opened(&file[..]) {
+        Ok(card) => edited_answer(BLANK, Ok(Written { bytes: 0, card })),
+        Err(fault) => edited_answer(BLANK, Err(Refused { index: 0, fault })),
     }
-    let none = &file[..0];
-    let mut nothing = [0u8; 1];
-    do_work(Work::Opening, none, none, file, &mut nothing[..0])
 }
 
 // The canonical form of a file's content after an edit beside a card.
 pub fn edited(edit: Edit, card: Card, a: &[u8], b: &[u8], file: &[u8], out: &mut [u8]) -> Edited
     ensures { WritesBeside card (0, edit_card (length out.old) card file.now (edit_of edit a.now b.now)) out.old result out.new }
 {
-    do_work(Work::Editing(edit, card), a, b, file, out)
+    edited_answer(card, edit_placed(edit, card, a, b, file, out))
 }
 
 // The canonical form of a file's content and the devices of a table more, beside a card: one by one in the table's order, as far as answers go. The places for its rows stand in a frame that other calls do not pay for.
 pub fn added(card: Card, table: &[u8], store: &[u8], file: &[u8], out: &mut [u8]) -> Edited
     ensures { WritesBeside card (many_card (length out.old) card file.now table.now store.now) out.old result out.new }
 {
-    match sections::places_for(&file[..], file.len()) {
-        Places::Few => {
-            let mut index = [0u32; 51];
-            add_in(card, &table[..], &store[..], &file[..], &mut index, out)
-        }
-        Places::Some => {
-            let mut index = [0u32; 275];
-            add_in(card, &table[..], &store[..], &file[..], &mut index, out)
-        }
-        Places::All => {
-            let mut index = [0u32; 4883];
-            add_in(card, &table[..], &store[..], &file[..], &mut index, out)
-        }
-    }
+    edited_answer(card, add_placed(card, table, store, file, out))
 }

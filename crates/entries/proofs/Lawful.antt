@@ -1,6 +1,6 @@
 -- What the laws of lists want of a kind of entry, and that every kind has it.
 -- Assumes nothing.
-use mathlib.Core.Path.{◌≡◌, refl, ap}
+use mathlib.Core.Path.{◌≡◌, refl}
 use mathlib.Core.List.{List, [], ◌∷◌, ◌++◌, append_assoc}
 use Prim.Native.Nat.{ℕ, ◌+◌, ◌-◌, ◌≤◌, ◌<◌, zero-le}
 use native.Mathlib.Omega.{arith}
@@ -44,10 +44,6 @@ pub record Lawful (d : Description) : Type 0 where
 -- the checks of a lead lie within the bytes
 pub lead_within : {d : Description} → Lawful d → (b : List ℕ) → Within (asked (lead_checks d b)) (length b)
 lead_within {d} K b = checked-within ((leb d.fixed (length b), SHAPE, 0) ∷ []) (asked (d.early b)) (length b) (zero-le, λ h. K.early_in b (leb-true _ _ h))
-
--- so a fault in the lead of the entry at a place lies before the end
-pub lead_place : {d : Description} → Lawful d → (s : List ℕ) (at : ℕ) {b : List ℕ} {n p : ℕ} → b ≡ drop at s → refused n p ≡ asked (lead_checks d b) → p ≤ length s - at
-lead_place {d} K s at {b} e h = omega (arith, rw (← h) at (lead_within K b), ap length e, length-drop at s)
 
 -- the u32 that an entry begins with
 id_named : (e rest : List ℕ) → 4 ≤ length e → le_at 4 (e ++ rest) 0 ≡ le_at 4 e 0

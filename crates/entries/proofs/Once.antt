@@ -5,11 +5,11 @@ use mathlib.Core.Bool.{Bool}
 use mathlib.Core.List.{List}
 use Prim.Native.Nat.{ℕ, ◌+◌, ◌*◌}
 use lib.ListN.{length, take, drop}
-use Rattle.answer.specs.declared.Piece.{Piece}
-use Rattle.answer.specs.declared.Test.{Test}
+use Rattle.std.proofs.Common.{Result}
+use Rattle.answer.specs.declared.Fault.{Fault}
 use Rattle.answer.specs.Outcome.{moved}
-use Rattle.answer.specs.Calls.{piece_of, test_of, asked}
-use Rattle.answer.proofs.Once.{equal_once, test_once}
+use Rattle.answer.specs.Calls.{outcome_of, asked}
+use Rattle.answer.proofs.Once.{equal_once, outcome_once}
 use Rattle.format.specs.Format.{span}
 use Rattle.format.specs.Places.{read_at}
 use Rattle.format.proofs.Once.{read_once}
@@ -27,24 +27,24 @@ closed_once k e f = equal_once e f
 pub cpu_sized_once : (v : ℕ) (s : List ℕ) {r p : Bool} → r ≡ cpu_sized v s → p ≡ cpu_sized v s → r ≡ p
 cpu_sized_once v s e f = equal_once e f
 
-pub cpu_state_once : (v : ℕ) (s : List ℕ) (r p : Test) → test_of r ≡ cpu_whole v s → test_of p ≡ cpu_whole v s → r ≡ p
-cpu_state_once v s r p e f = test_once r p (equal_once e f)
+pub cpu_state_once : (v : ℕ) (s : List ℕ) (r p : Result (Unit {0}) Fault) → outcome_of r ≡ cpu_whole v s → outcome_of p ≡ cpu_whole v s → r ≡ p
+cpu_state_once v s r p e f = outcome_once r p (equal_once e f)
 
 pub mmu_length_once : (v : ℕ) {r p : ℕ} → r ≡ mmu_length v → p ≡ mmu_length v → r ≡ p
 mmu_length_once v e f = equal_once e f
 
-pub lead_once : (k : Kind) (b : List ℕ) (r p : Test) → test_of r ≡ asked (lead_checks (describe k) b) → test_of p ≡ asked (lead_checks (describe k) b) → r ≡ p
-lead_once k b r p e f = test_once r p (equal_once e f)
+pub lead_once : (k : Kind) (b : List ℕ) (r p : Result (Unit {0}) Fault) → outcome_of r ≡ asked (lead_checks (describe k) b) → outcome_of p ≡ asked (lead_checks (describe k) b) → r ≡ p
+lead_once k b r p e f = outcome_once r p (equal_once e f)
 
-pub lead_at_once : (k : Kind) (s : List ℕ) (at : ℕ) (r p : Test)
-    → test_of r ≡ moved at (asked (lead_checks (describe k) (drop at s))) → test_of p ≡ moved at (asked (lead_checks (describe k) (drop at s))) → r ≡ p
-lead_at_once k s at r p e f = test_once r p (equal_once e f)
+pub lead_at_once : (k : Kind) (s : List ℕ) (at : ℕ) (r p : Result (Unit {0}) Fault)
+    → outcome_of r ≡ moved at (asked (lead_checks (describe k) (drop at s))) → outcome_of p ≡ moved at (asked (lead_checks (describe k) (drop at s))) → r ≡ p
+lead_at_once k s at r p e f = outcome_once r p (equal_once e f)
 
 -- `key_of`, and `key_at` of the bytes from its place on
 pub key_once : (k : Kind) (b : List ℕ) {r p : ℕ} → r ≡ (describe k).key b → p ≡ (describe k).key b → r ≡ p
 key_once k b e f = equal_once e f
 
-pub entry_once : (k : Kind) (s : List ℕ) (at : ℕ) (r p : Piece) → piece_of r ≡ read_at (describe k).form s at → piece_of p ≡ read_at (describe k).form s at → r ≡ p
+pub entry_once : (k : Kind) (s : List ℕ) (at : ℕ) (r p : Result ℕ Fault) → outcome_of r ≡ read_at (describe k).form s at → outcome_of p ≡ read_at (describe k).form s at → r ≡ p
 entry_once k s at r p e f = read_once (describe k).form s at r p e f
 
 pub length_once : (k : Kind) (s : List ℕ) (at : ℕ) {r p : ℕ}
@@ -54,7 +54,7 @@ length_once k s at e f = equal_once e f
 pub device_key_once : (id version flags : ℕ) {r q : ℕ} → r ≡ (id * 65536 + version) * 65536 + flags → q ≡ (id * 65536 + version) * 65536 + flags → r ≡ q
 device_key_once id version flags e f = equal_once e f
 
-pub device_once : (s : List ℕ) (at : ℕ) (r p : Piece) → piece_of r ≡ read_at devices.form s at → piece_of p ≡ read_at devices.form s at → r ≡ p
+pub device_once : (s : List ℕ) (at : ℕ) (r p : Result ℕ Fault) → outcome_of r ≡ read_at devices.form s at → outcome_of p ≡ read_at devices.form s at → r ≡ p
 device_once s at r p e f = read_once devices.form s at r p e f
 
 pub device_length_once : (s : List ℕ) (at : ℕ) {r p : ℕ}

@@ -3,7 +3,7 @@
 use mathlib.Core.Path.{◌≡◌, refl, sym, ◌∙◌, ap}
 use mathlib.Core.Logic.{◌≢◌}
 use mathlib.Core.List.{List, [], ◌∷◌, ◌++◌}
-use mathlib.Core.Bool.{Bool, true, false, ◌&&◌, ◌||◌}
+use mathlib.Core.Bool.{Bool, true, false, ◌||◌}
 use Prim.Native.Nat.{ℕ, ◌+◌, ◌-◌, ◌≤◌, ◌<◌, zero-le}
 use native.Mathlib.Omega.{arith}
 use lib.ListN.{length, take, drop, length-append}
@@ -11,11 +11,10 @@ use lib.Seq.{length-take-le, drop_at}
 use lib.Dec.{leb, eqb}
 use borrow.Author.Tests.{eq-eqb, ne_eqb, eqb-true, eqb-false, leb-true, le-leb, lt-leb}
 use Rattle.answer.specs.Numbers.{SHAPE}
-use Rattle.answer.specs.Outcome.{Outcome, taken, refused, checked, after, moved}
+use Rattle.answer.specs.Outcome.{Outcome, taken, refused, after, moved}
 use Rattle.answer.proofs.Checks.{and_true}
 use Rattle.answer.proofs.Outcomes.{shift_taken}
 use Rattle.answer.proofs.Within.{Within, checked-within, moved-within}
-use Rattle.wire.specs.Numbers.{le_at}
 use Rattle.format.specs.Format.{any, sized, values, read, Is}
 use Rattle.format.specs.Places.{read_at}
 use Rattle.format.proofs.Exits.{sized_inside}
@@ -29,17 +28,8 @@ use Rattle.entries.specs.States.{cpu_length, extends, registers, switches, exten
 abbrev length_by : Bool → ℕ → Bool
 length_by a n = elim a as (λ _. Bool) [ true ↦ eqb n 412 | false ↦ eqb n 1183 || leb 1191 n ]
 
-pub length-one : (v n : ℕ) → v ≡ 1 → eqb n 412 ≡ cpu_length v n
-length-one v n h = sym (ap (λ (a : Bool). length_by a n) (eq-eqb v 1 h))
-
 pub length_two : (v n : ℕ) → v ≢ 1 → (eqb n 1183 || leb 1191 n) ≡ cpu_length v n
 length_two v n h = sym (ap (λ (a : Bool). length_by a n) (ne_eqb v 1 h))
-
-pub mmu_one : (v : ℕ) → v ≡ 1 → 68 ≡ mmu_length v
-mmu_one v h = sym (ap (λ (a : Bool). elim a as (λ _. ℕ) [ true ↦ 68 | false ↦ 264 ]) (eq-eqb v 1 h))
-
-pub mmu_two : (v : ℕ) → v ≢ 1 → 264 ≡ mmu_length v
-mmu_two v h = sym (ap (λ (a : Bool). elim a as (λ _. ℕ) [ true ↦ 68 | false ↦ 264 ]) (ne_eqb v 1 h))
 
 -- a right length of version 2 reaches the last of the registers
 pub two_wide : (n : ℕ) → (eqb n 1183 || leb 1191 n) ≡ true → 1183 ≤ n
@@ -49,14 +39,6 @@ two_wide n h = go (eqb n 1183) refl (leb 1191 n) refl h
     go true p b q r = omega (arith, eqb-true n 1183 p)
     go false p true q r = omega (arith, leb-true 1191 n q)
     go false p false q r = let z : ◌≡◌ {A = ℕ} 0 1 = cc in absurd (omega arith)
-
--- ---- the length that a longer state says
-
-pub extends_short : (e : List ℕ) → length e ≤ 1191 → true ≡ extends e
-extends_short e h = sym (ap (λ (a : Bool). a || eqb (length e) (1187 + le_at 4 e 1183)) (le-leb (length e) 1191 h))
-
-pub extends_long : (e : List ℕ) {n : ℕ} → 1191 < length e → n ≡ le_at 4 e 1183 → eqb (length e) (1187 + n) ≡ extends e
-extends_long e h k = ap (λ (m : ℕ). eqb (length e) (1187 + m)) k ∙ sym (ap (λ (a : Bool). a || eqb (length e) (1187 + le_at 4 e 1183)) (lt-leb (length e) 1191 h))
 
 -- ---- the listed numbers
 
@@ -131,19 +113,6 @@ module _ (v : ℕ) (e : List ℕ) where
           let l : 1183 ≤ length e = two_wide (length e) (length_two v (length e) (eqb-false v 1 p) ∙ h) in
           values-within registers e (length e) (omega arith, (omega arith, (omega arith, tt)))
 
-  -- a whole state
-  pub sized_not : cpu_length v (length e) ≡ false → false ≡ cpu_sized v e
-  sized_not h = sym (ap (λ (b : Bool). b && extends e) h)
-
-  pub sized_next : cpu_length v (length e) ≡ true → {r : Bool} → r ≡ extends e → r ≡ cpu_sized v e
-  sized_next h k = k ∙ sym (ap (λ (b : Bool). b && extends e) h)
-
-  pub whole_bad : cpu_sized v e ≡ false → refused SHAPE 0 ≡ cpu_whole v e
-  whole_bad h = sym (ap (λ (b : Bool). checked ((b, SHAPE, 0) ∷ []) (cpu_state v e)) h)
-
-  pub whole_fine : cpu_sized v e ≡ true → {r : Outcome (Unit {0})} → r ≡ cpu_state v e → r ≡ cpu_whole v e
-  whole_fine h k = k ∙ sym (ap (λ (b : Bool). checked ((b, SHAPE, 0) ∷ []) (cpu_state v e)) h)
-
   pub whole-within : Within (cpu_whole v e) (length e)
   whole-within = checked-within ((cpu_sized v e, SHAPE, 0) ∷ []) (cpu_state v e) (length e) (zero-le, λ h. state_within (and_true (cpu_length v (length e)) (extends e) h).0)
 
@@ -155,19 +124,6 @@ mmu_small v = go (eqb v 1)
     go false = omega arith
 
 -- ---- a state behind its length
-
-abbrev held_by : Bool → Outcome (Unit {0}) → Outcome (Unit {0})
-held_by a r = checked ((a, SHAPE, 0) ∷ []) (moved 4 r)
-
-module _ (v : ℕ) (b e : List ℕ) (q : e ≡ drop 4 b) where
-  same-held : held_by (extends e) (cpu_state v e) ≡ held_checks v b
-  same-held = ap (λ (x : List ℕ). checked ((extends x, SHAPE, 0) ∷ []) (moved 4 (cpu_state v x))) q
-
-  pub held_apart : extends e ≡ false → refused SHAPE 0 ≡ held_checks v b
-  held_apart h = sym (ap (λ (a : Bool). held_by a (cpu_state v e)) h) ∙ same-held
-
-  pub held_next : extends e ≡ true → {r : Outcome (Unit {0})} → r ≡ cpu_state v e → moved 4 r ≡ held_checks v b
-  held_next h k = ap (moved 4) k ∙ sym (ap (λ (a : Bool). held_by a (cpu_state v e)) h) ∙ same-held
 
 -- its faults lie within
 pub held-within : (v : ℕ) (e : List ℕ) → Is (sized 4 (cpu_length_checks v) any) e → Within (held_checks v e) (length e)

@@ -5,14 +5,14 @@
 
 ghost use Rattle.std.specs.Prelude.{◌≡◌, [], ◌∷◌, ℕ, ◌+◌, ◌*◌, min, length, take, drop};
 ghost use Rattle.answer.specs.Outcome.{moved};
-ghost use Rattle.answer.specs.Calls.{piece_of, test_of, asked};
+ghost use Rattle.answer.specs.Calls.{outcome_of, asked};
 ghost use Rattle.format.specs.Format.{any, sized, pair, blob, text, values, span};
 ghost use Rattle.format.specs.Places.{read_at};
 ghost use Rattle.entries.specs.States.{cpu_length, extends, cpu_sized, cpu_length_checks, cpu_state, cpu_whole, registers, switches, extension, held_checks, held_state, mmu_length};
 ghost use Rattle.entries.specs.Kinds.{blob_most, image_most, lead_checks, controller_checks, controller_head, devices, disks, cpus, controllers};
 ghost use Rattle.entries.specs.Code.{describe};
 
-use answer::{Piece, RESERVED, SHAPE, Test, VALUE};
+use answer::{Fault, Refusal};
 use format::{blob_at, block_at, part_at, text_at};
 use wire::{tail, u8_at, u16_at, u32_at, u64_at};
 
@@ -43,10 +43,7 @@ pub fn most_of(kind: Kind) -> u32
 {
     match kind {
         Kind::Devices => 4096,
-        Kind::Disks => 256,
-        Kind::Cpus(_) => 256,
-        Kind::Mmus(_) => 256,
-        Kind::Controllers => 256,
+        Kind::Disks | Kind::Cpus(_) | Kind::Mmus(_) | Kind::Controllers => 256,
     }
 }
 
@@ -54,13 +51,7 @@ pub fn most_of(kind: Kind) -> u32
 pub fn closed(kind: Kind) -> bool
     ensures { result ≡ (describe kind).closed }
 {
-    match kind {
-        Kind::Devices => false,
-        Kind::Disks => false,
-        Kind::Cpus(_) => false,
-        Kind::Mmus(_) => false,
-        Kind::Controllers => true,
-    }
+    matches!(kind, Kind::Controllers)
 }
 
 // ---- states
@@ -68,13 +59,10 @@ pub fn closed(kind: Kind) -> bool
 fn cpu_length(version: u16, n: usize) -> bool
     ensures { result ≡ cpu_length version n }
 {
-    if version == 1 {
-        return n == 412;
+    match version {
+        1 => n == 412,
+        _ => n == 1183 || 1191 <= n,
     }
-    if n == 1183 {
-        return true;
-    }
-    1191 <= n
 }
 
 // Whether a state above 1191 bytes has the length that its extension says.
@@ -82,98 +70,82 @@ fn extended(state: &[u8]) -> bool
     ensures { result ≡ extends state.now }
 {
     let n = state.len();
-    if n <= 1191 {
-        return true;
-    }
-    n == 1187 + (u32_at(state, 1183) as usize)
+    n <= 1191 || n == 1187 + (u32_at(state, 1183) as usize)
 }
 
-// Whether three bytes are no more than each may be.
-fn three_in(state: &[u8], a: usize, x: u8, b: usize, y: u8, c: usize, z: u8) -> Test
-    ensures { test_of result ≡ values ((a, 1, 0, x) ∷ (b, 1, 0, y) ∷ (c, 1, 0, z) ∷ []) state.now }
+// Whether the byte at a place is no more than it may be.
+fn at_most(state: &[u8], at: usize, most: u8) -> Result<(), Fault>
+    ensures { outcome_of result ≡ values ((at, 1, 0, most) ∷ []) state.now }
 {
-    if x < u8_at(state, a) {
-        return Test::Fault(VALUE, a);
+    if most < u8_at(state, at) {
+        return Err(Fault(Refusal::Value, at));
     }
-    if y < u8_at(state, b) {
-        return Test::Fault(VALUE, b);
-    }
-    if z < u8_at(state, c) {
-        return Test::Fault(VALUE, c);
-    }
-    Test::Fine
+    Ok(())
 }
 
-fn registers_in(state: &[u8]) -> Test
-    ensures { test_of result ≡ values registers state.now }
+fn registers_in(state: &[u8]) -> Result<(), Fault>
+    ensures { outcome_of result ≡ values registers state.now }
 {
-    three_in(state, 144, 3, 145, 1, 260, 7)
+    at_most(state, 144, 3)?;
+    at_most(state, 145, 1)?;
+    at_most(state, 260, 7)
 }
 
-fn switches_in(state: &[u8]) -> Test
-    ensures { test_of result ≡ values switches state.now }
+fn switches_in(state: &[u8]) -> Result<(), Fault>
+    ensures { outcome_of result ≡ values switches state.now }
 {
-    three_in(state, 1187, 1, 1188, 1, 1189, 1)
+    at_most(state, 1187, 1)?;
+    at_most(state, 1188, 1)?;
+    at_most(state, 1189, 1)
 }
 
-fn extension_in(state: &[u8]) -> Test
-    ensures { test_of result ≡ values (extension (length state.now)) state.now }
+fn extension_in(state: &[u8]) -> Result<(), Fault>
+    ensures { outcome_of result ≡ values (extension (length state.now)) state.now }
 {
-    if state.len() != 1191 {
-        return switches_in(state);
-    }
-    let n = u32_at(state, 1183);
-    if n < 4 {
-        return Test::Fault(VALUE, 1183);
-    }
-    if 4 < n {
-        return Test::Fault(VALUE, 1183);
+    if state.len() == 1191 && u32_at(state, 1183) != 4 {
+        return Err(Fault(Refusal::Value, 1183));
     }
     switches_in(state)
 }
 
 // The listed numbers of a state whose length is right.
-fn numbers_in(version: u16, state: &[u8]) -> Test
-    ensures { test_of result ≡ cpu_state version state.now }
+fn numbers_in(version: u16, state: &[u8]) -> Result<(), Fault>
+    ensures { outcome_of result ≡ cpu_state version state.now }
 {
     if version == 1 {
-        return Test::Fine;
+        return Ok(());
     }
-    match registers_in(state) {
-        Test::Fault(number, place) => Test::Fault(number, place),
-        Test::Fine => {
-            if 1191 <= state.len() {
-                return extension_in(state);
-            }
-            Test::Fine
-        }
+    registers_in(state)?;
+    if 1191 <= state.len() {
+        return extension_in(state);
     }
+    Ok(())
 }
 
 // Whether a state's length is right.
 pub fn cpu_sized(version: u16, state: &[u8]) -> bool
     ensures { result ≡ cpu_sized version state.now }
 {
-    if cpu_length(version, state.len()) {
-        return extended(state);
-    }
-    false
+    cpu_length(version, state.len()) && extended(state)
 }
 
 // A whole CPU state: its length, then its values.
-pub fn cpu_state(version: u16, state: &[u8]) -> Test
-    ensures { test_of result ≡ cpu_whole version state.now }
+pub fn cpu_state(version: u16, state: &[u8]) -> Result<(), Fault>
+    ensures { outcome_of result ≡ cpu_whole version state.now }
 {
-    if cpu_sized(version, state) {
-        return numbers_in(version, state);
+    if !cpu_sized(version, state) {
+        return Err(Fault(Refusal::Shape, 0));
     }
-    Test::Fault(SHAPE, 0)
+    numbers_in(version, state)
 }
 
 pub fn mmu_length(version: u16) -> usize
     ensures { result ≡ mmu_length version }
 {
-    if version == 1 { 68 } else { 264 }
+    match version {
+        1 => 68,
+        _ => 264,
+    }
 }
 
 // ---- before KEY
@@ -191,44 +163,41 @@ fn fixed_of(kind: Kind) -> usize
 }
 
 // RESERVED of the controller that begins the bytes; every address is one.
-fn controller_lead(b: &[u8]) -> Test
-    ensures { test_of result ≡ asked (controller_checks b.now) }
+fn controller_lead(b: &[u8]) -> Result<(), Fault>
+    ensures { outcome_of result ≡ asked (controller_checks b.now) }
 {
     if u16_at(b, 2) != 0 {
-        return Test::Fault(RESERVED, 2);
+        return Err(Fault(Refusal::Reserved, 2));
     }
-    Test::Fine
+    Ok(())
 }
 
-fn early_of(kind: Kind, b: &[u8]) -> Test
-    ensures { test_of result ≡ asked ((describe kind).early b.now) }
+fn early_of(kind: Kind, b: &[u8]) -> Result<(), Fault>
+    ensures { outcome_of result ≡ asked ((describe kind).early b.now) }
 {
     match kind {
-        Kind::Devices => Test::Fine,
-        Kind::Disks => Test::Fine,
-        Kind::Cpus(_) => Test::Fine,
-        Kind::Mmus(_) => Test::Fine,
         Kind::Controllers => controller_lead(b),
+        Kind::Devices | Kind::Disks | Kind::Cpus(_) | Kind::Mmus(_) => Ok(()),
     }
 }
 
 // What is asked before KEY of the entry that begins the bytes: its fixed part, then what its kind asks.
-pub fn lead_of(kind: Kind, b: &[u8]) -> Test
-    ensures { test_of result ≡ asked (lead_checks (describe kind) b.now) }
+pub fn lead_of(kind: Kind, b: &[u8]) -> Result<(), Fault>
+    ensures { outcome_of result ≡ asked (lead_checks (describe kind) b.now) }
 {
     if b.len() < fixed_of(kind) {
-        return Test::Fault(SHAPE, 0);
+        return Err(Fault(Refusal::Shape, 0));
     }
     early_of(kind, b)
 }
 
 // The same at a place.
-pub fn lead_at(kind: Kind, s: &[u8], at: usize) -> Test
-    ensures { test_of result ≡ moved at (asked (lead_checks (describe kind) (drop at s.now))) }
+pub fn lead_at(kind: Kind, s: &[u8], at: usize) -> Result<(), Fault>
+    ensures { outcome_of result ≡ moved at (asked (lead_checks (describe kind) (drop at s.now))) }
 {
     match lead_of(kind, tail(s, at)) {
-        Test::Fault(number, place) => Test::Fault(number, at + place),
-        Test::Fine => Test::Fine,
+        Err(Fault(refusal, place)) => Err(Fault(refusal, at + place)),
+        Ok(()) => Ok(()),
     }
 }
 
@@ -252,9 +221,7 @@ pub fn key_of(kind: Kind, b: &[u8]) -> u64
             (x / 4294967296 % 65536) as u16,
             (x / 281474976710656) as u16,
         ),
-        Kind::Disks => x % 4294967296,
-        Kind::Cpus(_) => x % 4294967296,
-        Kind::Mmus(_) => x % 4294967296,
+        Kind::Disks | Kind::Cpus(_) | Kind::Mmus(_) => x % 4294967296,
         Kind::Controllers => x % 65536,
     }
 }
@@ -269,120 +236,104 @@ pub fn key_at(kind: Kind, s: &[u8], at: usize) -> u64
 // ---- whole entries
 
 // The same as `entry_at` for a device, of which a file has the most: a loop over a list reads it with no choice of a kind.
-pub fn device_at(s: &[u8], at: usize) -> Piece
-    ensures { piece_of result ≡ read_at devices.form s.now at }
+pub fn device_at(s: &[u8], at: usize) -> Result<usize, Fault>
+    ensures { outcome_of result ≡ read_at devices.form s.now at }
 {
-    match block_at(s, at, 8) {
-        Piece::Stop(number, place) => Piece::Stop(number, place),
-        Piece::Ends(e) => blob_at(s, e, PAYLOAD),
-    }
+    let e = block_at(s, at, 8)?;
+    blob_at(s, e, PAYLOAD)
 }
 
-fn texts_at(s: &[u8], at: usize) -> Piece
-    ensures { piece_of result ≡ read_at (pair (text image_most) (text image_most)) s.now at }
+fn texts_at(s: &[u8], at: usize) -> Result<usize, Fault>
+    ensures { outcome_of result ≡ read_at (pair (text image_most) (text image_most)) s.now at }
 {
-    match text_at(s, at, IMAGE) {
-        Piece::Stop(number, place) => Piece::Stop(number, place),
-        Piece::Ends(e) => text_at(s, e, IMAGE),
-    }
+    let e = text_at(s, at, IMAGE)?;
+    text_at(s, e, IMAGE)
 }
 
-fn disk_at(s: &[u8], at: usize) -> Piece
-    ensures { piece_of result ≡ read_at disks.form s.now at }
+fn disk_at(s: &[u8], at: usize) -> Result<usize, Fault>
+    ensures { outcome_of result ≡ read_at disks.form s.now at }
 {
-    match block_at(s, at, 4) {
-        Piece::Stop(number, place) => Piece::Stop(number, place),
-        Piece::Ends(e) => texts_at(s, e),
-    }
+    let e = block_at(s, at, 4)?;
+    texts_at(s, e)
 }
 
 // A state's length, and as many bytes.
-fn held_state(version: u16, s: &[u8], at: usize) -> Piece
-    ensures { piece_of result ≡ read_at (sized 4 (cpu_length_checks version) any) s.now at }
+fn held_state(version: u16, s: &[u8], at: usize) -> Result<usize, Fault>
+    ensures { outcome_of result ≡ read_at (sized 4 (cpu_length_checks version) any) s.now at }
 {
     if wire::left(s.len(), at) < 4 {
-        return Piece::Stop(SHAPE, at);
+        return Err(Fault(Refusal::Shape, at));
     }
     let n = u32_at(s, at) as usize;
     if !cpu_length(version, n) {
-        return Piece::Stop(SHAPE, at);
+        return Err(Fault(Refusal::Shape, at));
     }
     let b = at + 4;
     if s.len() - b < n {
-        return Piece::Stop(SHAPE, b);
+        return Err(Fault(Refusal::Shape, b));
     }
-    Piece::Ends(b + n)
+    Ok(b + n)
 }
 
 // What is asked of a state behind its length, given both.
-fn held_fine(version: u16, b: &[u8]) -> Test
-    ensures { test_of result ≡ held_checks version b.now }
+fn held_fine(version: u16, b: &[u8]) -> Result<(), Fault>
+    ensures { outcome_of result ≡ held_checks version b.now }
 {
     let state = tail(b, 4);
-    if extended(state) {
-        return match numbers_in(version, state) {
-            Test::Fault(number, place) => Test::Fault(number, 4 + place),
-            Test::Fine => Test::Fine,
-        };
+    if !extended(state) {
+        return Err(Fault(Refusal::Shape, 0));
     }
-    Test::Fault(SHAPE, 0)
-}
-
-fn state_at(version: u16, s: &[u8], at: usize) -> Piece
-    ensures { piece_of result ≡ read_at (held_state version) s.now at }
-{
-    match held_state(version, s, at) {
-        Piece::Stop(number, place) => Piece::Stop(number, place),
-        Piece::Ends(e) => match held_fine(version, &s[at..e]) {
-            Test::Fault(number, place) => Piece::Stop(number, at + place),
-            Test::Fine => Piece::Ends(e),
-        },
+    match numbers_in(version, state) {
+        Err(Fault(refusal, place)) => Err(Fault(refusal, 4 + place)),
+        Ok(()) => Ok(()),
     }
 }
 
-fn cpu_rest_at(version: u16, s: &[u8], at: usize) -> Piece
-    ensures { piece_of result ≡ read_at (pair (held_state version) (blob 8 blob_most)) s.now at }
+fn state_at(version: u16, s: &[u8], at: usize) -> Result<usize, Fault>
+    ensures { outcome_of result ≡ read_at (held_state version) s.now at }
 {
-    match state_at(version, s, at) {
-        Piece::Stop(number, place) => Piece::Stop(number, place),
-        Piece::Ends(e) => blob_at(s, e, BLOB_MOST),
+    let e = held_state(version, s, at)?;
+    match held_fine(version, &s[at..e]) {
+        Err(Fault(refusal, place)) => Err(Fault(refusal, at + place)),
+        Ok(()) => Ok(e),
     }
 }
 
-fn cpu_at(version: u16, s: &[u8], at: usize) -> Piece
-    ensures { piece_of result ≡ read_at (cpus version).form s.now at }
+fn cpu_rest_at(version: u16, s: &[u8], at: usize) -> Result<usize, Fault>
+    ensures { outcome_of result ≡ read_at (pair (held_state version) (blob 8 blob_most)) s.now at }
 {
-    match block_at(s, at, 4) {
-        Piece::Stop(number, place) => Piece::Stop(number, place),
-        Piece::Ends(e) => cpu_rest_at(version, s, e),
-    }
+    let e = state_at(version, s, at)?;
+    blob_at(s, e, BLOB_MOST)
+}
+
+fn cpu_at(version: u16, s: &[u8], at: usize) -> Result<usize, Fault>
+    ensures { outcome_of result ≡ read_at (cpus version).form s.now at }
+{
+    let e = block_at(s, at, 4)?;
+    cpu_rest_at(version, s, e)
 }
 
 // The address, the reserved number and the tag.
-fn controller_head_at(s: &[u8], at: usize) -> Piece
-    ensures { piece_of result ≡ read_at controller_head s.now at }
+fn controller_head_at(s: &[u8], at: usize) -> Result<usize, Fault>
+    ensures { outcome_of result ≡ read_at controller_head s.now at }
 {
-    match block_at(s, at, 8) {
-        Piece::Stop(number, place) => Piece::Stop(number, place),
-        Piece::Ends(e) => match controller_lead(&s[at..e]) {
-            Test::Fault(number, place) => Piece::Stop(number, at + place),
-            Test::Fine => Piece::Ends(e),
-        },
+    let e = block_at(s, at, 8)?;
+    match controller_lead(&s[at..e]) {
+        Err(Fault(refusal, place)) => Err(Fault(refusal, at + place)),
+        Ok(()) => Ok(e),
     }
 }
 
-fn controller_at(s: &[u8], at: usize) -> Piece
-    ensures { piece_of result ≡ read_at controllers.form s.now at }
+fn controller_at(s: &[u8], at: usize) -> Result<usize, Fault>
+    ensures { outcome_of result ≡ read_at controllers.form s.now at }
 {
-    match controller_head_at(s, at) {
-        Piece::Stop(number, place) => Piece::Stop(number, place),
-        Piece::Ends(e) => part_at(s, e, 4294967295),
-    }
+    let e = controller_head_at(s, at)?;
+    part_at(s, e, 4294967295)
 }
 
 // Where the entry at a place ends, or its first fault after KEY.
-pub fn entry_at(kind: Kind, s: &[u8], at: usize) -> Piece
-    ensures { piece_of result ≡ read_at (describe kind).form s.now at }
+pub fn entry_at(kind: Kind, s: &[u8], at: usize) -> Result<usize, Fault>
+    ensures { outcome_of result ≡ read_at (describe kind).form s.now at }
 {
     match kind {
         Kind::Devices => device_at(&s[..], at),
@@ -399,14 +350,7 @@ pub fn entry_at(kind: Kind, s: &[u8], at: usize) -> Piece
 fn reach(b: &[u8], at: usize, n: u64) -> usize
     ensures { result ≡ min (at + n) (length b.now) }
 {
-    let len = b.len();
-    if len < at {
-        return len;
-    }
-    if ((len - at) as u64) < n {
-        return len;
-    }
-    at + (n as usize)
+    at.saturating_add(n as usize).min(b.len())
 }
 
 // Where the disk that begins the bytes ends: two texts behind four bytes.

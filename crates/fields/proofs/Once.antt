@@ -6,10 +6,11 @@ use mathlib.Core.List.{List}
 use Prim.Native.Nat.{ℕ}
 use lib.ListN.{length}
 use Rattle.answer.specs.declared.Answer.{Answer}
-use Rattle.answer.specs.declared.Test.{Test}
+use Rattle.std.proofs.Common.{Result}
+use Rattle.answer.specs.declared.Fault.{Fault}
 use Rattle.answer.specs.Outcome.{Outcome}
-use Rattle.answer.specs.Calls.{test_of, asked, Writes}
-use Rattle.answer.proofs.Once.{equal_once, writes_once, test_once}
+use Rattle.answer.specs.Calls.{outcome_of, asked, Writes}
+use Rattle.answer.proofs.Once.{equal_once, writes_once, outcome_once}
 use Rattle.fields.specs.declared.State.{State}
 use Rattle.fields.specs.declared.State.TheVariants.{Cpu, Mmu}
 use Rattle.fields.specs.Fields.{right_length, state_checks, field_call, set_call, Changes}
@@ -20,8 +21,8 @@ changes_once a b = (equal_once a.answers b.answers, equal_once a.leaves b.leaves
 pub right_length_once : (k : State) (s : List ℕ) {a b : Bool} → a ≡ right_length k s → b ≡ right_length k s → a ≡ b
 right_length_once k s e f = equal_once e f
 
-pub judge_once : (k : State) (s : List ℕ) (a b : Test) → test_of a ≡ asked (state_checks k s) → test_of b ≡ asked (state_checks k s) → a ≡ b
-judge_once k s a b e f = test_once a b (equal_once e f)
+pub judge_once : (k : State) (s : List ℕ) (a b : Result (Unit {0}) Fault) → outcome_of a ≡ asked (state_checks k s) → outcome_of b ≡ asked (state_checks k s) → a ≡ b
+judge_once k s a b e f = outcome_once a b (equal_once e f)
 
 module _ (k : State) (b : List ℕ) (n i : ℕ) {r s : Answer} {new now : List ℕ} where
   pub field_once : (old : List ℕ) → Writes (field_call k (length old) b n i) old r new → Writes (field_call k (length old) b n i) old s now → (r ≡ s) × (new ≡ now)

@@ -3,32 +3,30 @@
 use mathlib.Core.Path.{◌≡◌, refl, sym, ap, ◌∙◌}
 use mathlib.Core.Logic.{◌⊎◌, inl, inr}
 use mathlib.Core.Bool.{Bool, true, false, ◌&&◌, ◌||◌}
-use mathlib.Core.List.{List, [], ◌∷◌, ◌++◌}
+use mathlib.Core.List.{List, [], ◌∷◌}
 use Prim.Native.Nat.{ℕ, ◌+◌, ◌-◌, ◌≤◌, ◌<◌}
 use native.Mathlib.Omega.{arith}
 use lib.Dec.{leb, ltb, eqb}
 use lib.ListN.{length, take, drop}
 use borrow.Author.Tests.{leb-true, leb-false, ltb-true}
 use Rattle.answer.specs.Numbers.{SHAPE, VALUE}
-use Rattle.answer.specs.Outcome.{Outcome, taken, refused, checked, room, fitting}
-use Rattle.answer.specs.Calls.{asked, memory, Writes}
-use Rattle.answer.specs.declared.Answer.{Answer}
+use Rattle.answer.specs.Outcome.{Outcome, taken, refused, checked, fitting}
+use Rattle.answer.specs.Calls.{asked}
 use Rattle.answer.proofs.Checks.{and_true, asked_stop, asked-pass, pass-checked}
 use Rattle.answer.proofs.Outcomes.{taken_is, taken_refused}
 use Rattle.wire.specs.Numbers.{le_at}
-use Rattle.wire.specs.Parts.{splice, put}
-use Rattle.wire.proofs.Parts.{length-splice, put-fits}
+use Rattle.wire.specs.Parts.{splice}
+use Rattle.wire.proofs.Parts.{length-splice}
 use Rattle.wire.proofs.Splices.{le_at_above, le_at_below}
 use Rattle.format.specs.Format.{values}
 use Rattle.entries.specs.States.{cpu_length, extends, cpu_values, cpu_whole, mmu_length}
 use Rattle.fields.specs.declared.Row.{Row}
 use Rattle.fields.specs.declared.Spot.{Spot}
-use Rattle.fields.specs.declared.Spot.TheVariants.{At, Lacks}
 use Rattle.fields.specs.declared.State.{State}
 use Rattle.fields.specs.declared.State.TheVariants.{Cpu, Mmu}
 use Rattle.fields.specs.Layout.{row_at}
 use Rattle.fields.specs.Fields.{right_length, listed_numbers, range_checks, state_checks, field_place, has_in, bytes_at, field_checks, field_call, set_to, set_checks, set_call, Changes}
-use Rattle.fields.specs.Steps.{field_spot, spot_outcome}
+use Rattle.fields.specs.Steps.{field_spot}
 use Rattle.fields.proofs.Table.{small_row, apart}
 
 -- ---- what is asked of a state
@@ -42,38 +40,42 @@ pub judge_cpu : (s : List ℕ) → cpu_whole 2 s ≡ asked (state_checks Cpu s)
 unfolding state_checks
 judge_cpu s = ap (λ (o : Outcome (Unit {0})). checked ((right_length Cpu s, SHAPE, 0) ∷ []) o) (values-rows (cpu_values 2 (length s)) s)
 
-pub judge_mmu : (s : List ℕ) (b : Bool) → eqb (length s) 264 ≡ b → asked ((b, SHAPE, 0) ∷ []) ≡ asked (state_checks Mmu s)
+pub judge_mmu : (s : List ℕ) {b : Bool} → b ≡ right_length Mmu s → asked ((b, SHAPE, 0) ∷ []) ≡ asked (state_checks Mmu s)
 unfolding state_checks
-judge_mmu s b e = ap (λ (t : Bool). asked ((t, SHAPE, 0) ∷ [])) (sym e)
+judge_mmu s e = ap (λ (t : Bool). asked ((t, SHAPE, 0) ∷ [])) e
 
 -- ---- where a field stands
 
-module _ (r : Row) (i : ℕ) where
-  split : (b : Bool) {at w : ℕ} → ◌≡◌ {A = Outcome (ℕ × ℕ)} (taken (at, w)) (checked ((b, SHAPE, 0) ∷ []) (taken (field_place r i, r.width))) → (b ≡ true) × (at ≡ field_place r i) × (w ≡ r.width)
-  split true e = let q = taken_is e in (refl, ap (λ (p : ℕ × ℕ). p.0) q, ap (λ (p : ℕ × ℕ). p.1) q)
-  split false e = absurd (taken_refused e)
+module _ (r : Row) (i len : ℕ) where
+  spot_there : {p : Spot} → taken p ≡ field_spot r i len → (has_in r i len ≡ true) × (p.at ≡ field_place r i) × (p.width ≡ r.width)
+  spot_there {p} = go (has_in r i len)
+    where
+      go : (b : Bool) → ◌≡◌ {A = Outcome Spot} (taken p) (checked ((b, SHAPE, 0) ∷ []) (taken (record { at = field_place r i; width = r.width }))) → (b ≡ true) × (p.at ≡ field_place r i) × (p.width ≡ r.width)
+      go true e = let q = taken_is e in (refl, ap (λ (x : Spot). x.at) q, ap (λ (x : Spot). x.width) q)
+      go false e = absurd (taken_refused e)
 
-  split_not : (b : Bool) → ◌≡◌ {A = Outcome (ℕ × ℕ)} (refused SHAPE 0) (checked ((b, SHAPE, 0) ∷ []) (taken (field_place r i, r.width))) → b ≡ false
-  split_not true e = absurd (taken_refused (sym e))
-  split_not false e = refl
+  -- that the state lacks it is the only fault
+  spot_lacks : {m p : ℕ} → refused m p ≡ field_spot r i len → (has_in r i len ≡ false) × (SHAPE ≡ m) × (0 ≡ p)
+  spot_lacks {m} {p} = go (has_in r i len)
+    where
+      go : (b : Bool) → ◌≡◌ {A = Outcome Spot} (refused m p) (checked ((b, SHAPE, 0) ∷ []) (taken (record { at = field_place r i; width = r.width }))) → (b ≡ false) × (SHAPE ≡ m) × (0 ≡ p)
+      go true e = absurd (taken_refused (sym e))
+      go false e = (refl, cc, cc)
 
--- the answer `At` of the code, or `Lacks`
-pub record Found (r : Row) (i len at w : ℕ) : Type 0 where
+-- one that is there
+pub record Found (r : Row) (i len : ℕ) (p : Spot) : Type 0 where
   pub has : has_in r i len ≡ true
-  pub place : at ≡ field_place r i
-  pub width : w ≡ r.width
-  pub ends : at + w ≤ len
-  pub short : w ≤ 512
+  pub place : p.at ≡ field_place r i
+  pub width : p.width ≡ r.width
+  pub ends : p.at + p.width ≤ len
+  pub short : p.width ≤ 512
 
-pub found : (k : State) (n i len : ℕ) {x : Spot} {at w : ℕ} → spot_outcome x ≡ field_spot (row_at k n) i len → x ≡ At at w → Found (row_at k n) i len at w
-found k n i len {x} {at} {w} e f =
+pub found : (k : State) (n i len : ℕ) {p : Spot} → taken p ≡ field_spot (row_at k n) i len → Found (row_at k n) i len p
+found k n i len {p} e =
     let r = row_at k n in
-    let q = split r i (has_in r i len) (sym (ap spot_outcome f) ∙ e) in
+    let q = spot_there r i len e in
     let h : field_place r i + r.width ≤ len = leb-true (field_place r i + r.width) len (and_true (ltb i r.count) (leb (field_place r i + r.width) len) q.0).1 in
     record { has = q.0; place = q.1; width = q.2; ends = rw (q.1, q.2) h; short = rw q.2 (small_row k n).width }
-
-pub found_not : (k : State) (n i len : ℕ) {x : Spot} → spot_outcome x ≡ field_spot (row_at k n) i len → x ≡ Lacks → has_in (row_at k n) i len ≡ false
-found_not k n i len e f = split_not (row_at k n) i (has_in (row_at k n) i len) (sym (ap spot_outcome f) ∙ e)
 
 -- a field that is set leaves the length, and what the state says of it
 pub set_right : (k : State) (n i : ℕ) (v s : List ℕ) → has_in (row_at k n) i (length s) ≡ true → length v ≡ (row_at k n).width → right_length k (set_to (row_at k n) i v s) ≡ right_length k s
@@ -106,21 +108,6 @@ set_right Cpu n i v s h w =
 
 -- ---- reading
 
--- a part handed out, where there is room for it
-pub handed_not : (old part : List ℕ) {number place : ℕ} → refused number place ≡ asked (room (length old) (length part)) → Writes (fitting (length old) part) old (record { number = number; place = place }) old
-handed_not old part e =
-    let q = asked_stop (room (length old) (length part)) (taken part) e in
-    record { answers = rw q; leaves = rw q }
-
-pub handed : (old part : List ℕ) {new : List ℕ} → taken tt ≡ asked (room (length old) (length part)) → new ≡ put 0 part old → Writes (fitting (length old) part) old (record { number = 0; place = length part }) new
-unfolding splice
-handed old part e f =
-    let h = asked-pass (room (length old) (length part)) e in
-    let q : fitting (length old) part ≡ taken part = pass-checked (room (length old) (length part)) (taken part) h in
-    let g : length part ≤ length old = leb-true (length part) (length old) h.0 in
-    let z : 0 + length part ≡ length part = omega arith in
-    record { answers = rw q; leaves = f ∙ put-fits 0 part old (omega arith) ∙ ap (λ (j : ℕ). part ++ drop j old) z ∙ sym (ap (λ (o : Outcome (List ℕ)). memory o old) q) }
-
 module _ {A : Type 0} (k : State) (r : Row) (i : ℕ) (s : List ℕ) (next : Outcome A) where
   field_lacks : has_in r i (length s) ≡ false → checked (field_checks k r i s) next ≡ refused SHAPE 0
   unfolding field_checks
@@ -134,30 +121,28 @@ module _ {A : Type 0} (k : State) (r : Row) (i : ℕ) (s : List ℕ) (next : Out
   unfolding field_checks state_checks
   field_there e = ap (λ (b : Bool). checked ((right_length k s, SHAPE, 0) ∷ (b, SHAPE, 0) ∷ range_checks (listed_numbers k (length s)) s) next) e
 
-pub reads_lacks : (k : State) (s : List ℕ) (n i have : ℕ) {old : List ℕ} → has_in (row_at k n) i (length s) ≡ false → Writes (field_call k have s n i) old (record { number = SHAPE; place = 0 }) old
-unfolding field_call
-reads_lacks k s n i have e =
-    let q = field_lacks k (row_at k n) i s (fitting have (bytes_at (row_at k n) i s)) e in
-    record { answers = rw q; leaves = rw q }
+module _ (k : State) (s : List ℕ) (n i have : ℕ) where
+  abbrev bytes : Outcome (List ℕ)
+  bytes = fitting have (bytes_at (row_at k n) i s)
 
-pub reads_fault : (k : State) (s : List ℕ) (n i have : ℕ) {old : List ℕ} {number place : ℕ} → has_in (row_at k n) i (length s) ≡ true → refused number place ≡ asked (state_checks k s)
-    → Writes (field_call k have s n i) old (record { number = number; place = place }) old
-unfolding field_call
-reads_fault k s n i have e f =
-    let o = fitting have (bytes_at (row_at k n) i s) in
-    let q = field_there k (row_at k n) i s o e ∙ asked_stop (state_checks k s) o f in
-    record { answers = rw q; leaves = rw q }
+  pub reads_lacks : {m p : ℕ} → refused m p ≡ field_spot (row_at k n) i (length s) → field_call k have s n i ≡ refused m p
+  unfolding field_call
+  reads_lacks e =
+      let w = spot_lacks (row_at k n) i (length s) e in
+      rw (← w.1, ← w.2) (field_lacks k (row_at k n) i s bytes w.0)
 
-pub reads_fine : (k : State) (s : List ℕ) (n i have : ℕ) {at w : ℕ} {old new : List ℕ} {a : Answer} → Found (row_at k n) i (length s) at w → taken tt ≡ asked (state_checks k s)
-    → Writes (fitting have (take (at + w - at) (drop at s))) old a new → Writes (field_call k have s n i) old a new
-unfolding field_call
-reads_fine k s n i have {at} {w} f e so =
-    let r = row_at k n in
-    let j : at + w - at ≡ w = omega arith in
-    let b : take (at + w - at) (drop at s) ≡ bytes_at r i s = rw (j, f.place, f.width) in
-    let o = fitting have (bytes_at r i s) in
-    let q : checked (field_checks k r i s) o ≡ o = field_there k r i s o f.has ∙ pass-checked (state_checks k s) o (asked-pass (state_checks k s) e) in
-    rw q (rw b at so)
+  module _ {p : Spot} (e : taken p ≡ field_spot (row_at k n) i (length s)) where
+    pub reads_fault : {m q : ℕ} → refused m q ≡ asked (state_checks k s) → field_call k have s n i ≡ refused m q
+    unfolding field_call
+    reads_fault f = field_there k (row_at k n) i s bytes (found k n i (length s) e).has ∙ asked_stop (state_checks k s) bytes f
+
+    pub reads_fine : taken tt ≡ asked (state_checks k s) → field_call k have s n i ≡ fitting have (take (p.at + p.width - p.at) (drop p.at s))
+    unfolding field_call
+    reads_fine f =
+        let g = found k n i (length s) e in
+        let j : p.at + p.width - p.at ≡ p.width = omega arith in
+        let b : bytes_at (row_at k n) i s ≡ take (p.at + p.width - p.at) (drop p.at s) = rw (j, g.place, g.width) in
+        field_there k (row_at k n) i s bytes g.has ∙ pass-checked (state_checks k s) bytes (asked-pass (state_checks k s) f) ∙ ap (fitting have) b
 
 -- ---- setting
 
@@ -185,22 +170,25 @@ module _ {A : Type 0} (k : State) (r : Row) (i : ℕ) (v s : List ℕ) (next : O
   set_tried e f g = rw (e, f, g)
 
 module _ (k : State) (n i : ℕ) (v s : List ℕ) where
-  pub sets_length : right_length k s ≡ false → Changes (length v) (set_call k s n i v) s (record { number = SHAPE; place = 0 }) s
-  unfolding set_call
-  sets_length e = changes_refused (set-length k (row_at k n) i v s (taken (set_to (row_at k n) i v s)) e)
+  abbrev changed : Outcome (List ℕ)
+  changed = taken (set_to (row_at k n) i v s)
 
-  pub sets_lacks : right_length k s ≡ true → has_in (row_at k n) i (length s) ≡ false → Changes (length v) (set_call k s n i v) s (record { number = SHAPE; place = 0 }) s
+  pub sets_length : right_length k s ≡ false → set_call k s n i v ≡ refused SHAPE 0
   unfolding set_call
-  sets_lacks e f = changes_refused (set_lacks k (row_at k n) i v s (taken (set_to (row_at k n) i v s)) e f)
+  sets_length e = set-length k (row_at k n) i v s changed e
 
-  pub sets_wide : {at w : ℕ} → right_length k s ≡ true → Found (row_at k n) i (length s) at w → eqb (length v) w ≡ false → Changes (length v) (set_call k s n i v) s (record { number = VALUE; place = at }) s
-  unfolding set_call
-  sets_wide e f g = rw f.place (changes_refused (set_wide k (row_at k n) i v s (taken (set_to (row_at k n) i v s)) e f.has (rw (← f.width) g)))
+  module _ (long : right_length k s ≡ true) where
+    pub sets_lacks : {m p : ℕ} → refused m p ≡ field_spot (row_at k n) i (length s) → set_call k s n i v ≡ refused m p
+    unfolding set_call
+    sets_lacks e =
+        let w = spot_lacks (row_at k n) i (length s) e in
+        rw (← w.1, ← w.2) (set_lacks k (row_at k n) i v s changed long w.0)
 
-  pub sets_tried : {at w : ℕ} {a : Answer} {new : List ℕ} → right_length k s ≡ true → Found (row_at k n) i (length s) at w → eqb (length v) w ≡ true
-      → Changes (length v) (checked (state_checks k (splice at v s)) (taken (splice at v s))) s a new → Changes (length v) (set_call k s n i v) s a new
-  unfolding set_call
-  sets_tried {at} {w} e f g so =
-      let r = row_at k n in
-      let q = set_tried k r i v s (taken (set_to r i v s)) e f.has (rw (← f.width) g) in
-      rw q (rw f.place at so)
+    module _ {p : Spot} (e : taken p ≡ field_spot (row_at k n) i (length s)) where
+      pub sets_wide : eqb (length v) p.width ≡ false → set_call k s n i v ≡ refused VALUE p.at
+      unfolding set_call
+      sets_wide g = let f = found k n i (length s) e in rw f.place (set_wide k (row_at k n) i v s changed long f.has (rw (← f.width) g))
+
+      pub sets_tried : eqb (length v) p.width ≡ true → set_call k s n i v ≡ checked (state_checks k (splice p.at v s)) (taken (splice p.at v s))
+      unfolding set_call
+      sets_tried g = let f = found k n i (length s) e in rw f.place (set_tried k (row_at k n) i v s changed long f.has (rw (← f.width) g))

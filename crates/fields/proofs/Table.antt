@@ -1,48 +1,20 @@
--- The table of fields: the code's has the same rows, and each field lies within a few thousand bytes.
+-- The table of fields: each field lies within a few thousand bytes.
 -- Assumes nothing.
-use mathlib.Core.Path.{◌≡◌, refl, sym, subst⁻¹}
+use mathlib.Core.Path.{◌≡◌, refl, subst⁻¹}
 use mathlib.Core.Logic.{◌⊎◌, inl, inr}
 use mathlib.Core.Bool.{Bool, true, false, ◌&&◌, ◌||◌}
-use mathlib.Core.List.{List, [], ◌∷◌, map}
+use mathlib.Core.List.{List, [], ◌∷◌}
 use Prim.Native.Nat.{ℕ, zero, suc, ◌+◌, ◌-◌, ◌*◌, ◌≤◌, ◌<◌}
 use native.Mathlib.Nat.{le_trans, mul-le-mul_left, mul-le-mul_right}
 use native.Mathlib.Omega.{arith}
 use lib.Dec.{leb}
-use lib.ListN.{length, get_or}
-use borrow.Author.Tests.{leb-true, le-ltb, lt-ltb}
-use Rattle.answer.specs.Numbers.{SHAPE}
-use Rattle.answer.specs.Outcome.{taken, refused}
+use lib.ListN.{get_or}
+use borrow.Author.Tests.{leb-true}
 use Rattle.answer.proofs.Checks.{and_true}
 use Rattle.fields.specs.declared.Row.{Row}
 use Rattle.fields.specs.declared.State.{State}
 use Rattle.fields.specs.declared.State.TheVariants.{Cpu, Mmu}
-use Rattle.fields.specs.Layout.{field_row, no_row, field_table, row_at}
-use Rattle.fields.specs.Steps.{field_spot}
-
--- ---- the code's table
-
--- a row as the code's table has it
-abbrev cells : Row → List ℕ
-cells r = r.at ∷ r.width ∷ r.count ∷ r.step ∷ []
-
-pub read_row : (l : List Row) (n : ℕ) → field_row (get_or (get_or (map cells l) n []) 0 0) (get_or (get_or (map cells l) n []) 1 0) (get_or (get_or (map cells l) n []) 2 0) (get_or (get_or (map cells l) n []) 3 0) ≡ get_or l n no_row
-read_row [] n = refl
-read_row (r ∷ l) zero = refl
-read_row (r ∷ l) (suc n) = read_row l n
-
--- past the table there is none
-past : (l : List Row) (n : ℕ) → length l ≤ n → get_or l n no_row ≡ no_row
-past [] n h = refl
-past (r ∷ l) zero h = absurd (omega arith)
-past (r ∷ l) (suc n) h = past l n (omega arith)
-
-pub no_cpu_row : (n : ℕ) → 26 ≤ n → no_row ≡ row_at Cpu n
-unfolding row_at
-no_cpu_row n h = sym (past (field_table Cpu) n h)
-
-pub no_mmu_row : (n : ℕ) → 11 ≤ n → no_row ≡ row_at Mmu n
-unfolding row_at
-no_mmu_row n h = sym (past (field_table Mmu) n h)
+use Rattle.fields.specs.Layout.{no_row, field_table, row_at}
 
 -- ---- no field is long, or far from the start
 
@@ -103,7 +75,7 @@ apart n i h = go (row_at Cpu n) h (leb ((row_at Cpu n).at + ((row_at Cpu n).coun
         inl (omega (arith, leb-true (r.at + (r.count - 1) * r.step + r.width) 1183 e, mul-le-mul_right r.step m))
     go r g false e k = inr (omega (arith, leb-true 1187 r.at k))
 
--- ---- a field's place, against the code's tests
+-- ---- a row that the code looked up
 
 module _ (k : State) (n : ℕ) {r : Row} (e : r ≡ row_at k n) where
   pub small_is : Small r
@@ -115,12 +87,3 @@ module _ (k : State) (n : ℕ) {r : Row} (e : r ≡ row_at k n) where
         let s = small_is in
         let g : i ≤ 16 = omega (arith, h, s.count) in
         le_trans (mul-le-mul_right r.step g) (mul-le-mul_left 16 s.step)
-
-    pub found_over : (len : ℕ) → r.count ≤ i → refused SHAPE 0 ≡ field_spot (row_at k n) i len
-    found_over len h = rw (← e, le-ltb _ _ h)
-
-    pub found_here : (len : ℕ) → i < r.count → leb (r.at + i * r.step + r.width) len ≡ true → taken (r.at + i * r.step, r.width) ≡ field_spot (row_at k n) i len
-    found_here len h t = rw (← e, lt-ltb _ _ h, t)
-
-    pub found_short : (len : ℕ) → i < r.count → leb (r.at + i * r.step + r.width) len ≡ false → refused SHAPE 0 ≡ field_spot (row_at k n) i len
-    found_short len h t = rw (← e, lt-ltb _ _ h, t)

@@ -1,16 +1,16 @@
 // The fields of CPU and MMU states of version 2: one table of them, and reading and setting a field once for all.
 #![tactic(auto)]
 
-ghost use Rattle.std.specs.Prelude.{◌≡◌, ◌+◌, ◌≤◌, ◌<◌, length};
+ghost use Rattle.std.specs.Prelude.{◌≡◌, ◌+◌, ◌≤◌, ◌<◌, length, unwrap_or};
 ghost use Rattle.answer.specs.Outcome.{taken, checked, fitting};
-ghost use Rattle.answer.specs.Calls.{test_of, asked, Writes};
+ghost use Rattle.answer.specs.Calls.{outcome_of, asked, count_answer, WritesCount, Writes};
 ghost use Rattle.wire.specs.Parts.{splice};
 ghost use Rattle.fields.specs.declared.State.TheVariants.{Cpu, Mmu};
-ghost use Rattle.fields.specs.Layout.{row_at};
+ghost use Rattle.fields.specs.Layout.{no_row, row_at};
 ghost use Rattle.fields.specs.Fields.{right_length, state_checks, field_call, set_call, Changes};
-ghost use Rattle.fields.specs.Steps.{field_spot, spot_outcome};
+ghost use Rattle.fields.specs.Steps.{field_spot};
 
-use answer::{Answer, SHAPE, TAKEN, Test, VALUE};
+use answer::{Answer, Fault, Refusal, roomy};
 
 // The kinds of state.
 #[derive(Clone, Copy)]
@@ -28,7 +28,32 @@ pub struct Row {
     pub step: usize,
 }
 
-const CPU_FIELDS: [[usize; 4]; 26] = [
+// A field of a state: its number, and an index.
+#[derive(Clone, Copy)]
+struct FieldName {
+    kind: State,
+    number: usize,
+    index: usize,
+}
+
+// Where a field stands in a state, and its bytes.
+#[derive(Clone, Copy)]
+struct Spot {
+    at: usize,
+    width: usize,
+}
+
+// The fault of a state of a wrong length, or without a field.
+const MISSHAPEN: Fault = Fault(Refusal::Shape, 0);
+
+// Rows, each by its four numbers.
+macro_rules! rows {
+    ($([$at:literal, $width:literal, $count:literal, $step:literal],)*) => {
+        [$(Row { at: $at, width: $width, count: $count, step: $step }),*]
+    };
+}
+
+const CPU_FIELDS: [Row; 26] = rows![
     [0, 8, 16, 8],
     [128, 8, 1, 8],
     [136, 8, 1, 8],
@@ -57,7 +82,7 @@ const CPU_FIELDS: [[usize; 4]; 26] = [
     [1190, 1, 1, 1],
 ];
 
-const MMU_FIELDS: [[usize; 4]; 11] = [
+const MMU_FIELDS: [Row; 11] = rows![
     [0, 8, 5, 8],
     [40, 8, 8, 8],
     [104, 8, 13, 8],
@@ -71,211 +96,143 @@ const MMU_FIELDS: [[usize; 4]; 11] = [
     [242, 4, 2, 18],
 ];
 
-fn cpu_row(n: usize) -> Row
-    requires { n < 26 }
-    ensures { result ≡ row_at Cpu n }
-{
-    let r = CPU_FIELDS[n];
-    Row {
-        at: r[0],
-        width: r[1],
-        count: r[2],
-        step: r[3],
-    }
-}
-
-fn mmu_row(n: usize) -> Row
-    requires { n < 11 }
-    ensures { result ≡ row_at Mmu n }
-{
-    let r = MMU_FIELDS[n];
-    Row {
-        at: r[0],
-        width: r[1],
-        count: r[2],
-        step: r[3],
-    }
-}
-
-// The row of a field; past the table there is none of it.
-fn row_of(kind: State, n: usize) -> Row
-    ensures { result ≡ row_at kind n }
-{
-    match kind {
-        State::Cpu => {
-            if n < 26 {
-                return cpu_row(n);
-            }
-            Row {
-                at: 0,
-                width: 0,
-                count: 0,
-                step: 0,
-            }
-        }
-        State::Mmu => {
-            if n < 11 {
-                return mmu_row(n);
-            }
-            Row {
-                at: 0,
-                width: 0,
-                count: 0,
-                step: 0,
-            }
-        }
-    }
-}
-
-// A field's place in a state and its bytes.
-#[derive(Clone, Copy)]
-pub enum Spot {
-    At(usize, usize),
-    Lacks,
-}
-
-// Where the field n with index i stands in a state of `len` bytes.
-fn find(kind: State, n: usize, i: usize, len: usize) -> Spot
-    ensures { spot_outcome result ≡ field_spot (row_at kind n) i len }
-{
-    let r = row_of(kind, n);
-    if r.count <= i {
-        return Spot::Lacks;
-    }
-    let at = r.at + i * r.step;
-    let width = r.width;
-    if wire::fits(len, at, width) {
-        return Spot::At(at, width);
-    }
-    Spot::Lacks
-}
-
 // Whether the length of a state is right.
 pub fn right_length(kind: State, state: &[u8]) -> bool
     ensures { result ≡ right_length kind state.now }
 {
     match kind {
         State::Cpu => entries::cpu_sized(2, state),
-        State::Mmu => state.len() == 264,
+        State::Mmu => state.len() == entries::mmu_length(2),
     }
 }
 
 // What is asked of a whole state: its length, then its values.
-pub fn judge(kind: State, state: &[u8]) -> Test
-    ensures { test_of result ≡ asked (state_checks kind state.now) }
+pub fn judge(kind: State, state: &[u8]) -> Result<(), Fault>
+    ensures { outcome_of result ≡ asked (state_checks kind state.now) }
 {
     match kind {
         State::Cpu => entries::cpu_state(2, state),
         State::Mmu => {
-            if state.len() == 264 {
-                return Test::Fine;
+            if right_length(kind, state) {
+                Ok(())
+            } else {
+                Err(MISSHAPEN)
             }
-            Test::Fault(SHAPE, 0)
         }
     }
 }
 
-// ---- reading
+// ---- bytes handed out and stored
 
 // A part of a state into the start of `out`.
-fn hand_out(part: &[u8], out: &mut [u8]) -> Answer
-    ensures { Writes (fitting (length out.old) part.now) out.old result out.new }
+fn hand_out(part: &[u8], out: &mut [u8]) -> Result<usize, Fault>
+    ensures { WritesCount (fitting (length out.old) part.now) out.old result out.new }
 {
     let n = part.len();
-    match answer::roomy(out.len(), n) {
-        Test::Fault(number, place) => Answer {
-            number,
-            place: place as u64,
-        },
-        Test::Fine => {
-            wire::copy(out, 0, part);
-            Answer {
-                number: TAKEN,
-                place: n as u64,
-            }
+    roomy(out.len(), n)?;
+    out[..n].copy_from_slice(part);
+    Ok(n)
+}
+
+// v over the bytes from `at` on; if the state is refused then, all is as it was.
+fn store_at(kind: State, s: &mut [u8], at: usize, v: &[u8]) -> Result<usize, Fault>
+    requires { (at + length v.now ≤ length s.old) × (length v.now ≤ 512) }
+    ensures { Changes (length v.now) (checked (state_checks kind (splice at v.now s.old)) (taken (splice at v.now s.old))) s.old (count_answer (outcome_of result)) s.new }
+{
+    let w = v.len();
+    let e = at + w;
+    let mut old = [0; 512];
+    old[..w].copy_from_slice(&s[at..e]);
+    s[at..e].copy_from_slice(v);
+    if let Err(fault) = judge(kind, s) {
+        s[at..e].copy_from_slice(&old[..w]);
+        return Err(fault);
+    }
+    Ok(w)
+}
+
+// ---- one field
+
+impl FieldName {
+    // The field with the numbers that a caller gives.
+    fn new(kind: State, number: u32, index: u32) -> FieldName
+        ensures { result ≡ record { kind = kind; number = number; index = index } }
+    {
+        FieldName {
+            kind,
+            number: number as usize,
+            index: index as usize,
         }
     }
+
+    // Its row; none past the table.
+    fn row(self) -> Option<Row>
+        ensures { unwrap_or result no_row ≡ row_at self.kind self.number }
+    {
+        let table: &[Row] = match self.kind {
+            State::Cpu => &CPU_FIELDS,
+            State::Mmu => &MMU_FIELDS,
+        };
+        table.get(self.number).copied()
+    }
+
+    // Where it stands in a state of `len` bytes.
+    fn find(self, len: usize) -> Result<Spot, Fault>
+        ensures { outcome_of result ≡ field_spot (row_at self.kind self.number) self.index len }
+    {
+        let row = self.row().ok_or(MISSHAPEN)?;
+        if row.count <= self.index {
+            return Err(MISSHAPEN);
+        }
+        let at = row.at + self.index * row.step;
+        let width = row.width;
+        if !wire::fits(len, at, width) {
+            return Err(MISSHAPEN);
+        }
+        Ok(Spot { at, width })
+    }
+
+    // Its bytes into `out`, and how many they are.
+    fn read(self, state: &[u8], out: &mut [u8]) -> Result<usize, Fault>
+        ensures { WritesCount (field_call self.kind (length out.old) state.now self.number self.index) out.old result out.new }
+    {
+        let spot = self.find(state.len())?;
+        judge(self.kind, state)?;
+        hand_out(&state[spot.at..spot.at + spot.width], out)
+    }
+
+    // The bytes v over it, if the state as it would be is taken, and how many they are.
+    fn set(self, state: &mut [u8], v: &[u8]) -> Result<usize, Fault>
+        ensures { Changes (length v.now) (set_call self.kind state.old self.number self.index v.now) state.old (count_answer (outcome_of result)) state.new }
+    {
+        if !right_length(self.kind, state) {
+            return Err(MISSHAPEN);
+        }
+        let spot = self.find(state.len())?;
+        if v.len() != spot.width {
+            return Err(Fault(Refusal::Value, spot.at));
+        }
+        store_at(self.kind, state, spot.at, v)
+    }
 }
+
+// ---- the calls
 
 // The bytes of a field into `out`.
 pub fn field(kind: State, state: &[u8], n: u32, i: u32, out: &mut [u8]) -> Answer
     ensures { Writes (field_call kind (length out.old) state.now n i) out.old result out.new }
 {
-    match find(kind, n as usize, i as usize, state.len()) {
-        Spot::At(at, width) => match judge(kind, state) {
-            Test::Fault(number, place) => Answer {
-                number,
-                place: place as u64,
-            },
-            Test::Fine => {
-                let e = at + width;
-                hand_out(&state[at..e], out)
-            }
-        },
-        Spot::Lacks => Answer {
-            number: SHAPE,
-            place: 0,
-        },
-    }
-}
-
-// ---- setting
-
-// v over the bytes from `at` on; if the state is refused then, all is as it was.
-fn store_at(kind: State, s: &mut [u8], at: usize, v: &[u8]) -> Answer
-    requires { (at + length v.now ≤ length s.old) × (length v.now ≤ 512) }
-    ensures { Changes (length v.now) (checked (state_checks kind (splice at v.now s.old)) (taken (splice at v.now s.old))) s.old result s.new }
-{
-    let w = v.len();
-    let e = at + w;
-    let mut old = [0u8; 512];
-    wire::copy(&mut old, 0, &s[at..e]);
-    wire::copy(s, at, v);
-    match judge(kind, s) {
-        Test::Fault(number, place) => {
-            wire::copy(s, at, &old[..w]);
-            Answer {
-                number,
-                place: place as u64,
-            }
-        }
-        Test::Fine => Answer {
-            number: TAKEN,
-            place: w as u64,
-        },
-    }
+    Answer::from(FieldName::new(kind, n, i).read(state, out))
 }
 
 // A field set to the bytes v, if the state as it would be is taken.
 pub fn set(kind: State, state: &mut [u8], n: u32, i: u32, v: &[u8]) -> Answer
     ensures { Changes (length v.now) (set_call kind state.old n i v.now) state.old result state.new }
 {
-    if right_length(kind, state) {
-        match find(kind, n as usize, i as usize, state.len()) {
-            Spot::At(at, width) => {
-                if v.len() == width {
-                    return store_at(kind, state, at, v);
-                }
-                return Answer {
-                    number: VALUE,
-                    place: at as u64,
-                };
-            }
-            Spot::Lacks => {
-                return Answer {
-                    number: SHAPE,
-                    place: 0,
-                };
-            }
-        }
-    }
-    Answer {
-        number: SHAPE,
-        place: 0,
-    }
+    Answer::from(FieldName::new(kind, n, i).set(state, v))
 }
 
-// ---- the calls
+// ---- the same for each kind, since C has a function for each
 
 pub fn cpu_field(state: &[u8], n: u32, i: u32, out: &mut [u8]) -> Answer
     ensures { Writes (field_call Cpu (length out.old) state.now n i) out.old result out.new }

@@ -1,13 +1,15 @@
 -- Rows of listed numbers: row by row, and some after others.
 -- Assumes nothing.
-use mathlib.Core.Path.{◌≡◌, refl, ◌∙◌, ap}
+use mathlib.Core.Path.{◌≡◌, refl, sym, ◌∙◌, ap}
 use mathlib.Core.List.{List, [], ◌∷◌, ◌++◌}
 use mathlib.Core.Bool.{Bool, true, false, ◌&&◌, and-false}
 use Prim.Native.Nat.{ℕ, ◌≤◌, ◌<◌}
+use native.Mathlib.Decide.{dec_lt}
+use native.Mathlib.Omega.{arith}
 use lib.Dec.{leb}
 use borrow.Author.Tests.{le-leb, lt-leb}
 use Rattle.answer.specs.Numbers.{VALUE}
-use Rattle.answer.specs.Outcome.{taken, refused, checked, after}
+use Rattle.answer.specs.Outcome.{Outcome, taken, refused, checked, after}
 use Rattle.answer.proofs.Checks.{Left, left_pass, left_fail}
 use Rattle.wire.specs.Numbers.{le_at}
 use Rattle.format.specs.Format.{values}
@@ -52,3 +54,21 @@ module _ {p w lo hi : ℕ} {l all : List (ℕ × ℕ × ℕ × ℕ)} {e : List �
 
   pub row_in : lo ≤ n → n ≤ hi → Listed l all e
   row_in h k = record { same = (left_pass by_number (ap (λ (b : Bool). b && leb n hi) (le-leb lo n h) ∙ le-leb n hi k)).same }
+
+  pub row_out : (lo ≤ n → hi < n) → refused VALUE p ≡ values all e
+  row_out h = go (dec_lt n lo)
+    where
+      go : Dec (n < lo) → refused VALUE p ≡ values all e
+      go (yes k) = row_low k
+      go (no k) = row_high (h (omega (arith, k)))
+
+-- the first of them, by what it answers alone
+module _ {r : ℕ × ℕ × ℕ × ℕ} {l all : List (ℕ × ℕ × ℕ × ℕ)} {e : List ℕ} (v : Listed (r ∷ l) all e) where
+  by_answer : (o : Outcome (Unit {0})) → o ≡ values (r ∷ []) e → after o (λ _. values l e) ≡ values all e
+  by_answer o h = ap (λ (x : Outcome (Unit {0})). after x (λ _. values l e)) h ∙ sym (values-append (r ∷ []) l e) ∙ v.same
+
+  pub row_stop : {a b : ℕ} → refused a b ≡ values (r ∷ []) e → refused a b ≡ values all e
+  row_stop h = by_answer _ h
+
+  pub row_past : taken tt ≡ values (r ∷ []) e → Listed l all e
+  row_past h = record { same = by_answer _ h }

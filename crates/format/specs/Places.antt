@@ -1,10 +1,8 @@
 -- Pieces at a place of longer bytes: what the code that reads them promises. Places count from the start of those bytes.
 -- Assumes nothing.
-use Rattle.std.specs.Prelude.{List, Bool, true, false, not, ℕ, drop, eqb}
-use Rattle.answer.specs.Outcome.{Outcome, taken, refused, checked, moved, shift}
+use Rattle.std.specs.Prelude.{List, Bool, not, ℕ, drop, eqb}
+use Rattle.answer.specs.Outcome.{Outcome, taken, checked, moved, shift}
 use Rattle.wire.specs.Numbers.{le_at}
-use Rattle.format.specs.declared.Flag.{Flag}
-use Rattle.format.specs.declared.Flag.TheVariants.{Bad, Absent, Present}
 use Rattle.format.specs.Format.{Format, read, option_checks}
 
 -- the piece at a place
@@ -14,9 +12,3 @@ read_at f s at = shift at (read f (drop at s))
 -- the presence byte at a place: whether something follows it
 abbrev pub present_at : List ℕ → ℕ → Outcome Bool
 present_at s at = moved at (checked (option_checks (drop at s)) (taken (not (eqb (le_at 1 (drop at s) 0) 0))))
-
--- the outcome that the code's answer stands for
-abbrev pub flag_of : Flag → Outcome Bool
-flag_of (Bad n p) = refused n p
-flag_of Absent = taken false
-flag_of Present = taken true

@@ -1,12 +1,13 @@
 // The kinds of AIPC messages: the enum of commands and events with their numbers, and each kind's row of document 000's tables.
 #![tactic(auto)]
 
-ghost use Rattle.std.specs.Prelude.{◌≡◌};
+ghost use Rattle.std.specs.Prelude.{◌≡◌, slice_index_or};
 ghost use Rattle.kinds.specs.declared.Field.TheVariants.{U16, U32, U64, Flag, Error};
 ghost use Rattle.kinds.specs.declared.Body.TheVariants.{Empty};
-ghost use Rattle.kinds.specs.Kinds.{paper, form_row, cell, none};
+ghost use Rattle.kinds.specs.Kinds.{paper, form_row, cell, cells, ok_of, none};
 
 // A command or an event with its numbers, in the order of its fields. Nothing stands where there is no reading.
+// `Nothing` is a case and no `Option`: `aipc::write` takes it and refuses it, as `paper` and `write_checks` say.
 #[derive(Clone, Copy)]
 pub enum Message {
     Nothing,
@@ -62,6 +63,7 @@ pub enum Body {
 pub struct Cell(pub Field, pub u64);
 
 // A message in document 01's terms: its tag, its fields with their numbers (0 where there is none), and what stands behind them.
+// `known` is no `Option`: `paper` gives each message its row, and `read_checks` asks of it whether the tag is known.
 #[derive(Clone, Copy)]
 pub struct Form {
     pub known: bool,
@@ -73,7 +75,24 @@ pub struct Form {
     pub body: Body,
 }
 
+impl Form {
+    // The fields with their numbers, in order.
+    pub fn cells(self) -> [Cell; 4]
+        ensures { result ≡ cells self }
+    {
+        [self.a, self.b, self.c, self.d]
+    }
+
+    // `ok`, the second number of the two kinds that have it.
+    pub fn ok(self) -> u64
+        ensures { result ≡ ok_of self }
+    {
+        self.b.1
+    }
+}
+
 // ---- the tags: commands, then events
+// Constants and no enum of tags: each number stands once for both directions, where an enum's `TryFrom` would say it again.
 
 pub const NOP: u16 = 0x0000;
 
@@ -137,112 +156,62 @@ const NOTHING: Form = Form {
     body: Body::Empty,
 };
 
-fn u32_cell(x: u32) -> Cell
-    ensures { result ≡ cell U32 x }
-{
-    Cell(Field::U32, x as u64)
+impl From<u16> for Cell {
+    ghost from_gives = { λ x c. c ≡ cell U16 x };
+
+    fn from(x: u16) -> Cell {
+        Cell(Field::U16, x as u64)
+    }
 }
 
-fn row4(tag: u16, a: Cell, b: Cell, c: Cell, d: Cell, body: Body) -> Form
-    ensures { result ≡ form_row tag a b c d body }
+impl From<u32> for Cell {
+    ghost from_gives = { λ x c. c ≡ cell U32 x };
+
+    fn from(x: u32) -> Cell {
+        Cell(Field::U32, x as u64)
+    }
+}
+
+impl From<u64> for Cell {
+    ghost from_gives = { λ x c. c ≡ cell U64 x };
+
+    fn from(x: u64) -> Cell {
+        Cell(Field::U64, x)
+    }
+}
+
+// One byte, which may be a flag or a level.
+fn byte(field: Field, x: u8) -> Cell
+    ensures { result ≡ cell field x }
 {
+    Cell(field, x as u64)
+}
+
+// A row of as many cells as a message has numbers, up to four.
+#[inline]
+fn row(tag: u16, cells: &[Cell], body: Body) -> Form
+    ensures { result ≡ form_row tag (slice_index_or cells.now 0 none) (slice_index_or cells.now 1 none) (slice_index_or cells.now 2 none) (slice_index_or cells.now 3 none) body }
+{
+    let cell_at = |i: usize| cells.get(i).copied().unwrap_or(NONE);
     Form {
         known: true,
         tag,
-        a,
-        b,
-        c,
-        d,
+        a: cell_at(0),
+        b: cell_at(1),
+        c: cell_at(2),
+        d: cell_at(3),
         body,
     }
 }
 
-fn row3(tag: u16, a: Cell, b: Cell, c: Cell, body: Body) -> Form
-    ensures { result ≡ form_row tag a b c none body }
-{
-    row4(tag, a, b, c, NONE, body)
-}
-
-fn row2(tag: u16, a: Cell, b: Cell, body: Body) -> Form
-    ensures { result ≡ form_row tag a b none none body }
-{
-    row3(tag, a, b, NONE, body)
-}
-
-fn row1(tag: u16, a: Cell, body: Body) -> Form
-    ensures { result ≡ form_row tag a none none none body }
-{
-    row2(tag, a, NONE, body)
-}
-
-fn row0(tag: u16, body: Body) -> Form
-    ensures { result ≡ form_row tag none none none none body }
-{
-    row1(tag, NONE, body)
-}
-
-// ---- rows by the numbers that messages have
-
-fn numbered(tag: u16, id: u32, body: Body) -> Form
-    ensures { result ≡ form_row tag (cell U32 id) none none none body }
-{
-    row1(tag, Cell(Field::U32, id as u64), body)
-}
-
-// One byte, which may be a flag or a level.
-fn byte(tag: u16, field: Field, x: u8, body: Body) -> Form
-    ensures { result ≡ form_row tag (cell field x) none none none body }
-{
-    row1(tag, Cell(field, x as u64), body)
-}
-
-fn mmio(tag: u16, id: u32, addr: u64, c: Cell, body: Body) -> Form
-    ensures { result ≡ form_row tag (cell U32 id) (cell U64 addr) c none body }
-{
-    row3(
-        tag,
-        Cell(Field::U32, id as u64),
-        Cell(Field::U64, addr),
-        c,
-        body,
-    )
-}
-
-fn port(tag: u16, id: u32, port: u16, size: u32, d: Cell) -> Form
-    ensures { result ≡ form_row tag (cell U32 id) (cell U16 port) (cell U32 size) d Empty }
-{
-    row4(
-        tag,
-        Cell(Field::U32, id as u64),
-        Cell(Field::U16, port as u64),
-        Cell(Field::U32, size as u64),
-        d,
-        Body::Empty,
-    )
-}
-
-fn disk(tag: u16, id: u32, at: u64, len: u32, guest: u64) -> Form
-    ensures { result ≡ form_row tag (cell U32 id) (cell U64 at) (cell U32 len) (cell U64 guest) Empty }
-{
-    row4(
-        tag,
-        Cell(Field::U32, id as u64),
-        Cell(Field::U64, at),
-        Cell(Field::U32, len as u64),
-        Cell(Field::U64, guest),
-        Body::Empty,
-    )
-}
-
+// What a disk answers: `ok`, the bytes, and the error code that stands there beside an `ok` of 0.
 fn disk_resp(tag: u16, id: u32, ok: u8, bytes: u32, error: u32) -> Form
     ensures { result ≡ form_row tag (cell U32 id) (cell Flag ok) (cell U32 bytes) (cell Error error) Empty }
 {
-    row4(
+    let error = Cell(Field::Error, error as u64);
+    row(
         tag,
-        Cell(Field::U32, id as u64),
-        Cell(Field::Flag, ok as u64),
-        Cell(Field::U32, bytes as u64),
-        Cell(Field::Error, error as u64),
+        &[id.into(), byte(Field::Flag, ok), bytes.into(), error],
         Body::Empty,
     )
 }
@@ -254,34 +223,49 @@ pub fn form_of(message: Message) -> Form
 {
     match message {
         Message::Nothing => NOTHING,
-        Message::Nop(seq) => numbered(NOP, seq, Body::Empty),
-        Message::Shutdown => row0(SHUTDOWN, Body::Empty),
-        Message::MmioRead(id, addr, size) => mmio(MMIO_READ, id, addr, u32_cell(size), Body::Empty),
-        Message::MmioWrite(id, addr) => mmio(MMIO_WRITE, id, addr, NONE, Body::Bytes),
-        Message::PortRead(id, at, size) => port(PORT_READ, id, at, size, NONE),
-        Message::PortWrite(id, at, size, value) => port(PORT_WRITE, id, at, size, u32_cell(value)),
-        Message::DiskRead(id, at, len, to) => disk(DISK_READ, id, at, len, to),
-        Message::DiskWrite(id, at, len, from) => disk(DISK_WRITE, id, at, len, from),
-        Message::Ack(seq) => numbered(ACK, seq, Body::Empty),
-        Message::MmioReadResp(id) => numbered(MMIO_READ_RESP, id, Body::Bytes),
-        Message::PortReadResp(id, x) => row2(
-            PORT_READ_RESP,
-            u32_cell(id),
-            u32_cell(x),
+        Message::Nop(seq) => row(NOP, &[seq.into()], Body::Empty),
+        Message::Shutdown => row(SHUTDOWN, &[], Body::Empty),
+        Message::MmioRead(id, addr, size) => row(
+            MMIO_READ,
+            &[id.into(), addr.into(), size.into()],
             Body::Empty,
         ),
-        Message::MmioWriteResp(id) => numbered(MMIO_WRITE_RESP, id, Body::Empty),
-        Message::PortWriteResp(id) => numbered(PORT_WRITE_RESP, id, Body::Empty),
+        Message::MmioWrite(id, addr) => row(MMIO_WRITE, &[id.into(), addr.into()], Body::Bytes),
+        Message::PortRead(id, at, size) => row(
+            PORT_READ,
+            &[id.into(), at.into(), size.into()],
+            Body::Empty,
+        ),
+        Message::PortWrite(id, at, size, value) => row(
+            PORT_WRITE,
+            &[id.into(), at.into(), size.into(), value.into()],
+            Body::Empty,
+        ),
+        Message::DiskRead(id, at, len, to) => row(
+            DISK_READ,
+            &[id.into(), at.into(), len.into(), to.into()],
+            Body::Empty,
+        ),
+        Message::DiskWrite(id, at, len, from) => row(
+            DISK_WRITE,
+            &[id.into(), at.into(), len.into(), from.into()],
+            Body::Empty,
+        ),
+        Message::Ack(seq) => row(ACK, &[seq.into()], Body::Empty),
+        Message::MmioReadResp(id) => row(MMIO_READ_RESP, &[id.into()], Body::Bytes),
+        Message::PortReadResp(id, x) => row(PORT_READ_RESP, &[id.into(), x.into()], Body::Empty),
+        Message::MmioWriteResp(id) => row(MMIO_WRITE_RESP, &[id.into()], Body::Empty),
+        Message::PortWriteResp(id) => row(PORT_WRITE_RESP, &[id.into()], Body::Empty),
         Message::DiskReadResp(id, ok, n, error) => disk_resp(DISK_READ_RESP, id, ok, n, error),
         Message::DiskWriteResp(id, ok, n, error) => disk_resp(DISK_WRITE_RESP, id, ok, n, error),
-        Message::FrameReady(frame_id) => row1(FRAME_READY, Cell(Field::U64, frame_id), Body::Empty),
-        Message::IrqRaise(irq) => byte(IRQ_RAISE, Field::U8, irq, Body::Empty),
-        Message::IrqLower(irq) => byte(IRQ_LOWER, Field::U8, irq, Body::Empty),
-        Message::A20Set(enabled) => byte(A20_SET, Field::Flag, enabled, Body::Empty),
-        Message::ResetRequest => row0(RESET_REQUEST, Body::Empty),
-        Message::Log(level) => byte(LOG, Field::Level, level, Body::Text),
-        Message::SerialOutput(at) => row1(SERIAL_OUTPUT, Cell(Field::U16, at as u64), Body::Bytes),
-        Message::Panic => row0(PANIC, Body::Text),
-        Message::TripleFault => row0(TRIPLE_FAULT, Body::Empty),
+        Message::FrameReady(frame_id) => row(FRAME_READY, &[frame_id.into()], Body::Empty),
+        Message::IrqRaise(irq) => row(IRQ_RAISE, &[byte(Field::U8, irq)], Body::Empty),
+        Message::IrqLower(irq) => row(IRQ_LOWER, &[byte(Field::U8, irq)], Body::Empty),
+        Message::A20Set(enabled) => row(A20_SET, &[byte(Field::Flag, enabled)], Body::Empty),
+        Message::ResetRequest => row(RESET_REQUEST, &[], Body::Empty),
+        Message::Log(level) => row(LOG, &[byte(Field::Level, level)], Body::Text),
+        Message::SerialOutput(at) => row(SERIAL_OUTPUT, &[at.into()], Body::Bytes),
+        Message::Panic => row(PANIC, &[], Body::Text),
+        Message::TripleFault => row(TRIPLE_FAULT, &[], Body::Empty),
     }
 }

@@ -6,8 +6,11 @@ use Prim.Native.Nat.{ℕ, ◌≤◌}
 use native.Mathlib.Omega.{arith}
 use lib.ListN.{length, take}
 use borrow.Author.Tests.{le-leb}
-use Rattle.answer.specs.declared.Piece.TheVariants.{Stop, Ends}
+use Rattle.std.proofs.Common.{Ok, Err}
+use Rattle.answer.specs.declared.Fault.{Fault}
 use Rattle.answer.specs.Outcome.{Outcome, taken, refused, checked, after}
+use Rattle.answer.specs.Calls.{fault_of}
+use Rattle.answer.specs.Refusals.{number_of}
 use Rattle.answer.proofs.Checks.{checked-after}
 use Rattle.answer.proofs.Outcomes.{taken_is, taken_refused}
 use Rattle.entries.specs.Kinds.{Description}
@@ -21,11 +24,11 @@ use Rattle.sorting.proofs.Shift.{take-over}
 
 -- ---- from a promise
 
-pub indexed_stop : (o : Outcome (List ℕ)) {old new : List ℕ} {a b : ℕ} → Indexed o old (Stop a b) new → o ≡ refused a b
+pub indexed_stop : (o : Outcome (List ℕ)) {old new : List ℕ} {f : Fault} → Indexed o old (Err f) new → o ≡ fault_of f
 indexed_stop (taken l) i = absurd (taken_refused (sym i.answers))
-indexed_stop (refused n p) i = let e : refused _ _ ≡ refused n p = i.answers in cc
+indexed_stop (refused n p) {f = f} i = let e : refused (number_of f.0) f.1 ≡ refused n p = i.answers in cc
 
-pub indexed_done : (o : Outcome (List ℕ)) {old new : List ℕ} {n : ℕ} → Indexed o old (Ends n) new → o ≡ taken (take n new)
+pub indexed_done : (o : Outcome (List ℕ)) {old new : List ℕ} {n : ℕ} → Indexed o old (Ok n) new → o ≡ taken (take n new)
 indexed_done (taken l) {old} {new} {n} i = ap taken (sym (ap (take n) i.leaves ∙ take-over l old n (sym (taken_is i.answers))))
 indexed_done (refused n p) i = absurd (taken_refused i.answers)
 

@@ -12,7 +12,7 @@ use Rattle.format.specs.Format.{read}
 use Rattle.order.specs.Keyed.{insert, sort, has}
 use Rattle.order.specs.Entries.{split}
 use Rattle.entries.specs.Kinds.{Description, devices, disks, controllers}
-use Rattle.lists.specs.declared.Found.TheVariants.{There, Free}
+use Rattle.std.proofs.Common.{Ok, Err}
 use Rattle.lists.specs.Lists.{key_at, entry_at, walk, list_at, entries, list_bytes, index_of}
 use Rattle.lists.specs.Promises.{find_in, halves, halves_in}
 
@@ -71,19 +71,19 @@ as_numbers = (refl, refl)
 -- the call, with room for two starts, and for one: then none is kept
 pub calls : (index_of devices 2 payload ≡ taken (21 ∷ 4 ∷ []))
     × (index_of devices 1 payload ≡ taken [])
-    × (find_in (key_at devices payload) (devices.key three) (21 ∷ 4 ∷ []) ≡ There 0)
-    × (find_in (key_at devices payload) 4294967296 (21 ∷ 4 ∷ []) ≡ Free 0)
-    × (find_in (key_at devices payload) 17179869184 (21 ∷ 4 ∷ []) ≡ Free 1)
-    × (find_in (key_at devices payload) 64424509440 (21 ∷ 4 ∷ []) ≡ Free 2)
+    × (find_in (key_at devices payload) (devices.key three) (21 ∷ 4 ∷ []) ≡ Ok 0)
+    × (find_in (key_at devices payload) 4294967296 (21 ∷ 4 ∷ []) ≡ Err 0)
+    × (find_in (key_at devices payload) 17179869184 (21 ∷ 4 ∷ []) ≡ Err 1)
+    × (find_in (key_at devices payload) 64424509440 (21 ∷ 4 ∷ []) ≡ Err 2)
 unfolding list_at walk entry_at read le_at le insert has find_in
 calls = (refl, refl, refl, refl, refl, refl)
 
 -- by halves the same; in starts out of order the higher key, which is the first, isn't found
-pub by_halves : (halves_in (key_at devices payload) (devices.key three) (21 ∷ 4 ∷ []) ≡ There 0)
-    × (halves_in (key_at devices payload) (devices.key fourteen) (21 ∷ 4 ∷ []) ≡ There 1)
-    × (halves_in (key_at devices payload) 4294967296 (21 ∷ 4 ∷ []) ≡ Free 0)
-    × (halves_in (key_at devices payload) 17179869184 (21 ∷ 4 ∷ []) ≡ Free 1)
-    × (halves_in (key_at devices payload) 64424509440 (21 ∷ 4 ∷ []) ≡ Free 2)
-    × (halves_in (key_at devices payload) (devices.key fourteen) (4 ∷ 21 ∷ []) ≡ Free 2)
+pub by_halves : (halves_in (key_at devices payload) (devices.key three) (21 ∷ 4 ∷ []) ≡ Ok 0)
+    × (halves_in (key_at devices payload) (devices.key fourteen) (21 ∷ 4 ∷ []) ≡ Ok 1)
+    × (halves_in (key_at devices payload) 4294967296 (21 ∷ 4 ∷ []) ≡ Err 0)
+    × (halves_in (key_at devices payload) 17179869184 (21 ∷ 4 ∷ []) ≡ Err 1)
+    × (halves_in (key_at devices payload) 64424509440 (21 ∷ 4 ∷ []) ≡ Err 2)
+    × (halves_in (key_at devices payload) (devices.key fourteen) (4 ∷ 21 ∷ []) ≡ Err 2)
 unfolding le_at le halves
 by_halves = (refl, refl, refl, refl, refl, refl)

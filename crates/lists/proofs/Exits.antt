@@ -5,21 +5,19 @@ use mathlib.Core.Bool.{Bool, true, false, not}
 use mathlib.Core.List.{List, [], ◌∷◌, ◌++◌}
 use Prim.Native.Nat.{ℕ, suc, ◌+◌, ◌≤◌, ◌<◌}
 use native.Mathlib.Omega.{arith}
-use lib.Dec.{leb}
 use lib.ListN.{length, drop}
-use borrow.Author.Tests.{leb-true, le-leb, lt-leb}
+use borrow.Author.Tests.{le-leb, lt-leb}
 use Rattle.answer.specs.Numbers.{SHAPE, LIMIT, KEY, SIZE}
 use Rattle.answer.specs.Outcome.{Outcome, taken, refused, Checks, checked, Pass, moved, shift}
 use Rattle.answer.specs.Calls.{asked}
-use Rattle.answer.proofs.Checks.{fails, pass-checked, checked-pass, pass-append}
-use Rattle.answer.proofs.Outcomes.{moved_taken, taken_refused}
+use Rattle.answer.proofs.Checks.{fails, pass-checked, pass-append}
+use Rattle.answer.proofs.Outcomes.{taken_refused}
 use Rattle.wire.specs.Numbers.{le_at}
 use Rattle.format.specs.Format.{read}
 use Rattle.format.specs.Places.{read_at}
 use Rattle.order.specs.Keyed.{insert, has}
 use Rattle.entries.specs.Kinds.{Description, lead_checks}
 use Rattle.lists.specs.Lists.{key_at, ends_at, entry_checks, entry_at, walk, list_at, part_checks}
-use Rattle.lists.specs.Steps.{Room}
 
 -- checks that were asked at a place, before others
 
@@ -31,9 +29,6 @@ asked_fault at (c ∷ l) more x {a} {b} h = go c.0 h (asked_fault at l more x)
         → refused a b ≡ shift at (checked ((t, c.1, c.2) ∷ (l ++ more)) x)
     go true h r = r h
     go false h r = let i : a ≡ c.1 = cc in let j : b ≡ at + c.2 = cc in rw (i, j) refl
-
-pub asked_fine : (at : ℕ) (l : Checks) → taken tt ≡ moved at (asked l) → Pass l
-asked_fine at l h = (checked-pass l (taken tt) tt (moved_taken at (asked l) (sym h))).0
 
 module _ (d : Description) (s : List ℕ) where
   -- ---- the count
@@ -96,6 +91,3 @@ pub part_fine : {A : Type 0} (p : List ℕ) {next r : Outcome A} → length p �
 part_fine p {next} h e = e ∙ sym (pass-checked (part_checks p) next (le-leb (length p) 1073741824 h, tt))
 
 -- ---- room for the starts
-
-pub few_room : (s : List ℕ) → leb (le_at 4 s 0) 256 ≡ true → Room s 256
-few_room s h _ = leb-true (le_at 4 s 0) 256 h

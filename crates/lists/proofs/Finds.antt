@@ -3,7 +3,7 @@
 use mathlib.Core.Path.{◌≡◌, refl, sym, ◌∙◌, ap}
 use mathlib.Core.Bool.{Bool, true, false}
 use mathlib.Core.List.{List, [], ◌∷◌, ◌++◌, map}
-use Prim.Native.Nat.{ℕ, zero, suc, ◌+◌, ◌≤◌, ◌<◌, zero-le}
+use Prim.Native.Nat.{ℕ, zero, suc, ◌+◌, ◌≤◌, ◌<◌}
 use native.Mathlib.Numerals.{add-one}
 use native.Mathlib.Omega.{arith}
 use lib.Dec.{leb, eqb}
@@ -14,45 +14,44 @@ use Rattle.order.specs.Keyed.{insert, has, Asc, Every}
 use Rattle.order.proofs.Folds.{every_imp}
 use Rattle.order.proofs.Keys.{fresh_has, asc_up, up_every}
 use Rattle.order.proofs.Inserts.{insert_nil, insert-le, insert_gt}
-use Rattle.lists.specs.declared.Found.{Found}
-use Rattle.lists.specs.declared.Found.TheVariants.{There, Free}
+use Rattle.std.proofs.Common.{Result, Ok, Err}
 use Rattle.lists.specs.Promises.{later, find_in, found_of, Finds}
 
-pub free_is : {p q : ℕ} → Free p ≡ Free q → p ≡ q
+pub free_is : {p q : ℕ} → ◌≡◌ {A = Result ℕ ℕ} (Err p) (Err q) → p ≡ q
 free_is h = cc
 
-pub there_is : {p q : ℕ} → There p ≡ There q → p ≡ q
+pub there_is : {p q : ℕ} → ◌≡◌ {A = Result ℕ ℕ} (Ok p) (Ok q) → p ≡ q
 there_is h = cc
 
-pub there_free : {q p : ℕ} → There q ≡ Free p → ⊥
+pub there_free : {q p : ℕ} → ◌≡◌ {A = Result ℕ ℕ} (Ok q) (Err p) → ⊥
 there_free h = let z : ◌≡◌ {A = ℕ} 0 1 = cc in omega arith
 
 -- the outcomes tell the answer
-pub found_once : (r q : Found) → Finds r q → r ≡ q
-found_once (There i) (There j) h = let e : found_of true (There i) ≡ found_of true (There j) = h true in let z : i ≡ j = cc in ap There z
-found_once (There i) (Free j) h = let e : found_of true (There i) ≡ found_of true (Free j) = h true in let z : ◌≡◌ {A = ℕ} 0 1 = cc in absurd (omega arith)
-found_once (Free i) (There j) h = let e : found_of true (Free i) ≡ found_of true (There j) = h true in let z : ◌≡◌ {A = ℕ} 0 1 = cc in absurd (omega arith)
-found_once (Free i) (Free j) h = let e : found_of false (Free i) ≡ found_of false (Free j) = h false in let z : i ≡ j = cc in ap Free z
+pub found_once : (r q : Result ℕ ℕ) → Finds r q → r ≡ q
+found_once (Ok i) (Ok j) h = let e : found_of true (Ok i) ≡ found_of true (Ok j) = h true in let z : i ≡ j = cc in ap Ok z
+found_once (Ok i) (Err j) h = let e : found_of true (Ok i) ≡ found_of true (Err j) = h true in let z : ◌≡◌ {A = ℕ} 0 1 = cc in absurd (omega arith)
+found_once (Err i) (Ok j) h = let e : found_of true (Err i) ≡ found_of true (Ok j) = h true in let z : ◌≡◌ {A = ℕ} 0 1 = cc in absurd (omega arith)
+found_once (Err i) (Err j) h = let e : found_of false (Err i) ≡ found_of false (Err j) = h false in let z : i ≡ j = cc in ap Err z
 
-pub finds : {r q : Found} → r ≡ q → Finds r q
+pub finds : {r q : Result ℕ ℕ} → r ≡ q → Finds r q
 finds e w = ap (found_of w) e
 
-pub later_free : (f : Found) {p : ℕ} → later 1 f ≡ Free p → (q : ℕ) × (f ≡ Free q) × (p ≡ suc q)
-later_free (There q) h = absurd (there_free h)
-later_free (Free q) h = (q, refl, let e : 1 + q ≡ _ = free_is h in omega arith)
+pub later_free : (f : Result ℕ ℕ) {p : ℕ} → later 1 f ≡ Err p → (q : ℕ) × (f ≡ Err q) × (p ≡ suc q)
+later_free (Ok q) h = absurd (there_free h)
+later_free (Err q) h = (q, refl, let e : 1 + q ≡ _ = free_is h in omega arith)
 
-later-later : (i j : ℕ) (f : Found) → later i (later j f) ≡ later (i + j) f
-later-later i j (There p) = ap There (omega arith)
-later-later i j (Free p) = ap Free (omega arith)
+later-later : (i j : ℕ) (f : Result ℕ ℕ) → later i (later j f) ≡ later (i + j) f
+later-later i j (Ok p) = ap Ok (omega arith)
+later-later i j (Err p) = ap Err (omega arith)
 
 -- ---- one element
 
 module _ {E : Type 0} (key : E → ℕ) (k : ℕ) (y : E) (l : List E) where
-  pub find-same : k ≡ key y → find_in key k (y ∷ l) ≡ There 0
+  pub find-same : k ≡ key y → find_in key k (y ∷ l) ≡ Ok 0
   unfolding find_in
   find-same e = rw (eq-eqb k (key y) e, find_in)
 
-  pub find_below : k < key y → find_in key k (y ∷ l) ≡ Free 0
+  pub find_below : k < key y → find_in key k (y ∷ l) ≡ Err 0
   unfolding find_in
   find_below h = rw (ne_eqb k (key y) (λ e. omega arith), le-leb k (key y) (omega arith), find_in)
 
@@ -74,33 +73,33 @@ against k n = go (eqb k n) refl (leb k n) refl
     go false e true f = below (omega (arith, eqb-false k n e, leb-true k n f))
     go false e false f = above (leb-false k n f)
 
-pub later-there : (f : Found) {p : ℕ} → later 1 f ≡ There p → (q : ℕ) × (f ≡ There q) × (p ≡ suc q)
-later-there (There q) h = (q, refl, let e : 1 + q ≡ _ = there_is h in omega arith)
-later-there (Free q) h = absurd (there_free (sym h))
+pub later-there : (f : Result ℕ ℕ) {p : ℕ} → later 1 f ≡ Ok p → (q : ℕ) × (f ≡ Ok q) × (p ≡ suc q)
+later-there (Ok q) h = (q, refl, let e : 1 + q ≡ _ = there_is h in omega arith)
+later-there (Err q) h = absurd (there_free (sym h))
 
 -- ---- by the places of the elements
 
 module _ {E : Type 0} (z : E) (key : E → ℕ) (k : ℕ) where
-  pub find_free_at : (l : List E) (r : ℕ) → r ≤ length l → ((j : ℕ) → j < r → key (get_or l j z) < k) → (r < length l → k < key (get_or l r z)) → Free r ≡ find_in key k l
+  pub find_free_at : (l : List E) (r : ℕ) → r ≤ length l → ((j : ℕ) → j < r → key (get_or l j z) < k) → (r < length l → k < key (get_or l r z)) → Err r ≡ find_in key k l
   unfolding find_in
   find_free_at [] zero h b a = refl
   find_free_at [] (suc r) h b a = absurd (omega arith)
   find_free_at (y ∷ l) zero h b a = sym (find_below key k y l (a (omega arith)))
   find_free_at (y ∷ l) (suc r) h b a =
-      let e : Free r ≡ find_in key k l = find_free_at l r (omega arith) (λ j g. b (suc j) (omega arith)) (λ g. a (omega arith)) in
-      ap Free (omega arith) ∙ ap (later 1) e ∙ sym (find_above key k y l (b 0 (omega arith)))
+      let e : Err r ≡ find_in key k l = find_free_at l r (omega arith) (λ j g. b (suc j) (omega arith)) (λ g. a (omega arith)) in
+      ap Err (omega arith) ∙ ap (later 1) e ∙ sym (find_above key k y l (b 0 (omega arith)))
 
-  pub find-there-at : (l : List E) (r : ℕ) → r < length l → ((j : ℕ) → j < r → key (get_or l j z) < k) → k ≡ key (get_or l r z) → There r ≡ find_in key k l
+  pub find-there-at : (l : List E) (r : ℕ) → r < length l → ((j : ℕ) → j < r → key (get_or l j z) < k) → k ≡ key (get_or l r z) → Ok r ≡ find_in key k l
   find-there-at [] r h b e = absurd (omega arith)
   find-there-at (y ∷ l) zero h b e = sym (find-same key k y l e)
   find-there-at (y ∷ l) (suc r) h b e =
-      let q : There r ≡ find_in key k l = find-there-at l r (omega arith) (λ j g. b (suc j) (omega arith)) e in
-      ap There (omega arith) ∙ ap (later 1) q ∙ sym (find_above key k y l (b 0 (omega arith)))
+      let q : Ok r ≡ find_in key k l = find-there-at l r (omega arith) (λ j g. b (suc j) (omega arith)) e in
+      ap Ok (omega arith) ∙ ap (later 1) q ∙ sym (find_above key k y l (b 0 (omega arith)))
 
 -- ---- what an answer says
 
 module _ {E : Type 0} (key : E → ℕ) (k : ℕ) where
-  pub there_has : (l : List E) {p : ℕ} → find_in key k l ≡ There p → has key k l ≡ true
+  pub there_has : (l : List E) {p : ℕ} → find_in key k l ≡ Ok p → has key k l ≡ true
   unfolding has find_in
   there_has [] h = absurd (there_free (sym h))
   there_has (y ∷ l) h = elim (against k (key y)) [
@@ -110,7 +109,7 @@ module _ {E : Type 0} (key : E → ℕ) (k : ℕ) where
   ]
 
   -- the element is inserted at the place
-  pub free_insert : (x : E) (l : List E) {p : ℕ} → key x ≡ k → find_in key k l ≡ Free p → insert key x l ≡ take p l ++ (x ∷ drop p l)
+  pub free_insert : (x : E) (l : List E) {p : ℕ} → key x ≡ k → find_in key k l ≡ Err p → insert key x l ≡ take p l ++ (x ∷ drop p l)
   unfolding find_in
   free_insert x [] {p} e h = let z : ◌≡◌ {A = ℕ} 0 p = free_is h in rw (← z) (insert_nil key x)
   free_insert x (y ∷ l) {p} e h = elim (against k (key y)) [
@@ -119,7 +118,7 @@ module _ {E : Type 0} (key : E → ℕ) (k : ℕ) where
     | above g ↦ let q = later_free (find_in key k l) (sym (find_above key k y l g) ∙ h) in rw q.2 (insert_gt key x y l (omega arith) ∙ ap (λ (m : List E). y ∷ m) (free_insert x l e q.1))
   ]
 
-  pub free_le : (l : List E) {p : ℕ} → find_in key k l ≡ Free p → p ≤ length l
+  pub free_le : (l : List E) {p : ℕ} → find_in key k l ≡ Err p → p ≤ length l
   unfolding find_in
   free_le [] h = omega (arith, free_is h)
   free_le (y ∷ l) h = elim (against k (key y)) [
@@ -129,7 +128,7 @@ module _ {E : Type 0} (key : E → ℕ) (k : ℕ) where
   ]
 
   -- in ascending order no element has the key
-  pub free_has : (n : ℕ) (l : List E) {p : ℕ} → Asc key n l → find_in key k l ≡ Free p → has key k l ≡ false
+  pub free_has : (n : ℕ) (l : List E) {p : ℕ} → Asc key n l → find_in key k l ≡ Err p → has key k l ≡ false
   unfolding has find_in
   free_has n [] a h = refl
   free_has n (y ∷ l) a h = elim (against k (key y)) [
@@ -155,27 +154,20 @@ pub record Finding (key : ℕ → ℕ) (k : ℕ) (l : List ℕ) (i : ℕ) : Type
   pub same : find_in key k l ≡ later i (find_in key k (drop i l))
 
 module _ (key : ℕ → ℕ) (k : ℕ) (l : List ℕ) where
-  pub finding_start : Finding key k l 0
-  finding_start = record { inside = zero-le; same = go (find_in key k l) }
-    where
-      go : (f : Found) → f ≡ later 0 f
-      go (There p) = ap There (omega arith)
-      go (Free p) = ap Free (omega arith)
-
   module _ (i : ℕ) (v : Finding key k l i) where
-    pub finding_end : length l ≤ i → Free i ≡ find_in key k l
+    pub finding_end : length l ≤ i → Err (length l) ≡ find_in key k l
     unfolding find_in
-    finding_end h = sym (v.same ∙ rw (drop_of_length-le l h) (ap Free (omega arith)))
+    finding_end h = let e : i ≡ length l = omega (arith, v.inside) in sym (v.same ∙ rw (drop_of_length-le l h) (ap Err (omega (arith, e))))
 
     module _ (h : i < length l) where
       here : find_in key k l ≡ later i (find_in key k (get_or l i 0 ∷ drop (suc i) l))
       here = v.same ∙ ap (λ (m : List ℕ). later i (find_in key k m)) (drop-cons l i 0 h)
 
-      pub finding_there : k ≡ key (get_or l i 0) → There i ≡ find_in key k l
-      finding_there e = sym (here ∙ ap (later i) (find-same key k (get_or l i 0) (drop (suc i) l) e) ∙ ap There (omega arith))
+      pub finding_there : k ≡ key (get_or l i 0) → Ok i ≡ find_in key k l
+      finding_there e = sym (here ∙ ap (later i) (find-same key k (get_or l i 0) (drop (suc i) l) e) ∙ ap Ok (omega arith))
 
-      pub finding_free : k < key (get_or l i 0) → Free i ≡ find_in key k l
-      finding_free e = sym (here ∙ ap (later i) (find_below key k (get_or l i 0) (drop (suc i) l) e) ∙ ap Free (omega arith))
+      pub finding_free : k < key (get_or l i 0) → Err i ≡ find_in key k l
+      finding_free e = sym (here ∙ ap (later i) (find_below key k (get_or l i 0) (drop (suc i) l) e) ∙ ap Err (omega arith))
 
       pub finding_next : key (get_or l i 0) < k → Finding key k l (i + 1)
       finding_next e = record {

@@ -1,41 +1,35 @@
 -- The ends of the calls on lists: starts gathered in the lent places, or the list judged and none kept; a refusal leaves the places as they were.
 -- Assumes nothing.
-use mathlib.Core.Path.{◌≡◌, refl, sym, ◌∙◌, ap, subst}
+use mathlib.Core.Path.{◌≡◌, refl, sym, ◌∙◌, ap}
 use mathlib.Core.Logic.{◌⊎◌, inr, ⊎_elim, ◌↔◌}
-use mathlib.Core.List.{List, [], ◌++◌, append-nil}
+use mathlib.Core.List.{List, [], ◌++◌}
 use Prim.Native.Nat.{ℕ, ◌+◌, ◌/◌, ◌%◌, ◌≤◌, ◌<◌}
 use native.Mathlib.Decide.{dec_lt}
 use native.Mathlib.Nat.{le-max_left}
 use native.Mathlib.Omega.{arith}
-use lib.ListN.{length, take, drop, get_or, replicate, length-take, length-replicate, get_or-replicate, length-append, take-append-drop, drop_of_length-le}
+use lib.ListN.{length, take, drop, get_or, length-take, length-replicate, get_or-replicate, length-append, take-append-drop}
 use lib.Seq.{take_all, take-append-le, ext_get_or}
 use lib.Arith.{bin_ind}
 use lib.Bits.{bit_or, or_step, or_comm}
 use borrow.Author.Tests.{le-leb, lt-leb}
-use Rattle.answer.specs.declared.Piece.{Piece}
-use Rattle.answer.specs.declared.Piece.TheVariants.{Stop, Ends}
-use Rattle.answer.specs.declared.Test.{Test}
-use Rattle.answer.specs.declared.Test.TheVariants.{Fault, Fine}
+use Rattle.std.proofs.Common.{Result, Ok, Err}
+use Rattle.answer.specs.declared.Fault.{Fault}
 use Rattle.answer.specs.Outcome.{Outcome, taken, refused, checked, after, done}
-use Rattle.answer.specs.Calls.{test_of}
+use Rattle.answer.specs.Calls.{outcome_of}
 use Rattle.answer.proofs.Checks.{checked-pass}
 use Rattle.answer.proofs.Outcomes.{done_stop, done_taken, taken_refused}
 use Rattle.wire.specs.Numbers.{le_at}
 use Rattle.entries.specs.Kinds.{Description}
 use Rattle.entries.proofs.Lawful.{Lawful}
 use Rattle.lists.specs.Lists.{list_at, part_checks, whole, index_of}
-use Rattle.lists.specs.Steps.{list_of, MayWrite, Room, Gathered, Restored}
+use Rattle.lists.specs.Steps.{list_of, MayWrite, Gathered, Restored}
 use Rattle.lists.specs.Promises.{zeros, Indexed}
-use Rattle.lists.proofs.Exits.{part_fine}
 use Rattle.lists.proofs.Ordered.{index_length}
 use Rattle.lists.proofs.Callers.{list_then}
 
 -- ---- a list no longer than a file may be
 
 module _ (d : Description) (s : List ℕ) where
-  pub gathered_part : length s ≤ 1073741824 → (r : Piece) (l : List ℕ) → Gathered (list_at d s) r l → Gathered (list_of d s) r l
-  gathered_part h r l g = subst (λ (o : Outcome (List ℕ)). Gathered o r l) (part_fine s h refl) g
-
   -- taken or not
   pub list_done : done (list_of d s) ≡ checked (part_checks s) (done (list_at d s))
   list_done = sym (list_then d s (λ _. taken tt))
@@ -50,9 +44,9 @@ module _ {d : Description} (K : Lawful d) (s : List ℕ) where
   indexed have h = list_then d s (λ l. taken (whole have l)) ∙ ap (λ (o : Outcome (List ℕ)). after o (λ l. taken (whole have l))) h
 
   -- as many places lent as there are starts: they are all of them, and behind them stands what was there
-  pub kept_whole : {n : ℕ} (l old : List ℕ) → n ≡ le_at 4 s 0 → n ≤ length old → length l ≡ n → (r : Piece) → Restored (list_of d s) (take n old) r l → Indexed (index_of d (length old) s) old r (l ++ drop n old)
-  kept_whole {n} l old e h k (Stop a b) g = rw (indexed (length old) g.0) (record { answers = refl; leaves = rw g.1 (take-append-drop n old) })
-  kept_whole {n} l old e h k (Ends c) g =
+  pub kept_whole : {n : ℕ} (l old : List ℕ) → n ≡ le_at 4 s 0 → n ≤ length old → length l ≡ n → (r : Result ℕ Fault) → Restored (list_of d s) (take n old) r l → Indexed (index_of d (length old) s) old r (l ++ drop n old)
+  kept_whole {n} l old e h k (Err f) g = rw (indexed (length old) g.0) (record { answers = refl; leaves = rw g.1 (take-append-drop n old) })
+  kept_whole {n} l old e h k (Ok c) g =
       let q : length (take c l) ≡ le_at 4 s 0 = found g.0 in
       let t : take c l ≡ l = take_all c l (omega (arith, length-take c l)) in
       let o : index_of d (length old) s ≡ taken l = indexed (length old) (g.0 ∙ ap taken t) ∙ rw (le-leb (length l) (length old) (omega arith)) in
@@ -60,20 +54,13 @@ module _ {d : Description} (K : Lawful d) (s : List ℕ) where
       rw o (record { answers = ap taken z; leaves = rw k })
 
   module _ (old : List ℕ) where
-    pub kept_fault : {a b : ℕ} → refused a b ≡ checked (part_checks s) (done (list_at d s)) → Indexed (index_of d (length old) s) old (Stop a b) old
-    kept_fault h = rw (indexed (length old) (done_stop (list_of d s) (h ∙ sym (list_done d s)))) (record { answers = refl; leaves = refl })
-
-    pub kept-none : length old < le_at 4 s 0 → taken tt ≡ checked (part_checks s) (done (list_at d s)) → Indexed (index_of d (length old) s) old (Ends 0) old
+    pub kept-none : length old < le_at 4 s 0 → taken tt ≡ checked (part_checks s) (done (list_at d s)) → Indexed (index_of d (length old) s) old (Ok 0) old
     kept-none h e =
         let w = done_taken (list_of d s) (list_done d s ∙ sym e) in
         let o : index_of d (length old) s ≡ taken [] = indexed (length old) w.1 ∙ rw (lt-leb (length w.0) (length old) (omega (arith, found w.1))) in
         rw o (record { answers = refl; leaves = refl })
 
 -- ---- places that hold nothing
-
--- all of old written over
-pub all_zeros : (i : ℕ) (old : List ℕ) {new : List ℕ} → i ≡ length old → new ≡ replicate i 0 ++ drop i old → new ≡ zeros (length old)
-all_zeros i old e h = let d : drop i old ≡ [] = drop_of_length-le old {i = i} (omega arith) in h ∙ rw (d, e) (append-nil (zeros (length old)))
 
 -- none is above 0
 pub none_above : (l : List ℕ) → ((j : ℕ) → j < length l → get_or l j 0 ≤ 0) → l ≡ zeros (length l)
@@ -111,16 +98,13 @@ pub cleared : {A : Type 0} {o : Outcome A} {old new : List ℕ} {a b : ℕ} → 
 cleared h w z = ⊎_elim (λ e. z ∙ sym e) (λ t. absurd (taken_refused (sym t.1 ∙ h))) w
 
 -- what is asked before they are written over, of a list that was judged
-pub judged_first : (d : Description) (s old : List ℕ) (r : Test) → test_of r ≡ checked (part_checks s) (done (list_at d s)) → MayWrite (list_of d s) old r
-judged_first d s old (Fault a b) h = done_stop (list_of d s) (h ∙ sym (list_done d s))
-judged_first d s old Fine h = inr (done_taken (list_of d s) (list_done d s ∙ sym h))
+pub judged_first : (d : Description) (s old : List ℕ) (r : Result (Unit {0}) Fault) → outcome_of r ≡ checked (part_checks s) (done (list_at d s)) → MayWrite (list_of d s) old r
+judged_first d s old (Err f) h = done_stop (list_of d s) (h ∙ sym (list_done d s))
+judged_first d s old (Ok tt) h = inr (done_taken (list_of d s) (list_done d s ∙ sym h))
 
 -- ---- as many places as there are entries
 
-pub count_room : {d : Description} → Lawful d → (s : List ℕ) {n m : ℕ} → n ≡ le_at 4 s 0 → n ≤ d.most → Room s m → n ≤ m
-count_room K s e h r = omega (arith, e, r (omega (arith, K.bounded)))
-
 -- the places that were lent are the first of more
-pub gathered_more : (o : Outcome (List ℕ)) (r : Piece) (l more : List ℕ) → Gathered o r l → Gathered o r (l ++ more)
-gathered_more o (Stop a b) l more g = g
-gathered_more o (Ends c) l more g = (g.0 ∙ ap taken (sym (take-append-le c l more g.1)), omega (arith, g.1, length-append l more))
+pub gathered_more : (o : Outcome (List ℕ)) (r : Result ℕ Fault) (l more : List ℕ) → Gathered o r l → Gathered o r (l ++ more)
+gathered_more o (Err f) l more g = g
+gathered_more o (Ok c) l more g = (g.0 ∙ ap taken (sym (take-append-le c l more g.1)), omega (arith, g.1, length-append l more))

@@ -18,7 +18,7 @@ use Rattle.order.proofs.Perms.{perm_length, perm_weigh, every_perm, apart_perm}
 use Rattle.order.proofs.Sorts.{sort_perm}
 use Rattle.order.proofs.Entries.{length-join, first-append}
 use Rattle.entries.specs.Kinds.{Description}
-use Rattle.lists.specs.declared.Found.TheVariants.{There, Free}
+use Rattle.std.proofs.Common.{Ok, Err}
 use Rattle.lists.specs.Lists.{key_at, list_at, width_of, entries, tail_of, list_bytes, IsList}
 use Rattle.lists.specs.Promises.{find_in}
 use Rattle.entries.proofs.Lawful.{Lawful}
@@ -125,16 +125,16 @@ module _ {d : Description} (K : Lawful d) (s : List ℕ) {r : List ℕ} (h : lis
   start_keys = index_every K s h (λ b. d.key (first (width_of d) b) ≡ d.key b) (λ e rest i. ap d.key (first-append (self d) e rest i) ∙ sym (key_local K e rest i))
 
   -- a key that is there is an entry's
-  pub find-there : (k : ℕ) {p : ℕ} → find_in (key_at d s) k r ≡ There p → has d.key k (entries d s) ≡ true
+  pub find-there : (k : ℕ) {p : ℕ} → find_in (key_at d s) k r ≡ Ok p → has d.key k (entries d s) ≡ true
   find-there k q = sym (index_has K s h k) ∙ there_has (key_at d s) k r q
 
   -- one that is free is no entry's
-  pub find_new : (k : ℕ) {p : ℕ} → find_in (key_at d s) k r ≡ Free p → has d.key k (entries d s) ≡ false
+  pub find_new : (k : ℕ) {p : ℕ} → find_in (key_at d s) k r ≡ Err p → has d.key k (entries d s) ≡ false
   find_new k q = sym (index_has K s h k) ∙ free_has (key_at d s) k 0 r (index_asc K s h) q
 
   -- and an entry with it goes in at that place
-  pub find-with : (e : List ℕ) {p : ℕ} → find_in (key_at d s) (d.key e) r ≡ Free p → with_entry d s e ≡ map (piece_at d s) (take p r) ++ (e ∷ map (piece_at d s) (drop p r))
+  pub find-with : (e : List ℕ) {p : ℕ} → find_in (key_at d s) (d.key e) r ≡ Err p → with_entry d s e ≡ map (piece_at d s) (take p r) ++ (e ∷ map (piece_at d s) (drop p r))
   find-with e {p} q =
-      let f : find_in d.key (d.key e) (map (piece_at d s) r) ≡ Free p = find-map (piece_at d s) (key_at d s) d.key (d.key e) r start_keys ∙ q in
+      let f : find_in d.key (d.key e) (map (piece_at d s) r) ≡ Err p = find-map (piece_at d s) (key_at d s) d.key (d.key e) r start_keys ∙ q in
       ap (insert d.key e) (sym (list_order K s h)) ∙ free_insert d.key (d.key e) e (map (piece_at d s) r) refl f
       ∙ rw (take-map, drop-map)

@@ -1,14 +1,13 @@
 -- What the calls promise: a list indexed, and a place found in an index.
 -- Assumes nothing.
 use Rattle.std.specs.Prelude.{◌≡◌, Bool, true, false, List, [], ◌∷◌, ◌++◌, ℕ, zero, suc, ◌+◌, ◌-◌, ◌/◌, ◌≤◌, ◌<◌, leb, eqb, length, take, drop, get_or, replicate}
-use Rattle.answer.specs.declared.Piece.{Piece}
+use Rattle.std.specs.Prelude.{Result, Ok, Err}
+use Rattle.answer.specs.declared.Fault.{Fault}
 use Rattle.answer.specs.Numbers.{HAVE, ABSENT}
 use Rattle.answer.specs.Outcome.{Outcome, taken, refused, after}
-use Rattle.answer.specs.Calls.{piece_of}
+use Rattle.answer.specs.Calls.{outcome_of}
 use Rattle.order.specs.Keyed.{has, sort, Apart}
 use Rattle.sorting.specs.Sorting.{arranged_most}
-use Rattle.lists.specs.declared.Found.{Found}
-use Rattle.lists.specs.declared.Found.TheVariants.{There, Free}
 
 -- so many zeros
 abbrev pub zeros : ℕ → List ℕ
@@ -20,42 +19,42 @@ lent_after (taken l) old = l ++ drop (length l) old
 lent_after (refused n p) old = old
 
 -- the promise of the call that indexes a list: how many starts, and the starts in the lent places that held `old`
-pub record Indexed (o : Outcome (List ℕ)) (old : List ℕ) (r : Piece) (new : List ℕ) : Type 0 where
-  pub answers : piece_of r ≡ after o (λ l. taken (length l))
+pub record Indexed (o : Outcome (List ℕ)) (old : List ℕ) (r : Result ℕ Fault) (new : List ℕ) : Type 0 where
+  pub answers : outcome_of r ≡ after o (λ l. taken (length l))
   pub leaves : new ≡ lent_after o old
 
 -- the same place, counted from i elements earlier
-abbrev pub later : ℕ → Found → Found
-later i (There p) = There (i + p)
-later i (Free p) = Free (i + p)
+abbrev pub later : ℕ → Result ℕ ℕ → Result ℕ ℕ
+later i (Ok p) = Ok (i + p)
+later i (Err p) = Err (i + p)
 
 -- where an entry with the key k goes: before the first whose key is not below k, unless that one has the key itself
-unfoldable pub find_in : {E : Type 0} → (E → ℕ) → ℕ → List E → Found
-find_in key k [] = Free 0
-find_in key k (y ∷ l) = elim (eqb k (key y)) [ true ↦ There 0 | false ↦ elim (leb k (key y)) [ true ↦ Free 0 | false ↦ later 1 (find_in key k l) ] ]
+unfoldable pub find_in : {E : Type 0} → (E → ℕ) → ℕ → List E → Result ℕ ℕ
+find_in key k [] = Err 0
+find_in key k (y ∷ l) = elim (eqb k (key y)) [ true ↦ Ok 0 | false ↦ elim (leb k (key y)) [ true ↦ Err 0 | false ↦ later 1 (find_in key k l) ] ]
 
 -- what a search by halves finds that has so many starts from lo on before it: it looks at the middle one, and if that has another key goes on before it or behind it
-unfoldable pub halves : (ℕ → ℕ) → ℕ → List ℕ → ℕ → ℕ → ℕ → Found
-halves key k l zero lo many = Free lo
-halves key k l (suc turns) lo zero = Free lo
+unfoldable pub halves : (ℕ → ℕ) → ℕ → List ℕ → ℕ → ℕ → ℕ → Result ℕ ℕ
+halves key k l zero lo many = Err lo
+halves key k l (suc turns) lo zero = Err lo
 halves key k l (suc turns) lo (suc n) = elim (eqb k (key (get_or l (lo + suc n / 2) 0))) [
-  | true ↦ There (lo + suc n / 2)
+  | true ↦ Ok (lo + suc n / 2)
   | false ↦ elim (leb k (key (get_or l (lo + suc n / 2) 0))) [ true ↦ halves key k l turns lo (suc n / 2) | false ↦ halves key k l turns (suc (lo + suc n / 2)) (n - suc n / 2) ]
 ]
 
 -- where an entry with the key k goes, by halves, within as many turns as there are starts: in ascending keys the place that `find_in` has
-abbrev pub halves_in : (ℕ → ℕ) → ℕ → List ℕ → Found
+abbrev pub halves_in : (ℕ → ℕ) → ℕ → List ℕ → Result ℕ ℕ
 halves_in key k l = halves key k l (length l) 0 (length l)
 
 -- the documents' number and place for each answer, by whether an entry with the key is wanted: one that is there then, or else its place, is taken; a key that is wanted and isn't there is ABSENT, one that is there unwanted HAVE
-abbrev pub found_of : Bool → Found → Outcome ℕ
-found_of true (There i) = taken i
-found_of true (Free i) = refused ABSENT 0
-found_of false (There i) = refused HAVE 0
-found_of false (Free i) = taken i
+abbrev pub found_of : Bool → Result ℕ ℕ → Outcome ℕ
+found_of true (Ok i) = taken i
+found_of true (Err i) = refused ABSENT 0
+found_of false (Ok i) = refused HAVE 0
+found_of false (Err i) = taken i
 
 -- the answer r is the place f, whichever is wanted
-abbrev pub Finds : Found → Found → Type 0
+abbrev pub Finds : Result ℕ ℕ → Result ℕ ℕ → Type 0
 Finds r f = (wanted : Bool) → found_of wanted r ≡ found_of wanted f
 
 -- The first r of the starts `old` have keys of their own, and the next one, if it is looked at, has the key of one of them; the first r are then sorted, and the others stay.

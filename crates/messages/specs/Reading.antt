@@ -12,6 +12,7 @@ use Rattle.kinds.specs.declared.Body.{Body}
 use Rattle.kinds.specs.declared.Body.TheVariants.{Empty, Bytes, Text}
 use Rattle.kinds.specs.declared.Cell.{Cell}
 use Rattle.kinds.specs.declared.Form.{Form}
+use Rattle.messages.specs.declared.Content.{Content}
 use Rattle.messages.specs.declared.Reading.{Reading}
 use Rattle.kinds.specs.Kinds.{paper, cells, ok_of}
 use Rattle.messages.specs.Fields.{field_width, allowed, size_of, message_at}
@@ -59,10 +60,8 @@ read_checks f m =
     ∷ (cell_checks (ok_of f) (cells f) 2 m ++ body_checks f.body (numbers_end f) m)
 
 -- a message, and its data by place and length
-pub record MessageAndData : Type 0 where
-  pub message : Message
-  pub start : ℕ
-  pub len : ℕ
+abbrev pub MessageAndData : Type 0
+MessageAndData = Content
 
 -- 0 and 0 for a kind that has no data; the real place for empty data
 abbrev pub message_content : Message → Body → ℕ → List ℕ → MessageAndData

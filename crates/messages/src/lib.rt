@@ -3,15 +3,26 @@
 #![tactic(auto)]
 
 ghost use Rattle.std.specs.Prelude.{◌≡◌};
+ghost use Rattle.answer.specs.Calls.{outcome_of};
 ghost use Rattle.wire.specs.Numbers.{le_at};
 ghost use Rattle.messages.specs.Fields.{field_width, message_in, message_at};
+ghost use Rattle.messages.specs.Reading.{reading};
 ghost use Rattle.messages.specs.Steps.{commands, replies, notices};
 ghost use Rattle.kinds.specs.declared.Field.TheVariants.{Error};
 
+use answer::{Fault, TAKEN};
 use kinds::Message;
 use wire::{u8_at, u16_at, u32_at, u64_at};
 
-// What reading a message gives: number and place of the first refusal, or 0 and 0 with the message and the place and length of its data.
+// A message, and its data by place and length: 0 and 0 for a kind that has no data.
+#[derive(Clone, Copy)]
+pub struct Content {
+    pub message: Message,
+    pub start: u64,
+    pub len: u64,
+}
+
+// The same in numbers: those of the first refusal, or 0 and 0 with the message and its data. The theorems of `demands` on readers speak of it.
 #[derive(Clone, Copy)]
 pub struct Reading {
     pub number: u32,
@@ -19,6 +30,29 @@ pub struct Reading {
     pub message: Message,
     pub start: u64,
     pub len: u64,
+}
+
+impl From<Result<Content, Fault>> for Reading {
+    ghost from_gives = { λ r shown. shown ≡ reading (outcome_of r) };
+
+    fn from(r: Result<Content, Fault>) -> Reading {
+        match r {
+            Ok(read) => Reading {
+                number: TAKEN,
+                place: 0,
+                message: read.message,
+                start: read.start,
+                len: read.len,
+            },
+            Err(fault) => Reading {
+                number: u32::from(fault.0),
+                place: fault.1 as u64,
+                message: Message::Nothing,
+                start: 0,
+                len: 0,
+            },
+        }
+    }
 }
 
 // The error code, which is there exactly if `ok`, at 6, is 0.
@@ -32,6 +66,7 @@ fn error_at(m: &[u8]) -> u32
 }
 
 // What a message with the tag of a command says, be its bytes right or not.
+#[tactic(auto, unfolding(crate::specs::Fields::numbers_at, kinds::specs::Kinds::paper))]
 fn command(m: &[u8], tag: u16) -> Message
     ensures { result ≡ message_in commands tag m.now }
 {
@@ -64,6 +99,7 @@ fn command(m: &[u8], tag: u16) -> Message
 }
 
 // The same of replies.
+#[tactic(auto, unfolding(crate::specs::Fields::numbers_at, kinds::specs::Kinds::paper))]
 fn reply(m: &[u8], tag: u16) -> Message
     ensures { result ≡ message_in replies tag m.now }
 {
@@ -90,6 +126,7 @@ fn reply(m: &[u8], tag: u16) -> Message
 }
 
 // The same of the other events.
+#[tactic(auto, unfolding(crate::specs::Fields::numbers_at, kinds::specs::Kinds::paper))]
 fn notice(m: &[u8], tag: u16) -> Message
     ensures { result ≡ message_in notices tag m.now }
 {

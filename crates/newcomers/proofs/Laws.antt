@@ -1,22 +1,18 @@
 -- The records of a table of new devices.
 -- Assumes nothing.
-use mathlib.Core.Path.{◌≡◌, sym, ap, ◌∙◌, subst}
+use mathlib.Core.Path.{◌≡◌, sym, ap, ◌∙◌}
 use mathlib.Core.Bool.{Bool, true, cond}
 use mathlib.Core.List.{List, ◌++◌}
-use Prim.Native.Nat.{ℕ, ◌+◌, ◌-◌, ◌*◌, ◌/◌, ◌≤◌, ◌<◌}
+use Prim.Native.Nat.{ℕ, ◌+◌, ◌-◌, ◌≤◌, ◌<◌}
 use native.Mathlib.Omega.{arith}
 use borrow.Author.Tests.{leb-true, lt-ltb, le-ltb, le-leb, lt-leb}
 use lib.Dec.{leb}
 use lib.ListN.{length, take, drop, length-append, take-append-drop}
-use lib.Seq.{length-take-le, take_all}
+use lib.Seq.{length-take-le}
 use Rattle.wire.specs.Parts.{put, Wrote}
 use Rattle.wire.proofs.Numbers.{length-bytes_of}
 use Rattle.wire.proofs.Parts.{put_tested, as_splice, wrote_tail}
 use Rattle.aerosnap.specs.declared.NewDevice.{NewDevice}
-use Rattle.cards.specs.declared.Card.{Card}
-use Rattle.cards.specs.declared.Edited.{Edited}
-use Rattle.cards.specs.Cards.{WritesBeside}
-use Rattle.cards.specs.Whole.{many_card}
 use Rattle.newcomers.specs.Records.{looked_at, record_of, record_put, stored_in}
 
 pub length_record : (d : NewDevice) → length (record_of d) ≡ 24
@@ -34,13 +30,8 @@ put-at at bs old n t so =
     put_tested at bs old n t (as_splice old bs _ at (at + 24) h (wrote_tail (whole at old h) so))
 
 -- a record of an entry that is looked at, and of one that is not
-pub near_stored : (i : ℕ) (d : NewDevice) (old : List ℕ) {new : List ℕ} {r : ℕ} → i < 4097 → (r ≡ i + 1) × (new ≡ record_put i d old) → (r ≡ looked_at (i + 1)) × (new ≡ stored_in i d old)
-near_stored i d old h e = (e.0 ∙ sym (ap (λ (t : Bool). cond t (i + 1) 4097) (le-leb (i + 1) 4097 (omega arith))), e.1 ∙ sym (ap (λ (t : Bool). cond t (record_put i d old) old) (lt-ltb i 4097 h)))
+pub near_stored : (i : ℕ) (d : NewDevice) (old : List ℕ) {new : List ℕ} → i < 4097 → new ≡ record_put i d old → (i + 1 ≡ looked_at (i + 1)) × (new ≡ stored_in i d old)
+near_stored i d old h e = (sym (ap (λ (t : Bool). cond t (i + 1) 4097) (le-leb (i + 1) 4097 (omega arith))), e ∙ sym (ap (λ (t : Bool). cond t (record_put i d old) old) (lt-ltb i 4097 h)))
 
 pub far_stored : (i : ℕ) (d : NewDevice) (old : List ℕ) → 4097 ≤ i → (4097 ≡ looked_at (i + 1)) × (old ≡ stored_in i d old)
 far_stored i d old h = (sym (ap (λ (t : Bool). cond t (i + 1) 4097) (lt-leb (i + 1) 4097 (omega arith))), sym (ap (λ (t : Bool). cond t (record_put i d old) old) (le-ltb i 4097 h)))
-
--- more records than there are: all of them
-pub all_records : (have : ℕ) (file store records : List ℕ) {k : Card} {old new : List ℕ} {r : Edited} (n : ℕ) → length records / 24 < n → WritesBeside k (many_card have k file records store) old r new
-    → WritesBeside k (many_card have k file (take (n * 24) records) store) old r new
-all_records have file store records {k} {old} {new} {r} n h = subst (λ (t : List ℕ). WritesBeside k (many_card have k file t store) old r new) (sym (take_all (n * 24) records (omega arith)))

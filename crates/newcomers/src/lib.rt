@@ -11,14 +11,14 @@ ghost use Rattle.newcomers.specs.Records.{looked_at, record_of, record_put, stor
 use aerosnap::NewDevice;
 use cards::{Card, Edited};
 
-// How many entries of a table are looked at: a list holds 4,096 devices, so the next one is refused, and no entry behind it is met.
+// A list holds 4,096 devices, so the next one is refused, and no entry behind it is met.
+const LOOKED_AT: usize = 4097;
+
+// How many entries of a table are looked at.
 pub fn looked_at(count: usize) -> usize
     ensures { result ≡ looked_at count }
 {
-    if count <= 4097 {
-        return count;
-    }
-    4097
+    count.min(LOOKED_AT)
 }
 
 // The record of one device, over the start of `out`.
@@ -33,17 +33,15 @@ fn put_record(out: &mut [u8], d: NewDevice)
     wire::put_u64(out, 16, d.length);
 }
 
-// Record i of a table in bytes, and the next number; what does not fit is not written.
-fn put_at(records: &mut [u8], i: usize, d: NewDevice) -> usize
+// Record i of a table in bytes; what does not fit is not written.
+fn put_at(records: &mut [u8], i: usize, d: NewDevice)
     requires { i * 24 + 24 < 2 ^ 64 }
-    ensures { (result ≡ i + 1) × (records.new ≡ record_put i d records.old) }
+    ensures { records.new ≡ record_put i d records.old }
 {
     let at = i * 24;
     if wire::fits(records.len(), at, 24) {
         put_record(&mut records[at..], d);
-        return i + 1;
     }
-    i + 1
 }
 
 // Record i of a table in bytes, if i is among the entries that are looked at, and the next number, which never passes theirs. An entry by value has numbers as wide as its fields.
@@ -51,10 +49,11 @@ pub fn put(records: &mut [u8], i: usize, d: NewDevice) -> usize
     ensures stored { (result ≡ looked_at (i + 1)) × (records.new ≡ stored_in i d records.old) }
     ensures wide { WideEntry d }
 {
-    if i < 4097 {
-        return put_at(records, i, d);
+    if i < LOOKED_AT {
+        put_at(records, i, d);
+        return i + 1;
     }
-    4097
+    LOOKED_AT
 }
 
 // The call over bytes, for the first n records.
@@ -68,8 +67,6 @@ pub fn add_records(
 ) -> Edited
     ensures { WritesBeside card (many_card (length out.old) card file.now (take (n * 24) records.now) store.now) out.old result out.new }
 {
-    if n <= records.len() / 24 {
-        return snapshot::add_devices(file, card, &records[..n * 24], store, out);
-    }
-    snapshot::add_devices(file, card, records, store, out)
+    let end = records.len().min(n.saturating_mul(24));
+    snapshot::add_devices(file, card, &records[..end], store, out)
 }

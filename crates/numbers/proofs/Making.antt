@@ -17,9 +17,7 @@ use Rattle.kinds.specs.declared.Message.{Message}
 use Rattle.kinds.specs.declared.Form.{Form}
 use Rattle.kinds.specs.Kinds.{Kind, kinds, blank, paper}
 use Rattle.numbers.specs.declared.Numbers.{Numbers}
-use Rattle.numbers.specs.declared.Made.{Made as Code}
-use Rattle.numbers.specs.declared.Made.TheVariants.{Refused, Is}
-use Rattle.numbers.specs.Numbers.{kind_in, within, all_within, message_of, made_of, write_numbers}
+use Rattle.numbers.specs.Numbers.{kind_in, within, all_within, message_of, write_numbers}
 use Rattle.numbers.specs.Steps.{narrow_in, same_numbers}
 use Rattle.numbers.proofs.Rows.{narrowed, within_low, Row, Looked, none, one, looked, wide_tag}
 
@@ -63,16 +61,16 @@ by_look n (none x y) = rw y (record {
 })
 by_look n (one k x y z) = rw y (by_row n k x z)
 
-pub made : (n : Numbers) {m : Message} → m ≡ narrow_in kinds n.tag n.a n.b n.c n.d → {f : Form} → f ≡ paper m → Answers n m f
-made n e g = rw (g, e) (by_look n (looked n))
+pub made : (n : Numbers) {t : ℕ} → t ≡ n.tag → {m : Message} → m ≡ narrow_in kinds t n.a n.b n.c n.d → {f : Form} → f ≡ paper m → Answers n m f
+made n p e g = rw (g, e, p) (by_look n (looked n))
 
 -- ---- the answers of `write`
 
-pub write_refused : (n : Numbers) (d old : List ℕ) {r : Code} → made_of r ≡ message_of n → {x : ℕ} → r ≡ Refused x → Writes (write_numbers n d (length old)) old (record { number = x; place = 0 }) old
+pub write_refused : (n : Numbers) (d old : List ℕ) {x p : ℕ} → refused x p ≡ message_of n → Writes (write_numbers n d (length old)) old (record { number = x; place = p }) old
 unfolding write_numbers
-write_refused n d old e q = let h : message_of n ≡ refused _ 0 = sym e ∙ ap made_of q in rw h (record { answers = refl; leaves = refl })
+write_refused n d old h = rw (← h) (record { answers = refl; leaves = refl })
 
-pub write_made : (n : Numbers) (d old : List ℕ) {r : Code} → made_of r ≡ message_of n → {m : Message} → r ≡ Is m
+pub write_made : (n : Numbers) (d old : List ℕ) {m : Message} → taken m ≡ message_of n
     → {p : Answer} {new : List ℕ} → Writes (write_message m d (length old)) old p new → Writes (write_numbers n d (length old)) old p new
 unfolding write_numbers
-write_made n d old e q w = let h : message_of n ≡ taken _ = sym e ∙ ap made_of q in rw h w
+write_made n d old h w = rw (← h) w

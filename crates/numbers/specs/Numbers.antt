@@ -12,8 +12,6 @@ use Rattle.messages.specs.Fields.{field_width}
 use Rattle.messages.specs.Writing.{write_message}
 use Rattle.numbers.specs.declared.Numbers.{Numbers}
 use Rattle.numbers.specs.declared.Told.{Told}
-use Rattle.numbers.specs.declared.Made.{Made}
-use Rattle.numbers.specs.declared.Made.TheVariants.{Refused, Is}
 
 -- ---- from a message to its numbers
 
@@ -42,11 +40,6 @@ all_within f n = within f.a.0 n.a && (within f.b.0 n.b && (within f.c.0 n.c && w
 -- the message of a tag and its numbers
 unfoldable pub message_of : Numbers → Outcome Message
 message_of n = after (kind_in kinds n.tag) (λ k. checked ((all_within (blank k) n, VALUE, 0) ∷ []) (taken (k n.a n.b n.c n.d)))
-
--- the outcome that the code's own answer stands for
-abbrev pub made_of : Made → Outcome Message
-made_of (Refused n) = refused n 0
-made_of (Is m) = taken m
 
 -- ---- the calls
 

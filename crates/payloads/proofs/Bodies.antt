@@ -8,10 +8,11 @@ use Prim.Native.Nat.{ℕ, ◌≤◌, ◌<◌}
 use native.Mathlib.Omega.{arith}
 use lib.ListN.{length}
 use borrow.Author.Tests.{le-leb, eq-eqb, ne_eqb}
-use Rattle.answer.specs.declared.Piece.{Piece}
+use Rattle.std.proofs.Common.{Result}
+use Rattle.answer.specs.declared.Fault.{Fault}
 use Rattle.answer.specs.Numbers.{SHAPE, SIZE}
 use Rattle.answer.specs.Outcome.{Outcome, taken, refused, checked, after, done}
-use Rattle.answer.specs.Calls.{piece_of}
+use Rattle.answer.specs.Calls.{outcome_of}
 use Rattle.format.specs.Places.{read_at}
 use Rattle.format.proofs.Placed.{at_zero}
 use Rattle.entries.specs.States.{mmu_length}
@@ -51,7 +52,7 @@ module _ (v : ℕ) (p : List ℕ) where
 abbrev kept_by : ℕ → Body → List ℕ → Outcome (List ℕ)
 kept_by have k p = checked (part_checks p) (after (payload k p) (λ _. taken (whole have (starts k p))))
 
-module _ {old new : List ℕ} {r : Piece} where
+module _ {old new : List ℕ} {r : Result ℕ Fault} where
   -- one whose body is told by its id
   module _ (v : ℕ) (p : List ℕ) {id n : ℕ} (e : id ≡ n) where
     pub kept_list : (d : Description) → body_of n v ≡ list d → Indexed (index_of d (length old) p) old r new → Indexed (kept_of (length old) id v p) old r new
@@ -63,18 +64,18 @@ module _ {old new : List ℕ} {r : Piece} where
         go (refused n q) = refl
 
 -- what is no list leaves the places as they were
-none_kept : (o : Outcome (Unit {0})) {old : List ℕ} {r : Piece} → piece_of r ≡ after o (λ _. taken 0) → Indexed (after o (λ _. taken [])) old r old
+none_kept : (o : Outcome (Unit {0})) {old : List ℕ} {r : Result ℕ Fault} → outcome_of r ≡ after o (λ _. taken 0) → Indexed (after o (λ _. taken [])) old r old
 none_kept (taken tt) e = record { answers = e; leaves = refl }
 none_kept (refused a b) e = record { answers = e; leaves = refl }
 
-module _ {old : List ℕ} {r : Piece} where
+module _ {old : List ℕ} {r : Result ℕ Fault} where
   -- a payload that is too long
-  pub kept_long : (id v : ℕ) (p : List ℕ) → 1073741824 < length p → piece_of r ≡ refused SIZE 0 → Indexed (kept_of (length old) id v p) old r old
+  pub kept_long : (id v : ℕ) (p : List ℕ) → 1073741824 < length p → outcome_of r ≡ refused SIZE 0 → Indexed (kept_of (length old) id v p) old r old
   kept_long id v p h i =
       rw (← part_long p (after (payload (body_of id v) p) (λ _. taken (whole (length old) (starts (body_of id v) p)))) h) (none_kept (refused SIZE 0) i)
 
   pub kept_plain : (v : ℕ) (p : List ℕ) {id n : ℕ} → id ≡ n → (k : Body) → body_of n v ≡ k → starts k p ≡ [] → length p ≤ 1073741824
-      → {o : Outcome (Unit {0})} → o ≡ payload k p → piece_of r ≡ after o (λ _. taken 0) → Indexed (kept_of (length old) id v p) old r old
+      → {o : Outcome (Unit {0})} → o ≡ payload k p → outcome_of r ≡ after o (λ _. taken 0) → Indexed (kept_of (length old) id v p) old r old
   kept_plain v p e k b s h {o} q i =
       let z : whole (length old) (starts k p) ≡ [] = rw (s, le-leb 0 (length old) (omega arith)) in
       subst (λ (o : Outcome (List ℕ)). Indexed o old r old)

@@ -3,7 +3,7 @@
 
 ghost use Rattle.std.specs.Prelude.{◌≡◌, [], ◌≤◌, length};
 ghost use Rattle.answer.specs.Outcome.{taken, after};
-ghost use Rattle.answer.specs.Calls.{piece_of, test_of};
+ghost use Rattle.answer.specs.Calls.{outcome_of};
 ghost use Rattle.format.specs.Format.{option, pair, bytes, text};
 ghost use Rattle.format.specs.Places.{read_at};
 ghost use Rattle.lists.specs.Promises.{Indexed};
@@ -11,9 +11,9 @@ ghost use Rattle.aerosnap.specs.Payloads.{label_most, meta_form, meta, mmu, payl
 ghost use Rattle.aerosnap.specs.File.{file_most};
 ghost use Rattle.payloads.specs.Starts.{kept_of};
 
-use answer::{Piece, SHAPE, SIZE, Test};
+use answer::{Fault, Refusal};
 use entries::Kind;
-use format::{Flag, block_at, flag_at, text_at};
+use format::{block_at, flag_at, text_at};
 use lists::FILE_MOST;
 
 // ---- META
@@ -21,90 +21,80 @@ use lists::FILE_MOST;
 // The bound of its label.
 const LABEL_MOST: u32 = 4096;
 
-fn parent_at(s: &[u8], at: usize) -> Piece
-    ensures { piece_of result ≡ read_at (option (bytes 8)) s.now at }
+fn parent_at(s: &[u8], at: usize) -> Result<usize, Fault>
+    ensures { outcome_of result ≡ read_at (option (bytes 8)) s.now at }
 {
-    match flag_at(s, at) {
-        Flag::Bad(number, place) => Piece::Stop(number, place),
-        Flag::Absent => Piece::Ends(at + 1),
-        Flag::Present => block_at(s, at + 1, 8),
+    let given = flag_at(s, at)?;
+    if given {
+        return block_at(s, at + 1, 8);
     }
+    Ok(at + 1)
 }
 
-fn label_at(s: &[u8], at: usize) -> Piece
-    ensures { piece_of result ≡ read_at (option (text label_most)) s.now at }
+fn label_at(s: &[u8], at: usize) -> Result<usize, Fault>
+    ensures { outcome_of result ≡ read_at (option (text label_most)) s.now at }
 {
-    match flag_at(s, at) {
-        Flag::Bad(number, place) => Piece::Stop(number, place),
-        Flag::Absent => Piece::Ends(at + 1),
-        Flag::Present => text_at(s, at + 1, LABEL_MOST),
+    let given = flag_at(s, at)?;
+    if given {
+        return text_at(s, at + 1, LABEL_MOST);
     }
+    Ok(at + 1)
 }
 
 // The time and the label.
-fn time_at(s: &[u8], at: usize) -> Piece
-    ensures { piece_of result ≡ read_at (pair (bytes 8) (option (text label_most))) s.now at }
+fn time_at(s: &[u8], at: usize) -> Result<usize, Fault>
+    ensures { outcome_of result ≡ read_at (pair (bytes 8) (option (text label_most))) s.now at }
 {
-    match block_at(s, at, 8) {
-        Piece::Stop(number, place) => Piece::Stop(number, place),
-        Piece::Ends(e) => label_at(s, e),
-    }
+    let e = block_at(s, at, 8)?;
+    label_at(s, e)
 }
 
 // The parent, the time and the label.
-fn since_at(s: &[u8], at: usize) -> Piece
-    ensures { piece_of result ≡ read_at (pair (option (bytes 8)) (pair (bytes 8) (option (text label_most)))) s.now at }
+fn since_at(s: &[u8], at: usize) -> Result<usize, Fault>
+    ensures { outcome_of result ≡ read_at (pair (option (bytes 8)) (pair (bytes 8) (option (text label_most)))) s.now at }
 {
-    match parent_at(s, at) {
-        Piece::Stop(number, place) => Piece::Stop(number, place),
-        Piece::Ends(e) => time_at(s, e),
-    }
+    let e = parent_at(s, at)?;
+    time_at(s, e)
 }
 
-fn fields(s: &[u8]) -> Piece
-    ensures { piece_of result ≡ read_at meta_form s.now 0 }
+fn fields(s: &[u8]) -> Result<usize, Fault>
+    ensures { outcome_of result ≡ read_at meta_form s.now 0 }
 {
-    match block_at(s, 0, 8) {
-        Piece::Stop(number, place) => Piece::Stop(number, place),
-        Piece::Ends(e) => since_at(s, e),
-    }
+    let e = block_at(s, 0, 8)?;
+    since_at(s, e)
 }
 
 // What stands behind its last field is a tail.
-fn snapshot_meta(p: &[u8]) -> Test
-    ensures { test_of result ≡ payload meta p.now }
+fn snapshot_meta(p: &[u8]) -> Result<(), Fault>
+    ensures { outcome_of result ≡ payload meta p.now }
 {
-    match fields(p) {
-        Piece::Stop(number, place) => Test::Fault(number, place),
-        Piece::Ends(_) => Test::Fine,
-    }
+    fields(p)?;
+    Ok(())
 }
 
 // ---- MMU
 
-fn mmu_state(version: u16, p: &[u8]) -> Test
-    ensures { test_of result ≡ payload (mmu version) p.now }
+fn mmu_state(version: u16, p: &[u8]) -> Result<(), Fault>
+    ensures { outcome_of result ≡ payload (mmu version) p.now }
 {
     if p.len() == entries::mmu_length(version) {
-        return Test::Fine;
+        return Ok(());
     }
-    Test::Fault(SHAPE, 0)
+    Err(Fault(Refusal::Shape, 0))
 }
 
 // ---- any payload
 
 // What is no list has no starts.
-fn plain(t: Test) -> Piece
-    ensures { piece_of result ≡ after (test_of t) (λ _. taken 0) }
+fn plain(t: Result<(), Fault>) -> Result<usize, Fault>
+    ensures { outcome_of result ≡ after (outcome_of t) (λ _. taken 0) }
 {
-    match t {
-        Test::Fault(number, place) => Piece::Stop(number, place),
-        Test::Fine => Piece::Ends(0),
-    }
+    t?;
+    Ok(0)
 }
 
 // Each payload by its own reader.
-fn body(id: u32, version: u16, p: &[u8], starts: &mut [u32]) -> Piece
+fn body(id: u32, version: u16, p: &[u8], starts: &mut [u32]) -> Result<usize, Fault>
     requires { length p.now ≤ file_most }
     ensures { Indexed (kept_of (length starts.old) id version p.now) starts.old result starts.new }
 {
@@ -116,17 +106,17 @@ fn body(id: u32, version: u16, p: &[u8], starts: &mut [u32]) -> Piece
         5 => lists::index(Kind::Disks, p, starts),
         7 => lists::index(Kind::Cpus(version), p, starts),
         8 => lists::index(Kind::Mmus(version), p, starts),
-        _ => plain(Test::Fine),
+        _ => plain(Ok(())),
     }
 }
 
 // The first fault of the payload of a section with that id and version, or how many starts are kept of it: those of all entries of a list, the first of `starts` in the order of their keys, or none where `starts` holds fewer or it is no list.
 // What stands behind them is left as it was, and so is all of it after a refusal. A part longer than a file may be is SIZE.
-pub fn index(id: u32, version: u16, p: &[u8], starts: &mut [u32]) -> Piece
+pub fn index(id: u32, version: u16, p: &[u8], starts: &mut [u32]) -> Result<usize, Fault>
     ensures { Indexed (kept_of (length starts.old) id version p.now) starts.old result starts.new }
 {
     if FILE_MOST < p.len() {
-        return plain(Test::Fault(SIZE, 0));
+        return Err(Fault(Refusal::Size, 0));
     }
     body(id, version, p, starts)
 }

@@ -1,7 +1,8 @@
--- What a call takes is told by its number: no refusal of a file or a wrapper has the number 0.
+-- What a call takes is told by its number: no refusal of a wrapper has the number 0.
 -- Assumes nothing.
 use mathlib.Core.Path.{◌≡◌, refl}
-use mathlib.Core.Bool.{true, false}
+use lib.Dec.{eqb}
+use borrow.Author.Tests.{ne_eqb}
 use mathlib.Core.List.{List}
 use Prim.Native.Nat.{ℕ}
 use native.Mathlib.Omega.{arith}
@@ -27,11 +28,6 @@ unfolding wrapper_of
 wrapper_faulty s =
     checked_faulty (wrapper_header_checks s) (moved 16 (list_at controllers (drop 16 s))) (refl, (refl, (refl, (refl, (refl, (refl, tt)))))) (moved_faulty 16 (list_at controllers (drop 16 s)) (list_faulty controller_faults (drop 16 s)))
 
-module _ {A : Type 0} where
-  pub number_taken : (o : Outcome A) → Faulty o → (verdict o).number ≡ 0 → is_taken o ≡ true
-  number_taken (taken a) f h = refl
-  number_taken (refused n p) f h = absurd (omega (arith, fault_some n f))
-
-  pub number_refused : (o : Outcome A) → ((verdict o).number ≡ 0 → ⊥) → is_taken o ≡ false
-  number_refused (taken a) h = absurd (h refl)
-  number_refused (refused n p) h = refl
+pub number_told : {A : Type 0} (o : Outcome A) → Faulty o → eqb (verdict o).number 0 ≡ is_taken o
+number_told (taken a) f = refl
+number_told (refused n p) f = ne_eqb n 0 (λ z. omega (arith, fault_some n f))

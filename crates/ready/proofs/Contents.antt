@@ -2,16 +2,17 @@
 -- Assumes nothing.
 use mathlib.Core.Path.{◌≡◌, refl, sym, ◌∙◌, ap, subst}
 use mathlib.Core.List.{List, [], ◌∷◌, ◌++◌, map, append-nil}
-use mathlib.Core.Bool.{Bool, true, false, not, cond}
+use mathlib.Core.Bool.{Bool, true, false, cond}
 use Prim.Native.Nat.{ℕ, ◌≤◌}
 use native.Mathlib.Omega.{arith}
 use lib.ListN.{length, take, drop, length-append}
 use lib.Seq.{take-append_seam}
-use lib.Dec.{eqb}
 use borrow.Author.Tests.{eqb-true, ne_eqb}
 use Rattle.answer.specs.declared.Answer.{Answer}
 use Rattle.answer.specs.Outcome.{Outcome, taken, refused, after, fitting}
-use Rattle.answer.specs.Calls.{answer, memory, Writes}
+use Rattle.answer.specs.Calls.{answer, memory, Writes, WritesCount}
+use Rattle.std.proofs.Common.{Result}
+use Rattle.answer.specs.declared.Fault.{Fault}
 use Rattle.answer.proofs.Table.{fault_some}
 use Rattle.wire.specs.Numbers.{Bytes, le, le_at}
 use Rattle.order.specs.Keyed.{Every, flat, keep}
@@ -33,10 +34,9 @@ use Rattle.aerosnap.proofs.Canonical.{taken_fits}
 use Rattle.aerosnap.proofs.Rows.{sections-length}
 use Rattle.aerosnap.proofs.Records.{section-rows}
 use Rattle.aerosnap.proofs.Named.{file_faulty}
-use Rattle.ready.specs.declared.Readiness.{Readiness}
 use Rattle.ready.specs.Missing.{Need, wanted, name_in, lacking, missing, pair_bytes, pairs_bytes, ready_call, Tells}
-use Rattle.ready.specs.Steps.{NamesSections, payload_in, Stands, notes, names, pair_for, pairs_for}
-use Rattle.ready.proofs.Present.{note_sorted, either_sorted, wrapper_sorted}
+use Rattle.ready.specs.Steps.{NamesSections, payload_in, Stands, found_in, names, pair_for, pairs_for}
+use Rattle.ready.proofs.Present.{seen_sorted, either_sorted, wrapper_sorted}
 
 -- ---- the list of a known id
 
@@ -64,21 +64,21 @@ module _ (i : ℕ) (d : Description) (k : known i ≡ true) (b : (v : ℕ) → b
 
 -- ---- what is missing
 
--- 0 is noted of each thing exactly where a content lacks it
-abbrev Told : Content → List Need → List ℕ → Type 0
+-- each thing is told exactly where a content has it
+abbrev Told : Content → List Need → List Bool → Type 0
 Told c [] [] = Unit {0}
 Told c [] (x ∷ l) = ⊥
 Told c (n ∷ ns) [] = ⊥
-Told c (n ∷ ns) (x ∷ l) = (eqb x 0 ≡ not (n.there c)) × Told c ns l
+Told c (n ∷ ns) (x ∷ l) = (x ≡ n.there c) × Told c ns l
 
-pair-lacking : (c : Content) (n : Need) (x : ℕ) → eqb x 0 ≡ not (n.there c) → pair_for (name_in n) x ≡ pairs_bytes (lacking c n)
+pair-lacking : (c : Content) (n : Need) (x : Bool) → x ≡ n.there c → pair_for (name_in n) x ≡ pairs_bytes (lacking c n)
 pair-lacking c n x h = rw h (go (n.there c))
   where
-    go : (t : Bool) → cond (not t) (pair_bytes (name_in n)) [] ≡ pairs_bytes (cond t [] (name_in n ∷ []))
+    go : (t : Bool) → cond t [] (pair_bytes (name_in n)) ≡ pairs_bytes (cond t [] (name_in n ∷ []))
     go true = refl
     go false = sym (append-nil (pair_bytes (name_in n)))
 
-pairs-lacking : (c : Content) (ns : List Need) (l : List ℕ) → Told c ns l → pairs_for (map name_in ns) l ≡ pairs_bytes (flat (lacking c) ns)
+pairs-lacking : (c : Content) (ns : List Need) (l : List Bool) → Told c ns l → pairs_for (map name_in ns) l ≡ pairs_bytes (flat (lacking c) ns)
 unfolding pairs_for
 pairs-lacking c [] [] h = refl
 pairs-lacking c [] (x ∷ l) h = absurd h
@@ -96,14 +96,14 @@ module _ (l : List (List ℕ)) (f : IsFile l) where
   pub disks_stand : Stands disks (payload_in DISKS l) (entries_in DISKS disks l)
   disks_stand = payload-stands DISKS disks refl (λ v. refl) l f.are f.once
 
-  pub pairs-missing : pairs_for names (notes (payload_in DEVICES l) (entries_in DEVICES devices l) (entries_in DISKS disks l)) ≡ pairs_bytes (missing (content_of l))
+  pub pairs-missing : pairs_for names (found_in (payload_in DEVICES l) (entries_in DEVICES devices l) (entries_in DISKS disks l)) ≡ pairs_bytes (missing (content_of l))
   pairs-missing =
       let m : List (List ℕ) = entries_in DEVICES devices l in
       let k : List (List ℕ) = entries_in DISKS disks l in
       let v = devices_stand in
-      let has = note_sorted devices.key in
-      let disk = note_sorted disks.key in
-      pairs-lacking (content_of l) wanted (notes (payload_in DEVICES l) m k)
+      let has = seen_sorted devices.key in
+      let disk = seen_sorted disks.key in
+      pairs-lacking (content_of l) wanted (found_in (payload_in DEVICES l) m k)
       (has 3 m, (has 4 m, (wrapper_sorted devices.key 6 (payload_in DEVICES l) m v.rest v.cut v.are, (has 13 m, (has 16 m, (has 17 m, (either_sorted devices.key 2 21 m, (disk 0 k, (disk 1 k, tt)))))))))
 
 -- ---- the calls
@@ -160,13 +160,13 @@ module _ (s zero : List ℕ) (room : 2048 ≤ length zero) where
             let v = section-rows s y (omega (arith, ap length f.0, f.1.short)) 16 0 l (omega (arith, f.1.few)) (ap (drop 16) f.0) f.1.are in
             record { sections = l; read = e; inside = omega (arith, ap length t, length-append b (drop (length b) zero)); names = record { rows = v.rows; bytes = part ∙ v.bytes; names = v.names } }
 
--- what is noted by the payloads of a file that is taken is told as the call says
+-- what is found in the payloads of a file that is taken is listed as the call says
 pub judged : (s old : List ℕ) (l : List (List ℕ)) → file_of s ≡ taken l → (x y : List ℕ) → x ≡ payload_in DEVICES l → y ≡ payload_in DISKS l
-    → {noted : List ℕ} → ((m k : List (List ℕ)) → Stands devices x m → Stands disks y k → noted ≡ notes x m k)
-    → {r : Readiness} {new : List ℕ} → Tells (fitting (length old) (pairs_for names noted)) old r new → Tells (ready_call (length old) s) old r new
-judged s old l h x y p q {noted} n {r} {new} t =
+    → {told : List Bool} → ((m k : List (List ℕ)) → Stands devices x m → Stands disks y k → told ≡ found_in x m k)
+    → {r : Result ℕ Fault} {new : List ℕ} → WritesCount (fitting (length old) (pairs_for names told)) old r new → WritesCount (ready_call (length old) s) old r new
+judged s old l h x y p q {told} n {r} {new} t =
     let f = (file_sound s h).1 in
     let m : List (List ℕ) = entries_in DEVICES devices l in
     let k : List (List ℕ) = entries_in DISKS disks l in
-    let e : noted ≡ notes (payload_in DEVICES l) m k = n m k (rw p (devices_stand l f)) (rw q (disks_stand l f)) ∙ ap (λ (z : List ℕ). notes z m k) p in
-    subst (λ (o : Outcome (List ℕ)). Tells o old r new) (ap (λ (z : List ℕ). fitting (length old) (pairs_for names z)) e ∙ ap (fitting (length old)) (pairs-missing l f) ∙ sym (ready_taken s old h)) t
+    let e : told ≡ found_in (payload_in DEVICES l) m k = n m k (rw p (devices_stand l f)) (rw q (disks_stand l f)) ∙ ap (λ (z : List ℕ). found_in z m k) p in
+    subst (λ (o : Outcome (List ℕ)). WritesCount o old r new) (ap (λ (z : List Bool). fitting (length old) (pairs_for names z)) e ∙ ap (fitting (length old)) (pairs-missing l f) ∙ sym (ready_taken s old h)) t

@@ -24,8 +24,8 @@ use Rattle.order.proofs.Inserts.{insert_nil}
 use Rattle.order.proofs.Sorts.{sort_perm, keep-sort}
 use Rattle.order.proofs.Starts.{drop_past}
 use Rattle.entries.specs.Kinds.{id_key, devices}
-use Rattle.ready.specs.Missing.{has_id, with_id, wraps, one_wrapper}
-use Rattle.ready.specs.Steps.{mark, note_of, payload_from, wrapper_at, either}
+use Rattle.ready.specs.Missing.{has_id, with_id, one_wrapper}
+use Rattle.ready.specs.Steps.{mark, note_of, payload_from, wrapper_at, seen}
 
 -- ---- an id that an entry has
 
@@ -71,16 +71,16 @@ has_sorted key k m = go (has_id k (sort key m)) (has_id k m) refl refl
     go false true p q = sym (moved (sort_perm key m) p) ∙ q
     go false false p q = refl
 
-pub note_sorted : (key : List ℕ → ℕ) (k : ℕ) (m : List (List ℕ)) → eqb (note_of k 0 4 m) 0 ≡ not (has_id k (sort key m))
-note_sorted key k m = note_has k 4 m (omega arith) ∙ ap not (sym (has_sorted key k m))
+twice : (b : Bool) → not (not b) ≡ b
+twice true = refl
+twice false = refl
+
+pub seen_sorted : (key : List ℕ → ℕ) (k : ℕ) (m : List (List ℕ)) → seen k m ≡ has_id k (sort key m)
+seen_sorted key k m = ap not (note_has k 4 m (omega arith)) ∙ twice (has_id k m) ∙ sym (has_sorted key k m)
 
 -- one or the other
-pub either_sorted : (key : List ℕ → ℕ) (i j : ℕ) (m : List (List ℕ)) → eqb (either (note_of i 0 4 m) (note_of j 0 4 m)) 0 ≡ not (has_id i (sort key m) || has_id j (sort key m))
-either_sorted key i j m = go (has_id i (sort key m)) (note_sorted key i m) (note_sorted key j m)
-  where
-    go : (a : Bool) → eqb (note_of i 0 4 m) 0 ≡ not a → eqb (note_of j 0 4 m) 0 ≡ not (has_id j (sort key m)) → eqb (either (note_of i 0 4 m) (note_of j 0 4 m)) 0 ≡ not (a || has_id j (sort key m))
-    go true p q = rw (p, cond) p
-    go false p q = rw (p, cond) q
+pub either_sorted : (key : List ℕ → ℕ) (i j : ℕ) (m : List (List ℕ)) → (seen i m || seen j m) ≡ (has_id i (sort key m) || has_id j (sort key m))
+either_sorted key i j m = rw (seen_sorted key i m, seen_sorted key j m) refl
 
 -- ---- the only entry with an id
 
@@ -155,22 +155,18 @@ one_only [] h = absurd (omega arith)
 one_only (e ∷ []) h = absurd (omega arith)
 one_only (e ∷ f ∷ l) h = refl
 
--- 1 is noted of the wrapper exactly where exactly one entry has the id, and its payload is an accepted wrapper
+-- the wrapper is told exactly where exactly one entry has the id, and its payload is an accepted wrapper
 pub wrapper_sorted : (key : List ℕ → ℕ) (k : ℕ) (s : List ℕ) (m : List (List ℕ)) (rest : List ℕ) → drop 4 s ≡ join m ++ rest → Every (Is devices.form) m
-    → eqb (wrapper_at s (note_of k 0 4 m)) 0 ≡ not (one_wrapper (with_id k (sort key m)))
+    → wrapper_at s (note_of k 0 4 m) ≡ one_wrapper (with_id k (sort key m))
 wrapper_sorted key k s m rest c a = go (spotted k s 4 m rest c a (omega arith))
   where
     ordered : with_id k (sort key m) ≡ sort key (with_id k m)
     ordered = keep-sort key (λ e. eqb (id_key e) k) m
 
-    told : (b : Bool) → eqb (cond b 1 0) 0 ≡ not b
-    told true = refl
-    told false = refl
-
-    go : Spotted (with_id k m) s (note_of k 0 4 m) → eqb (wrapper_at s (note_of k 0 4 m)) 0 ≡ not (one_wrapper (with_id k (sort key m)))
+    go : Spotted (with_id k m) s (note_of k 0 4 m) → wrapper_at s (note_of k 0 4 m) ≡ one_wrapper (with_id k (sort key m))
     go (inl (q, r)) = rw (ordered, q, r)
     go (inr (inl v)) =
-        rw (ordered, v.only, insert_nil key, le-leb 4 (note_of k 0 4 m) v.far, payload-from (drop (note_of k 0 4 m) s) v.e v.rest v.cut v.is) (told (wraps v.e))
+        rw (ordered, v.only, insert_nil key, le-leb 4 (note_of k 0 4 m) v.far, payload-from (drop (note_of k 0 4 m) s) v.e v.rest v.cut v.is) refl
     go (inr (inr (q, r))) =
         let n : length (sort key (with_id k m)) ≡ length (with_id k m) = perm_length (sort_perm key (with_id k m)) in
         rw (ordered, r, one_only (sort key (with_id k m)) (omega arith))

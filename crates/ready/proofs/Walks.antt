@@ -1,19 +1,19 @@
 -- What the loops keep: the search of a section in the table of sections, the walk over the entries of a list, and the list of what is missing.
 -- Assumes nothing.
-use mathlib.Core.Path.{◌≡◌, refl, sym, ◌∙◌, ap}
+use mathlib.Core.Path.{◌≡◌, refl, sym, ◌∙◌, ap, subst}
 use mathlib.Core.List.{List, [], ◌∷◌, ◌++◌, append_assoc, append-nil}
 use mathlib.Core.Bool.{Bool, true, false, cond}
 use Prim.Native.Nat.{ℕ, ◌+◌, ◌*◌, ◌≤◌, ◌<◌}
 use native.Mathlib.Omega.{arith}
 use native.Mathlib.Numerals.{add-one}
 use lib.ListN.{length, take, drop, get_or, set, length-append, length-drop, length-take}
-use lib.Seq.{drop-cons, drop-drop, drop-append_seam, take-append_seam, get_or-set_same, get_or-set_other}
+use lib.Seq.{drop-cons, drop-append_seam, take-append_seam, get_or-set_same, get_or-set_other}
 use lib.Dec.{ltb, eqb}
 use borrow.Author.Tests.{eqb-true, eqb-false, eq-eqb, ne_eqb, ltb-false}
 use Rattle.wire.specs.Numbers.{le_at, bytes_of}
 use Rattle.wire.specs.Parts.{Wrote}
-use Rattle.wire.proofs.Numbers.{le_at-append, le_at-drop, le_at_here, length-bytes_of}
-use Rattle.wire.proofs.Parts.{none, wrote_splice, wrote_length}
+use Rattle.wire.proofs.Numbers.{le_at-append, le_at_here, length-bytes_of}
+use Rattle.wire.proofs.Parts.{wrote_splice}
 use Rattle.format.specs.Format.{Format, read, span, Is}
 use Rattle.format.proofs.Meaning.{complete}
 use Rattle.format.proofs.Spans.{span-read}
@@ -27,19 +27,15 @@ use Rattle.entries.specs.Code.{describe}
 use Rattle.entries.proofs.Lawful.{lawful}
 use Rattle.tables.specs.Named.{NamesFramed, Each}
 use Rattle.aerosnap.specs.File.{id_of}
-use Rattle.ready.specs.Missing.{pair_bytes}
-use Rattle.ready.specs.Steps.{run_in, NamesSections, payload_in, Stands, mark, noted, note_of, NotedAll, names, wanted_name, pair_for, pairs_for, PutAt}
+use Rattle.ready.specs.Steps.{NamesSections, payload_in, Stands, mark, noted, note_of, NotedAll, names, wanted_name, pair_for, pairs_for, PutAt}
 
 -- ---- payload_of
 
 -- the sections to come are named by the rest of the table, and the payload is theirs
-pub record Seeks (id : ℕ) (s table : List ℕ) (l : List (List ℕ)) (at : ℕ) : Type 0 where
+pub record Seeks (id : ℕ) (s rest : List ℕ) (l : List (List ℕ)) : Type 0 where
   pub left : List (List ℕ)
-  pub names : NamesSections s left (drop at table)
+  pub names : NamesSections s left rest
   pub same : payload_in id l ≡ payload_in id left
-
-pub seeks_start : (id : ℕ) (s table : List ℕ) (l : List (List ℕ)) → NamesSections s l table → Seeks id s table l 0
-seeks_start id s table l n = record { left = l; names = n; same = refl }
 
 payload_here : (id : ℕ) (e : List ℕ) (l : List (List ℕ)) → id_of e ≡ id → payload_in id (e ∷ l) ≡ drop 16 e
 unfolding payload_in
@@ -49,57 +45,47 @@ payload-later : (id : ℕ) (e : List ℕ) (l : List (List ℕ)) → (id_of e ≡
 unfolding payload_in
 payload-later id e l h = rw (ne_eqb (id_of e) id h, payload_in)
 
-module _ (id : ℕ) (s table : List ℕ) (l : List (List ℕ)) (at : ℕ) where
-  -- the record at a place and the section that it names, and those behind them
-  record Next : Type 0 where
-    row : List ℕ
+module _ (id : ℕ) (s : List ℕ) (l : List (List ℕ)) where
+  -- a row of the table names the next section, and what is behind it those that follow
+  record Next (row rest : List ℕ) : Type 0 where
     e : List ℕ
     more : List (List ℕ)
     names : NamesFramed s row e
-    cut : drop at table ≡ row ++ drop (at + 32) table
-    rest : NamesSections s more (drop (at + 32) table)
+    others : NamesSections s more rest
     same : payload_in id l ≡ payload_in id (e ∷ more)
 
-  next : Seeks id s table l at → at < length table → Next
-  next v h = go v.names.rows v.left v.names.bytes v.names.names v.same
+  next : {all : List ℕ} (row rest : List ℕ) → Seeks id s all l → all ≡ row ++ rest → length row ≡ 32 → Next row rest
+  next row rest v c h = go v.names.rows v.left (sym c ∙ v.names.bytes) v.names.names v.same
     where
-      go : (rows left : List (List ℕ)) → drop at table ≡ join rows → Each (NamesFramed s) rows left → payload_in id l ≡ payload_in id left → Next
-      go [] left b n q = absurd (omega (arith, length-drop at table, ap length b))
+      go : (rows left : List (List ℕ)) → row ++ rest ≡ join rows → Each (NamesFramed s) rows left → payload_in id l ≡ payload_in id left → Next row rest
+      go [] left b n q = absurd (omega (arith, length-append row rest, ap length b))
       go (r ∷ rows) [] b n q = absurd n
       go (r ∷ rows) (e ∷ left) b n q =
-          let long : length r ≡ 32 = n.0.long in
-          let d : drop (at + 32) table ≡ join rows = sym (drop-drop 32 at table) ∙ ap (drop 32) b ∙ ap (λ (k : ℕ). drop k (r ++ join rows)) (sym long) ∙ drop-append_seam r (join rows) in
-          record { row = r; e = e; more = left; names = n.0; cut = b ∙ ap (λ (x : List ℕ). r ++ x) (sym d); rest = record { rows = rows; bytes = d; names = n.1 }; same = q }
+          let k : length r ≡ length row = n.0.long ∙ sym h in
+          let f : row ≡ r = sym (take-append_seam row rest) ∙ ap (take (length row)) b ∙ ap (λ (j : ℕ). take j (r ++ join rows)) (sym k) ∙ take-append_seam r (join rows) in
+          let d : rest ≡ join rows = sym (drop-append_seam row rest) ∙ ap (drop (length row)) b ∙ ap (λ (j : ℕ). drop j (r ++ join rows)) (sym k) ∙ drop-append_seam r (join rows) in
+          record { e = e; more = left; names = subst (λ (x : List ℕ). NamesFramed s x e) (sym f) n.0; others = record { rows = rows; bytes = d; names = n.1 }; same = q }
 
-  -- a number of the record
-  number_in : (x : Next) (n k : ℕ) → k + n ≤ 32 → le_at n table (at + k) ≡ le_at n x.row k
-  number_in x n k h = sym (le_at-drop n table at k) ∙ ap (λ (t : List ℕ). le_at n t k) x.cut ∙ le_at-append n x.row (drop (at + 32) table) k (omega (arith, x.names.long))
+  module _ {all : List ℕ} (row rest : List ℕ) (v : Seeks id s all l) (c : all ≡ row ++ rest) (h : length row ≡ 32) where
+    pub seeks_found : {i p n : ℕ} → i ≡ le_at 4 row 0 → i ≡ id → p ≡ le_at 8 row 8 → n ≡ le_at 8 row 16 → {b : List ℕ} → b ≡ take n (drop p s) → b ≡ payload_in id l
+    seeks_found {i} {p} {n} a b j k t =
+        let x = next row rest v c h in
+        t ∙ rw (j, k) x.names.payload ∙ sym (x.same ∙ payload_here id x.e x.more (sym x.names.id ∙ sym a ∙ b))
 
-  id-in : (x : Next) → le_at 4 table at ≡ id_of x.e
-  id-in x = sym (le_at_here 4 table at) ∙ ap (λ (t : List ℕ). le_at 4 t 0) x.cut ∙ le_at-append 4 x.row (drop (at + 32) table) 0 (omega (arith, x.names.long)) ∙ x.names.id
+    pub seeks_next : {i : ℕ} → i ≡ le_at 4 row 0 → (i ≡ id → ⊥) → Seeks id s rest l
+    seeks_next {i} a b =
+        let x = next row rest v c h in
+        record { left = x.more; names = x.others; same = x.same ∙ payload-later id x.e x.more (λ z. b (a ∙ x.names.id ∙ z)) }
 
-  pub seeks_found : Seeks id s table l at → at < length table → {i p n : ℕ} → i ≡ le_at 4 table at → i ≡ id → p ≡ le_at 8 table (at + 8) → n ≡ le_at 8 table (at + 16)
-      → run_in s (record { at = p; len = n }) ≡ payload_in id l
-  seeks_found v h {i} {p} {n} a b c d =
-      let x = next v h in
-      let j : n ≡ le_at 8 x.row 16 = d ∙ number_in x 8 16 (omega arith) in
-      let k : p ≡ le_at 8 x.row 8 = c ∙ number_in x 8 8 (omega arith) in
-      rw (j, k) x.names.payload ∙ sym (x.same ∙ payload_here id x.e x.more (sym (id-in x) ∙ sym a ∙ b))
-
-  pub seeks_next : Seeks id s table l at → at < length table → {i : ℕ} → i ≡ le_at 4 table at → (i ≡ id → ⊥) → Seeks id s table l (at + 32)
-  seeks_next v h {i} a b =
-      let x = next v h in
-      record { left = x.more; names = x.rest; same = x.same ∙ payload-later id x.e x.more (λ z. b (a ∙ id-in x ∙ z)) }
-
-  pub seeks_end : Seeks id s table l at → length table ≤ at → run_in s (record { at = 0; len = 0 }) ≡ payload_in id l
+  pub seeks_end : {rest : List ℕ} → Seeks id s rest l → length rest < 32 → [] ≡ payload_in id l
   unfolding payload_in
-  seeks_end v h = go v.names.rows v.left v.names.bytes v.names.names v.same
+  seeks_end {rest} v h = go v.names.rows v.left v.names.bytes v.names.names v.same
     where
-      go : (rows left : List (List ℕ)) → drop at table ≡ join rows → Each (NamesFramed s) rows left → payload_in id l ≡ payload_in id left → run_in s (record { at = 0; len = 0 }) ≡ payload_in id l
+      go : (rows left : List (List ℕ)) → rest ≡ join rows → Each (NamesFramed s) rows left → payload_in id l ≡ payload_in id left → [] ≡ payload_in id l
       go [] [] b n q = sym q
       go [] (e ∷ left) b n q = absurd n
       go (r ∷ rows) [] b n q = absurd n
-      go (r ∷ rows) (e ∷ left) b n q = absurd (omega (arith, length-drop at table, ap length b, length-append r (join rows), n.0.long))
+      go (r ∷ rows) (e ∷ left) b n q = absurd (omega (arith, ap length b, length-append r (join rows), n.0.long))
 
 -- ---- note_all
 
@@ -190,44 +176,35 @@ module _ (kind : Kind) {s : List ℕ} {m : List (List ℕ)} {n : ℕ} {old new :
 
 -- ---- put_missing
 
-pair_most : (p : ℕ × ℕ) (x : ℕ) → length (pair_for p x) ≤ 8
-pair_most p x = go (eqb x 0)
-  where
-    go : (b : Bool) → length (cond b (pair_bytes p) []) ≤ 8
-    go true = omega (arith, length-append (bytes_of 4 p.0) (bytes_of 4 p.1), length-bytes_of 4 p.0, length-bytes_of 4 p.1)
-    go false = omega arith
+pair_most : (p : ℕ × ℕ) (x : Bool) → length (pair_for p x) ≤ 8
+pair_most p true = omega arith
+pair_most p false = omega (arith, length-append (bytes_of 4 p.0) (bytes_of 4 p.1), length-bytes_of 4 p.0, length-bytes_of 4 p.1)
 
--- the pairs of the first i notes are written
-pub record Listing (notes old new : List ℕ) (at i : ℕ) : Type 0 where
+-- the pairs of the first i things are written where these are missing
+pub record Listing (found : List Bool) (old new : List ℕ) (at i : ℕ) : Type 0 where
   pub part : List ℕ
-  pub split : pairs_for names notes ≡ part ++ pairs_for (drop i names) (drop i notes)
+  pub split : pairs_for names found ≡ part ++ pairs_for (drop i names) (drop i found)
   pub wrote : Wrote part old new at
   pub most : at ≤ 8 * i
 
-pub listing_start : (notes old : List ℕ) → Listing notes old old 0 0
-listing_start notes old = record { part = []; split = refl; wrote = none old; most = omega arith }
-
-module _ {notes old new : List ℕ} {at i : ℕ} (v : Listing notes old new at i) (room : 72 ≤ length old) where
-  pub listing_length : i ≤ 9 → length new ≡ length old
-  listing_length h = wrote_length v.wrote (omega (arith, v.wrote.count, v.most))
-
-  pub listing_end : i ≡ 9 → Wrote (pairs_for names notes) old new at
+module _ {found : List Bool} {old new : List ℕ} {at i : ℕ} (v : Listing found old new at i) (room : 72 ≤ length old) where
+  pub listing_end : i ≡ 9 → Wrote (pairs_for names found) old new at
   unfolding pairs_for
   listing_end h =
-      let q : pairs_for names notes ≡ v.part = v.split ∙ ap (λ (k : ℕ). v.part ++ pairs_for (drop k names) (drop k notes)) h ∙ append-nil v.part in
+      let q : pairs_for names found ≡ v.part = v.split ∙ ap (λ (k : ℕ). v.part ++ pairs_for (drop k names) (drop k found)) h ∙ append-nil v.part in
       rw q v.wrote
 
-  pub listing_next : i ≤ 8 → length notes ≡ 9 → {out : List ℕ} {r : ℕ} → PutAt (pair_for (wanted_name i) (get_or notes i 0)) at new out r → Listing notes old out r (i + 1)
+  pub listing_next : i ≤ 8 → length found ≡ 9 → {out : List ℕ} {r : ℕ} → PutAt (pair_for (wanted_name i) (get_or found i false)) at new out r → Listing found old out r (i + 1)
   unfolding pairs_for
   listing_next h long {out} {r} p =
-      let bs : List ℕ = pair_for (wanted_name i) (get_or notes i 0) in
+      let bs : List ℕ = pair_for (wanted_name i) (get_or found i false) in
       let w : Wrote (v.part ++ bs) old out (at + length bs) = wrote_splice v.wrote bs p.bytes in
       record {
         part = v.part ++ bs;
-        split = v.split ∙ ap (λ (x : List ℕ). v.part ++ x) (step (omega arith)) ∙ sym (append_assoc v.part bs (pairs_for (drop (i + 1) names) (drop (i + 1) notes)));
+        split = v.split ∙ ap (λ (x : List ℕ). v.part ++ x) (step (omega arith)) ∙ sym (append_assoc v.part bs (pairs_for (drop (i + 1) names) (drop (i + 1) found)));
         wrote = rw p.ends w;
-        most = omega (arith, p.ends, v.most, pair_most (wanted_name i) (get_or notes i 0));
+        most = omega (arith, p.ends, v.most, pair_most (wanted_name i) (get_or found i false));
       }
     where
-      step : i < length names → pairs_for (drop i names) (drop i notes) ≡ pair_for (wanted_name i) (get_or notes i 0) ++ pairs_for (drop (i + 1) names) (drop (i + 1) notes)
-      step k = rw (add-one i, drop-cons names i (0, 0) k, drop-cons notes i 0 (omega arith))
+      step : i < length names → pairs_for (drop i names) (drop i found) ≡ pair_for (wanted_name i) (get_or found i false) ++ pairs_for (drop (i + 1) names) (drop (i + 1) found)
+      step k = rw (add-one i, drop-cons names i (0, 0) k, drop-cons found i false (omega arith))

@@ -1,6 +1,8 @@
 -- Ready to restore? What a panel needs of a snapshot's content, what of it is missing, and the call.
 -- Assumes nothing.
-use Rattle.std.specs.Prelude.{◌≡◌, List, [], ◌∷◌, ◌++◌, Bool, true, false, ◌||◌, cond, ℕ, length, drop, eqb}
+use Rattle.std.specs.Prelude.{◌≡◌, Result, Ok, Err, List, [], ◌∷◌, ◌++◌, Bool, true, false, ◌||◌, cond, ℕ, length, drop, eqb}
+use Rattle.answer.specs.declared.Fault.{Fault}
+use Rattle.answer.specs.Refusals.{number_of}
 use Rattle.answer.specs.Outcome.{Outcome, taken, refused, after, fitting}
 use Rattle.answer.specs.Calls.{memory}
 use Rattle.wire.specs.Numbers.{bytes_of}
@@ -90,6 +92,11 @@ abbrev pub as_readiness : Outcome (List ℕ) → Readiness
 as_readiness (taken []) = record { number = 0; ready = 1; place = 0 }
 as_readiness (taken (x ∷ b)) = record { number = 0; ready = 0; place = length (x ∷ b) }
 as_readiness (refused n p) = record { number = n; ready = 0; place = p }
+
+-- what the code's own answer stands for: how many bytes of the list are written, none for a yes
+abbrev pub list_answer : Result ℕ Fault → Readiness
+list_answer (Ok n) = record { number = 0; ready = cond (eqb n 0) 1 0; place = n }
+list_answer (Err f) = record { number = number_of f.0; ready = 0; place = f.1 }
 
 -- the promise: the answer r, and `new` in the lent list that held `old`
 pub record Tells (o : Outcome (List ℕ)) (old : List ℕ) (r : Readiness) (new : List ℕ) : Type 0 where

@@ -1,6 +1,6 @@
 -- For contracts of private functions: the payload of a section by the table of sections, a list walked by its entries' lengths, and the list of what is missing.
 -- Assumes nothing.
-use Rattle.std.specs.Prelude.{◌≡◌, List, [], ◌∷◌, ◌++◌, map, true, false, ◌&&◌, cond, ℕ, ◌+◌, ◌<◌, length, take, drop, get_or, set, leb, ltb, eqb}
+use Rattle.std.specs.Prelude.{◌≡◌, List, [], ◌∷◌, ◌++◌, map, Bool, true, false, not, ◌&&◌, ◌||◌, cond, ℕ, ◌+◌, ◌<◌, length, take, drop, get_or, set, leb, ltb, eqb}
 use Rattle.wire.specs.Numbers.{le_at}
 use Rattle.wire.specs.Parts.{splice}
 use Rattle.format.specs.Format.{Is}
@@ -10,14 +10,9 @@ use Rattle.entries.specs.Kinds.{Description, id_key}
 use Rattle.tables.specs.Named.{NamesFramed, Each}
 use Rattle.aerosnap.specs.Content.{is_id}
 use Rattle.dskc.specs.Wrapper.{wrapper_of}
-use Rattle.ready.specs.declared.Run.{Run}
 use Rattle.ready.specs.Missing.{is_taken, name_in, wanted, pair_bytes}
 
 -- ---- the payload of a section
-
--- the bytes of s that a run names
-abbrev pub run_in : List ℕ → Run → List ℕ
-run_in s r = take r.len (drop r.at s)
 
 -- b is the table of the sections l of the input s
 pub record NamesSections (s : List ℕ) (l : List (List ℕ)) (b : List ℕ) : Type 0 where
@@ -62,27 +57,17 @@ NotedAll m old new = (k : ℕ) → k < length old → get_or new k 0 ≡ note_of
 abbrev pub payload_from : List ℕ → List ℕ
 payload_from b = take (le_at 8 b 8) (drop 16 b)
 
--- 1 if one entry starts at a place of the list s, and its payload is an accepted wrapper; no entry starts before the fourth byte
-abbrev pub wrapper_at : List ℕ → ℕ → ℕ
-wrapper_at s at = cond (leb 4 at && is_taken (wrapper_of (payload_from (drop at s)))) 1 0
+-- one entry starts at a place of the list s, and its payload is an accepted wrapper; no entry starts before the fourth byte
+abbrev pub wrapper_at : List ℕ → ℕ → Bool
+wrapper_at s at = leb 4 at && is_taken (wrapper_of (payload_from (drop at s)))
 
--- the one or, if it is 0, the other
-abbrev pub either : ℕ → ℕ → ℕ
-either a b = cond (eqb a 0) b a
+-- something is noted of the id k
+abbrev pub seen : ℕ → List (List ℕ) → Bool
+seen k m = not (eqb (note_of k 0 4 m) 0)
 
--- what is noted of each thing that is needed, 0 if it is missing, in the order of `names`
-abbrev pub notes : List ℕ → List (List ℕ) → List (List ℕ) → List ℕ
-notes s m k =
-    note_of 3 0 4 m
-    ∷ note_of 4 0 4 m
-    ∷ wrapper_at s (note_of 6 0 4 m)
-    ∷ note_of 13 0 4 m
-    ∷ note_of 16 0 4 m
-    ∷ note_of 17 0 4 m
-    ∷ either (note_of 2 0 4 m) (note_of 21 0 4 m)
-    ∷ note_of 0 0 4 k
-    ∷ note_of 1 0 4 k
-    ∷ []
+-- whether each thing that is needed is there, in the order of `names`
+abbrev pub found_in : List ℕ → List (List ℕ) → List (List ℕ) → List Bool
+found_in s m k = seen 3 m ∷ seen 4 m ∷ wrapper_at s (note_of 6 0 4 m) ∷ seen 13 m ∷ seen 16 m ∷ seen 17 m ∷ (seen 2 m || seen 21 m) ∷ seen 0 k ∷ seen 1 k ∷ []
 
 -- the pairs that name them
 abbrev pub names : List (ℕ × ℕ)
@@ -91,12 +76,12 @@ names = map name_in wanted
 abbrev pub wanted_name : ℕ → ℕ × ℕ
 wanted_name i = get_or names i (0, 0)
 
--- a pair where 0 is noted beside it
-abbrev pub pair_for : ℕ × ℕ → ℕ → List ℕ
-pair_for p x = cond (eqb x 0) (pair_bytes p) []
+-- a pair if what it names is missing
+abbrev pub pair_for : ℕ × ℕ → Bool → List ℕ
+pair_for p there = cond there [] (pair_bytes p)
 
--- all pairs beside which 0 is noted
-unfoldable pub pairs_for : List (ℕ × ℕ) → List ℕ → List ℕ
+-- the pairs of all that is missing
+unfoldable pub pairs_for : List (ℕ × ℕ) → List Bool → List ℕ
 pairs_for [] l = []
 pairs_for (p ∷ ps) [] = []
 pairs_for (p ∷ ps) (x ∷ l) = pair_for p x ++ pairs_for ps l

@@ -5,15 +5,16 @@
 
 ghost use Rattle.std.specs.Prelude.{◌≡◌, List, ℕ, ◌+◌, ◌≤◌, length, take, drop};
 ghost use Rattle.answer.specs.Outcome.{taken, fitting};
+ghost use Rattle.answer.specs.Calls.{WritesCount};
 ghost use Rattle.wire.specs.Parts.{Wrote};
 ghost use Rattle.format.specs.Format.{span};
 ghost use Rattle.entries.specs.Kinds as kinds;
 ghost use Rattle.entries.specs.Code.{describe};
 ghost use Rattle.aerosnap.specs.File.{file_of};
-ghost use Rattle.ready.specs.Missing.{ready_call, Tells};
+ghost use Rattle.ready.specs.Missing.{ready_call, list_answer, Tells};
 ghost use Rattle.ready.specs.Steps as steps;
 
-use answer::{ROOM, TAKEN};
+use answer::{Fault, TAKEN, roomy};
 use entries::Kind;
 use tables::ROW;
 
@@ -26,11 +27,24 @@ pub struct Readiness {
     pub place: u64,
 }
 
-// Where bytes stand.
-#[derive(Clone, Copy)]
-pub struct Run {
-    pub at: usize,
-    pub len: usize,
+// How many bytes of the list of what is missing are written: none of them is a yes.
+impl From<Result<usize, Fault>> for Readiness {
+    ghost from_gives = { λ r a. a ≡ list_answer r };
+
+    fn from(r: Result<usize, Fault>) -> Readiness {
+        match r {
+            Ok(written) => Readiness {
+                number: TAKEN,
+                ready: u32::from(written == 0),
+                place: written as u64,
+            },
+            Err(f) => Readiness {
+                number: u32::from(f.0),
+                ready: 0,
+                place: f.1 as u64,
+            },
+        }
+    }
 }
 
 // The ids of the sections that are looked into.
@@ -38,7 +52,7 @@ const DEVICES: u32 = 4;
 
 const DISKS: u32 = 5;
 
-// The pairs that name what is needed: 1 and the id of a device, 2 and that of a disk.
+// The pairs that name what is needed, as C reads them: 1 and the id of a device, 2 and that of a disk.
 const NAMES: [[u32; 2]; 9] = [
     [1, 3],
     [1, 4],
@@ -58,41 +72,32 @@ fn bytes_in(s: &[u8], at: usize, len: usize) -> &[u8]
     ensures { result.now ≡ take len (drop at s.now) }
 {
     let rest = wire::tail(s, at);
-    if rest.len() < len {
-        return rest;
-    }
-    &rest[..len]
+    &rest[..len.min(rest.len())]
 }
 
-// Where the payload of the section with an id stands, by the table of sections.
-fn payload_of(table: &[u8], id: u32) -> Run
-    ensures { (s : List ℕ) (l : List (List ℕ)) → steps.NamesSections s l table.now → steps.run_in s result ≡ steps.payload_in id l }
+// The payload of the section of a file with an id, by the table of its sections; no bytes where none has the id.
+fn payload_of<'a>(file: &'a [u8], table: &[u8], id: u32) -> &'a [u8]
+    ensures { (l : List (List ℕ)) → steps.NamesSections file.now l table.now → result.now ≡ steps.payload_in id l }
 {
-    let mut at = 0;
-    while at < table.len() {
-        if wire::u32_at(table, at) == id {
-            return Run {
-                at: wire::u64_at(table, at + 8) as usize,
-                len: wire::u64_at(table, at + 16) as usize,
-            };
+    for row in table.chunks_exact(ROW) {
+        if wire::u32_at(row, 0) == id {
+            let at = wire::u64_at(row, 8) as usize;
+            let len = wire::u64_at(row, 16) as usize;
+            return bytes_in(file, at, len);
         }
-        at += ROW;
     }
-    Run { at: 0, len: 0 }
+    &file[..0]
 }
 
 // ---- what is there
 
 // What is noted when an entry with an id starts at a place: the place, or 1 if another had the id before. Ids past the last note are passed over.
+// A note is a number and no enum: 0 for no entry and 1 for several are told from a place, 4 or more, by one test each, here and in `wrapper_at`.
 fn note(id: usize, at: usize, notes: &mut [usize])
     ensures { notes.new ≡ steps.noted notes.old id at }
 {
     if id < notes.len() {
-        if notes[id] == 0 {
-            notes[id] = at;
-        } else {
-            notes[id] = 1;
-        }
+        notes[id] = if notes[id] == 0 { at } else { 1 };
     }
 }
 
@@ -112,71 +117,56 @@ fn note_all(kind: Kind, list: &[u8], notes: &mut [usize])
 {
     let n = wire::u32_at(list, 0) as usize;
     let mut at = 4;
-    let mut i = 0;
-    while i < n {
+    for _ in 0..n {
         note(wire::u32_at(list, at) as usize, at, notes);
         at += length_in(kind, list, at);
-        i += 1;
     }
 }
 
-// Whether the one entry that starts at a place of the list of devices holds an accepted wrapper: 1, else 0. No entry starts before the fourth byte.
-fn wrapper_at(devices: &[u8], at: usize) -> usize
+// Whether the one entry that starts at a place of the list of devices holds an accepted wrapper. No entry starts before the fourth byte.
+fn wrapper_at(devices: &[u8], at: usize) -> bool
     ensures { result ≡ steps.wrapper_at devices.now at }
 {
     if at < 4 {
-        return 0;
+        return false;
     }
     let entry = wire::tail(devices, at);
     let len = wire::u64_at(entry, 8) as usize;
     let answer = dskc::check(bytes_in(entry, 16, len));
-    if answer.number == TAKEN {
-        return 1;
-    }
-    0
+    answer.number == TAKEN
 }
 
-// The one or, if it is 0, the other.
-fn either(a: usize, b: usize) -> usize
-    ensures { result ≡ steps.either a b }
-{
-    if a == 0 {
-        return b;
-    }
-    a
-}
-
-// What is noted of each thing that is needed, in the order of NAMES: 0 if it is missing. The notes of the ids 0 to 21 are those of devices, then those of
-// the disks 0 and 1.
-fn look(devices: &[u8], disks: &[u8]) -> [usize; 9]
-    ensures { (m k : List (List ℕ)) → steps.Stands kinds.devices devices.now m → steps.Stands kinds.disks disks.now k → result ≡ steps.notes devices.now m k }
+// Whether each thing that is needed is there, in the order of NAMES. The notes are of the ids 0 to 21 of devices, and 0 and 1 of disks.
+fn look(devices: &[u8], disks: &[u8]) -> [bool; 9]
+    ensures { (m k : List (List ℕ)) → steps.Stands kinds.devices devices.now m → steps.Stands kinds.disks disks.now k → result ≡ steps.found_in devices.now m k }
 {
     let mut d = [0usize; 22];
     note_all(Kind::Devices, devices, &mut d);
     let mut k = [0usize; 2];
     note_all(Kind::Disks, disks, &mut k);
-    let six = d[6];
+    let wrapper = wrapper_at(devices, d[6]);
+    let controller = d[2] != 0 || d[21] != 0;
     [
-        d[3],
-        d[4],
-        wrapper_at(devices, six),
-        d[13],
-        d[16],
-        d[17],
-        either(d[2], d[21]),
-        k[0],
-        k[1],
+        d[3] != 0,
+        d[4] != 0,
+        wrapper,
+        d[13] != 0,
+        d[16] != 0,
+        d[17] != 0,
+        controller,
+        k[0] != 0,
+        k[1] != 0,
     ]
 }
 
 // ---- the list of what is missing
 
-// The pair with the number i where 0 is noted beside it; and where the next one goes.
-fn put_noted(note: usize, i: usize, at: usize, out: &mut [u8]) -> usize
+// The pair with the number i if what it names is missing; and where the next one goes.
+fn put_name(there: bool, i: usize, at: usize, out: &mut [u8]) -> usize
     requires { (i ≤ 8) × (at + 8 ≤ length out.old) }
-    ensures { steps.PutAt (steps.pair_for (steps.wanted_name i) note) at out.old out.new result }
+    ensures { steps.PutAt (steps.pair_for (steps.wanted_name i) there) at out.old out.new result }
 {
-    if note != 0 {
+    if there {
         return at;
     }
     let p = NAMES[i];
@@ -185,60 +175,37 @@ fn put_noted(note: usize, i: usize, at: usize, out: &mut [u8]) -> usize
     at + 8
 }
 
-// The pairs beside which 0 is noted.
-fn put_missing(notes: [usize; 9], out: &mut [u8]) -> usize
+// The pairs of what is missing.
+fn put_missing(found: [bool; 9], out: &mut [u8]) -> usize
     requires { 72 ≤ length out.old }
-    ensures { Wrote (steps.pairs_for steps.names notes) out.old out.new result }
+    ensures { Wrote (steps.pairs_for steps.names found) out.old out.new result }
 {
     let mut at = 0;
-    let mut i = 0;
-    while i < 9 {
-        at = put_noted(notes[i], i, at, out);
-        i += 1;
+    for i in 0..9 {
+        at = put_name(found[i], i, at, out);
     }
     at
 }
 
-// The answer for the notes: a yes if nothing is missing, else the list, where there is room for it.
-fn hand_list(notes: [usize; 9], list: &mut [u8]) -> Readiness
-    ensures { Tells (fitting (length list.old) (steps.pairs_for steps.names notes)) list.old result list.new }
+// The list of what is missing, where there is room for it, and how many bytes it has.
+fn hand_list(found: [bool; 9], list: &mut [u8]) -> Result<usize, Fault>
+    ensures { WritesCount (fitting (length list.old) (steps.pairs_for steps.names found)) list.old result list.new }
 {
     let mut pairs = [0u8; 72];
-    let n = put_missing(notes, &mut pairs);
-    if n == 0 {
-        return Readiness {
-            number: TAKEN,
-            ready: 1,
-            place: 0,
-        };
-    }
-    if list.len() < n {
-        return Readiness {
-            number: ROOM,
-            ready: 0,
-            place: n as u64,
-        };
-    }
+    let n = put_missing(found, &mut pairs);
+    roomy(list.len(), n)?;
     wire::copy(list, 0, &pairs[..n]);
-    Readiness {
-        number: TAKEN,
-        ready: 0,
-        place: n as u64,
-    }
+    Ok(n)
 }
 
-// The answer for a file that is taken, by the table of its sections.
-fn by_table(file: &[u8], table: &[u8], list: &mut [u8]) -> Readiness
+// The same for a file that is taken, by the table of its sections.
+fn by_table(file: &[u8], table: &[u8], list: &mut [u8]) -> Result<usize, Fault>
     requires { (l : List (List ℕ)) × (file_of file.now ≡ taken l) × steps.NamesSections file.now l table.now }
-    ensures { Tells (ready_call (length list.old) file.now) list.old result list.new }
+    ensures { WritesCount (ready_call (length list.old) file.now) list.old result list.new }
 {
-    let devices = payload_of(table, DEVICES);
-    let disks = payload_of(table, DISKS);
-    let notes = look(
-        bytes_in(file, devices.at, devices.len),
-        bytes_in(file, disks.at, disks.len),
-    );
-    hand_list(notes, list)
+    let devices = payload_of(file, table, DEVICES);
+    let disks = payload_of(file, table, DISKS);
+    hand_list(look(devices, disks), list)
 }
 
 // Whether a file is ready to restore; if it is not, what is missing, as pairs in `list`.
@@ -249,6 +216,7 @@ pub fn ready(file: &[u8], list: &mut [u8]) -> Readiness
     let mut table = [0u8; 2048];
     let sections = snapshot::sections(file, &mut table);
     if sections.number != TAKEN {
+        // Both are structs for C, so the refusal goes on by its number.
         return Readiness {
             number: sections.number,
             ready: 0,
@@ -256,5 +224,5 @@ pub fn ready(file: &[u8], list: &mut [u8]) -> Readiness
         };
     }
     let n = sections.place as usize;
-    by_table(file, &table[..n], list)
+    Readiness::from(by_table(file, &table[..n], list))
 }

@@ -1,10 +1,10 @@
 -- Each promise fixes its answer: any two that it allows are equal.
 -- Assumes nothing.
-use Rattle.std.proofs.Common.{◌≡◌, ℕ, List}
+use Rattle.std.proofs.Common.{◌≡◌, ℕ, List, Result}
 use Rattle.answer.specs.declared.Answer.{Answer}
-use Rattle.answer.specs.declared.Test.{Test}
-use Rattle.answer.specs.Calls.{test_of, asked, verdict}
-use Rattle.answer.proofs.Once.{equal_once, test_once}
+use Rattle.answer.specs.declared.Fault.{Fault}
+use Rattle.answer.specs.Calls.{outcome_of, asked, verdict}
+use Rattle.answer.proofs.Once.{equal_once, outcome_once}
 use Rattle.region.specs.declared.Ring.{Ring}
 use Rattle.region.specs.declared.Cursors.{Cursors}
 use Rattle.region.specs.Region.{ahead, offset_of, ring_at, region_checks, queue_checks}
@@ -22,8 +22,8 @@ ring-at_once b at e f = equal_once e f
 pub check_once : (b : List ℕ) {r s : Answer} → r ≡ verdict (asked (region_checks b)) → s ≡ verdict (asked (region_checks b)) → r ≡ s
 check_once b e f = equal_once e f
 
-pub check_queue_once : (b : List ℕ) (q : ℕ) (r s : Test) → test_of r ≡ asked (queue_checks b q) → test_of s ≡ asked (queue_checks b q) → r ≡ s
-check_queue_once b q r s e f = test_once r s (equal_once e f)
+pub check_queue_once : (b : List ℕ) (q : ℕ) (r s : Result (Unit {0}) Fault) → outcome_of r ≡ asked (queue_checks b q) → outcome_of s ≡ asked (queue_checks b q) → r ≡ s
+check_queue_once b q r s e f = outcome_once r s (equal_once e f)
 
 pub report_once : (b : List ℕ) (q : ℕ) {r s : Cursors} → r ≡ as_cursors (report_call b q) → s ≡ as_cursors (report_call b q) → r ≡ s
 report_once b q e f = equal_once e f

@@ -1,6 +1,10 @@
 -- A region is taken exactly if it follows the rules, in whichever order they are asked.
 -- Assumes nothing.
-use Rattle.std.proofs.Common.{◌≡◌, ℕ, zero, suc, ◌+◌, ◌-◌, ◌*◌, ◌^◌, ◌<◌, ◌≤◌, Bool, true, false, ◌||◌, eqb, ltb, leb, ◌⊎◌, ◌↔◌, List, [], ◌∷◌, sym, refl, inl, inr, ⊎_elim, arith, lit≤, ltb-true, lt-ltb, eq-eqb, eqb-true, le-leb, leb-true}
+use Rattle.std.proofs.Common.{◌≡◌, ℕ, zero, suc, ◌+◌, ◌-◌, ◌*◌, ◌^◌, ◌<◌, ◌≤◌, Bool, true, false, ◌||◌, eqb, ltb, leb, pow-suc, ◌⊎◌, ◌↔◌, List, [], ◌∷◌, sym, refl, ◌∙◌, ap, inl, inr, ⊎_elim, arith, lit≤, ltb-true, lt-ltb, eq-eqb, eqb-true, le-leb, leb-true}
+use native.Mathlib.Decide.{dec_lt}
+use Rattle.std.specs.Int.{is_power_of_two}
+use Rattle.std.specs.Int.RustNames.{count_ones}
+use Rattle.std.proofs.lemmas.Nat.{ones_cat, zero_from_ones, pow_below}
 use Rattle.answer.specs.Numbers.{REGION}
 use Rattle.answer.specs.Outcome.{taken, Pass, each}
 use Rattle.answer.specs.Calls.{asked}
@@ -76,6 +80,56 @@ power_case P e w =
 pub power_capacity : {x : ℕ} → Power x → is_capacity x ≡ true
 unfolding is_capacity
 power_capacity w = power_case (λ x. is_capacity x ≡ true) (record { p6 = refl; p7 = refl; p8 = refl; p9 = refl; p10 = refl; p11 = refl; p12 = refl; p13 = refl; p14 = refl; p15 = refl; p16 = refl }) w
+
+power_size : {x : ℕ} → Power x → (64 ≤ x) × (x ≤ 65536) × (is_power_of_two x ≡ true)
+unfolding count_ones
+power_size w = power_case (λ x. (64 ≤ x) × (x ≤ 65536) × (is_power_of_two x ≡ true))
+    (record { p6 = (lit≤ tt, lit≤ tt, refl); p7 = (lit≤ tt, lit≤ tt, refl); p8 = (lit≤ tt, lit≤ tt, refl); p9 = (lit≤ tt, lit≤ tt, refl); p10 = (lit≤ tt, lit≤ tt, refl); p11 = (lit≤ tt, lit≤ tt, refl); p12 = (lit≤ tt, lit≤ tt, refl); p13 = (lit≤ tt, lit≤ tt, refl); p14 = (lit≤ tt, lit≤ tt, refl); p15 = (lit≤ tt, lit≤ tt, refl); p16 = (lit≤ tt, lit≤ tt, refl) }) w
+
+ones_one : count_ones 1 ≡ 1
+unfolding count_ones
+ones_one = refl
+
+-- a number with one bit
+one_bit : (k n : ℕ) → n < 2 ^ k → count_ones n ≡ 1 → (j : ℕ) × (n ≡ 2 ^ j)
+unfolding count_ones
+one_bit zero n h e = let z : n ≡ 0 = omega arith in let o : count_ones 0 ≡ 1 = rw z at e in absurd (omega arith)
+one_bit (suc k) n h e = go (dec_lt n (2 ^ k)) (λ l. one_bit k n l e)
+  where
+    go : Dec (n < 2 ^ k) → (n < 2 ^ k → (j : ℕ) × (n ≡ 2 ^ j)) → (j : ℕ) × (n ≡ 2 ^ j)
+    go (yes l) r = r l
+    go (no l) r =
+        let double : 2 ^ suc k ≡ 2 ^ k * 2 = pow-suc 2 k in
+        let small : n - 2 ^ k < 2 ^ k = omega (arith, l) in
+        let split : 1 * 2 ^ k + (n - 2 ^ k) ≡ n = omega (arith, l) in
+        let cat : count_ones n ≡ count_ones 1 + count_ones (n - 2 ^ k) = ap count_ones (sym split) ∙ ones_cat k 1 (n - 2 ^ k) small in
+        let none : n - 2 ^ k ≡ 0 = zero_from_ones (n - 2 ^ k) (omega (arith, cat, ones_one)) in
+        (k, omega (arith, l))
+
+-- what has one bit, and is not below 64 nor above 65,536, is one of the eleven
+power_of : (x : ℕ) → 64 ≤ x → x ≤ 65536 → is_power_of_two x ≡ true → Power x
+power_of x l m h = let w = one_bit 17 x (omega arith) (eqb-true (count_ones x) 1 h) in
+    record { exponent = w.0; least = least w.0 w.1 (dec_lt w.0 6); most = most w.0 w.1 (dec_lt 16 w.0); is = w.1 }
+  where
+    least : (j : ℕ) → x ≡ 2 ^ j → Dec (j < 6) → 6 ≤ j
+    least j e (yes k) = let p = pow_below j 6 k in absurd (omega arith)
+    least j e (no k) = omega (arith, k)
+
+    most : (j : ℕ) → x ≡ 2 ^ j → Dec (16 < j) → j ≤ 16
+    most j e (yes k) = let p = pow_below 16 j k in absurd (omega arith)
+    most j e (no k) = omega (arith, k)
+
+same_test : (s t : Bool) → (s ≡ true → t ≡ true) → (t ≡ true → s ≡ true) → s ≡ t
+same_test true t f g = sym (f refl)
+same_test false true f g = g refl
+same_test false false f g = refl
+
+pub capacity_is : (x : ℕ) → 64 ≤ x → x ≤ 65536 → is_power_of_two x ≡ is_capacity x
+capacity_is x l m = same_test _ _ (λ h. power_capacity (power_of x l m h)) (λ h. (power_size (capacity_power x h)).2)
+
+-- and nothing outside them is
+pub capacity_out : (x : ℕ) → (64 ≤ x → x ≤ 65536 → ⊥) → false ≡ is_capacity x
+capacity_out x h = same_test _ _ (λ e. cc) (λ e. let p = power_size (capacity_power x e) in absurd (h p.0 p.1))
 
 -- ---- a ring's header
 

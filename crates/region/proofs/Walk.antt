@@ -1,40 +1,24 @@
 -- One walk over descriptors and rings: queue after queue is right, and its ring meets no earlier one.
 -- Assumes nothing.
-use Rattle.std.proofs.Common.{◌≡◌, ℕ, ◌+◌, ◌*◌, ◌%◌, ◌<◌, ◌≤◌, true, false, List, length, inl, arith, leb-true}
+use Rattle.std.proofs.Common.{◌≡◌, refl, Result, Ok, Err, is_err, ℕ, ◌+◌, ◌*◌, ◌%◌, ◌<◌, ◌≤◌, true, false, List, length, arith}
 use native.Mathlib.Decide.{dec_lt}
 use Rattle.answer.specs.Outcome.{taken}
-use Rattle.answer.specs.Calls.{asked}
+use Rattle.answer.specs.declared.Fault.{Fault}
+use Rattle.answer.specs.Calls.{asked, outcome_of}
 use Rattle.answer.proofs.Checks.{asked-pass}
 use Rattle.wire.specs.Numbers.{le_at}
 use Rattle.region.specs.declared.Ring.{Ring}
-use Rattle.region.specs.Region.{count_of, offset_of, capacity_of, ring_at, is_capacity, region_header_checks, cursor_checks}
+use Rattle.region.specs.Region.{count_of, offset_of, capacity_of, ring_at, is_capacity, cursor_checks}
 use Rattle.region.specs.Valid.{Queue, Apart}
-use Rattle.region.specs.Steps.{Below, Beside, Clear, Further, Right}
+use Rattle.region.specs.Steps.{Clear, Further, Right}
 use Rattle.region.proofs.Taken.{capacity_power, pass_cursors}
 
--- what says no promises nothing
-pub no_promise : {A : Type 0} → false ≡ true → A
-no_promise h = let z : ◌≡◌ {A = ℕ} 0 1 = cc in absurd (omega arith)
-
-pub none_promised : {A : Type 0} → 0 < 0 → A
-none_promised h = absurd (omega arith)
+-- a test that is no fault is fine
+pub fine : (r : Result (Unit {0}) Fault) → is_err r ≡ false → taken tt ≡ outcome_of r
+fine (Ok a) h = refl
+fine (Err f) h = cc
 
 module _ (b : List ℕ) where
-  -- a place where all earlier rings have ended
-  pub clear_behind : (i from end top : ℕ) → Below b i top → top ≤ from → Clear b i from end
-  clear_behind i from end top h g j l = inl (let k = h j l in omega arith)
-
-  -- ring after ring
-  pub clear_none : (from end : ℕ) → Clear b 0 from end
-  clear_none from end j l = absurd (omega arith)
-
-  pub clear_next : (i from end : ℕ) → Clear b i from end → Beside b i from end → Clear b (i + 1) from end
-  clear_next i from end h k j l = go (dec_lt j i)
-    where
-      go : Dec (j < i) → Beside b j from end
-      go (yes m) = h j m
-      go (no m) = let e : j ≡ i = omega (arith, m) in rw e k
-
   -- descriptor i and its ring, as they were read
   pub further_of : (i top up : ℕ) {at cap : ℕ} {r : Ring} → at ≡ offset_of b i → cap ≡ capacity_of b i → r ≡ ring_at b at
       → (16 + 16 * count_of b ≤ at) × Clear b i at (at + 16 + cap) → at % 4 ≡ 0 → at + 16 + cap ≤ length b → is_capacity cap ≡ true → le_at 4 b (28 + 16 * i) ≡ 0
@@ -56,9 +40,6 @@ module _ (b : List ℕ) where
         covers = (covers.0, omega arith);
       }
 
-  pub right_none : Right b 0
-  right_none = record { queues = λ i l. absurd (omega arith); apart = λ i j k l. absurd (omega arith) }
-
   -- one more
   pub right_next : (i top end : ℕ) → Right b i → Further b i top end → Right b (i + 1)
   right_next i top end r s = record { queues = λ j l. queue j l (dec_lt j i); apart = λ j k l m. apart j k l m (dec_lt j i) }
@@ -70,7 +51,3 @@ module _ (b : List ℕ) where
       apart : (j k : ℕ) → k < j → j < i + 1 → Dec (j < i) → Apart b j k
       apart j k l m (yes h) = r.apart j k l h
       apart j k l m (no h) = let e : j ≡ i = omega (arith, h) in rw e (s.clear k (omega arith))
-
-  -- the descriptors are there
-  pub header-table : taken tt ≡ asked (region_header_checks b) → 16 + 16 * count_of b ≤ length b
-  header-table h = leb-true _ _ (asked-pass (region_header_checks b) h).1.1.1.1.1.0

@@ -1,18 +1,19 @@
 // An AIPC region: checked up to its first wrong field, and a queue's cursors shown.
 // Numbers are read where they stand; a byte past the end reads as 0, so nothing is asked of an index.
+// Slices that are handed on as `&s[..]` go in registers (decision 38).
 #![tactic(auto)]
 
-ghost use Rattle.std.specs.Prelude.{◌≡◌, ◌+◌, ◌*◌, ◌<◌, ◌≤◌, true, ◌||◌, length, nat_le};
-ghost use Rattle.answer.specs.Calls.{test_of, asked, verdict};
+ghost use Rattle.std.specs.Prelude.{◌≡◌, ◌+◌, ◌*◌, ◌<◌, ◌≤◌, true, ◌||◌, length, nat_le, IfSome};
+ghost use Rattle.answer.specs.Calls.{outcome_of, asked, verdict};
 ghost use Rattle.answer.specs.Outcome.{each};
 ghost use Rattle.wire.specs.Numbers.{le_at};
 ghost use Rattle.region.specs.Region.{count_of, offset_of, capacity_of, end_of, ring_at, is_capacity, region_header_checks, apart_check, descriptor_checks, cursor_checks, ring_checks, table_checks, region_checks, queue_checks};
 ghost use Rattle.region.specs.Region as region;
 ghost use Rattle.region.specs.Valid.{Valid};
 ghost use Rattle.region.specs.Steps.{Below, Beside, Clear, Reached, Further, Right};
-ghost use Rattle.region.specs.Report.{signed_of, as_cursors, report_call};
+ghost use Rattle.region.specs.Report.{as_cursors, report_call};
 
-use answer::{Answer, REGION, TAKEN, Test};
+use answer::{Answer, Fault, Refusal, TAKEN};
 use wire::u32_at;
 
 // The header of a ring: its cursors and its capacity.
@@ -44,7 +45,7 @@ const QUEUES_MOST: u32 = 64;
 pub fn ahead(a: u32, b: u32) -> u32
     ensures { result ≡ region.ahead a b }
 {
-    std::num::wrapping_sub_u32(b, a)
+    b.wrapping_sub(a)
 }
 
 // Where the ring of descriptor i stands.
@@ -80,32 +81,25 @@ fn whole_ring(s: &[u8], at: u32) -> Ring
     ensures { result ≡ ring_at s.now at }
 {
     let o = at as usize;
-    let head = whole_at(s, o);
-    let reserve = whole_at(s, o + 4);
-    let commit = whole_at(s, o + 8);
-    let capacity = whole_at(s, o + 12);
     Ring {
-        head,
-        reserve,
-        commit,
-        capacity,
+        head: whole_at(s, o),
+        reserve: whole_at(s, o + 4),
+        commit: whole_at(s, o + 8),
+        capacity: whole_at(s, o + 12),
     }
 }
 
-// The same wherever it stands. It is called from two places, so that it stays a function of its own and `ring_at` becomes a part of its callers.
+// The same wherever it stands: number by number, each of which may lie past the end.
+#[inline(never)]
 fn cut_ring(s: &[u8], at: u32) -> Ring
     ensures { result ≡ ring_at s.now at }
 {
     let o = at as usize;
-    let head = u32_at(s, o);
-    let reserve = u32_at(s, o + 4);
-    let commit = u32_at(s, o + 8);
-    let capacity = u32_at(s, o + 12);
     Ring {
-        head,
-        reserve,
-        commit,
-        capacity,
+        head: u32_at(s, o),
+        reserve: u32_at(s, o + 4),
+        commit: u32_at(s, o + 8),
+        capacity: u32_at(s, o + 12),
     }
 }
 
@@ -122,199 +116,152 @@ pub fn ring_at(s: &[u8], at: u32) -> Ring
 fn is_capacity(x: u32) -> bool
     ensures { result ≡ is_capacity x }
 {
-    match x {
-        64 => true,
-        128 => true,
-        256 => true,
-        512 => true,
-        1024 => true,
-        2048 => true,
-        4096 => true,
-        8192 => true,
-        16384 => true,
-        32768 => true,
-        65536 => true,
-        _ => false,
+    if x < 64 || 65536 < x {
+        return false;
     }
+    x.is_power_of_two()
 }
 
-fn header(s: &[u8]) -> Test
-    ensures { test_of result ≡ asked (region_header_checks s.now) }
+fn header(s: &[u8]) -> Result<(), Fault>
+    ensures { outcome_of result ≡ asked (region_header_checks s.now) }
 {
     if s.len() < 16 {
-        return Test::Fault(REGION, 0);
+        return Err(Fault(Refusal::Region, 0));
     }
     if u32_at(s, 0) != AIPC {
-        return Test::Fault(REGION, 0);
+        return Err(Fault(Refusal::Region, 0));
     }
     if u32_at(s, 4) != 1 {
-        return Test::Fault(REGION, 4);
+        return Err(Fault(Refusal::Region, 4));
     }
     if u32_at(s, 8) as usize != s.len() {
-        return Test::Fault(REGION, 8);
+        return Err(Fault(Refusal::Region, 8));
     }
     let count = u32_at(s, 12);
     if QUEUES_MOST < count {
-        return Test::Fault(REGION, 12);
+        return Err(Fault(Refusal::Region, 12));
     }
     if s.len() < 16 + 16 * (count as usize) {
-        return Test::Fault(REGION, 12);
+        return Err(Fault(Refusal::Region, 12));
     }
-    Test::Fine
+    Ok(())
 }
 
 fn are_apart(s: &[u8], i: u32, j: u32) -> bool
     ensures { result ≡ (nat_le (end_of s.now j) (offset_of s.now i) || nat_le (end_of s.now i) (offset_of s.now j)) }
 {
-    if end_of(s, j) <= offset_of(s, i) as usize {
-        return true;
-    }
-    end_of(s, i) <= offset_of(s, j) as usize
+    end_of(s, j) <= offset_of(s, i) as usize || end_of(s, i) <= offset_of(s, j) as usize
 }
 
 // Whether ring i meets an earlier one.
-fn clear(s: &[u8], i: u32) -> Test
-    ensures { test_of result ≡ asked (each (apart_check s.now i) i) }
+fn clear(s: &[u8], i: u32) -> Result<(), Fault>
+    ensures { outcome_of result ≡ asked (each (apart_check s.now i) i) }
 {
-    let mut j = 0;
-    while j < i {
-        if are_apart(s, i, j) {
-            j += 1;
-        } else {
-            return Test::Fault(REGION, 20 + 16 * (i as usize));
+    for j in 0..i {
+        if !are_apart(s, i, j) {
+            return Err(Fault(Refusal::Region, 20 + 16 * (i as usize)));
         }
     }
-    Test::Fine
+    Ok(())
 }
 
 // The same where no earlier ring ends behind `top`: a ring that starts there or later meets none of them, and that is one comparison.
-fn meets_none(s: &[u8], i: u32, top: usize) -> Test
+fn meets_none(s: &[u8], i: u32, top: usize) -> Result<(), Fault>
     requires { Below s.now i top }
-    ensures { test_of result ≡ asked (each (apart_check s.now i) i) }
+    ensures { outcome_of result ≡ asked (each (apart_check s.now i) i) }
 {
     if top <= offset_of(s, i) as usize {
-        return Test::Fine;
+        return Ok(());
     }
     clear(s, i)
 }
 
 // Descriptor i, where no earlier ring ends behind `top`: where its ring stands, the capacity, the reserved 0.
-fn descriptor(s: &[u8], i: u32, top: usize) -> Test
+fn descriptor(s: &[u8], i: u32, top: usize) -> Result<(), Fault>
     requires { Below s.now i top }
-    ensures { test_of result ≡ asked (descriptor_checks s.now i) }
+    ensures { outcome_of result ≡ asked (descriptor_checks s.now i) }
 {
     let place = 16 * (i as usize);
     let at = offset_of(s, i) as usize;
     if at % 4 != 0 {
-        return Test::Fault(REGION, 20 + place);
+        return Err(Fault(Refusal::Region, 20 + place));
     }
     if at < 16 + 16 * (u32_at(s, 12) as usize) {
-        return Test::Fault(REGION, 20 + place);
+        return Err(Fault(Refusal::Region, 20 + place));
     }
     if s.len() < end_of(s, i) {
-        return Test::Fault(REGION, 20 + place);
+        return Err(Fault(Refusal::Region, 20 + place));
     }
-    match meets_none(s, i, top) {
-        Test::Fault(number, fault) => Test::Fault(number, fault),
-        Test::Fine => {
-            if !is_capacity(capacity_of(s, i)) {
-                return Test::Fault(REGION, 24 + place);
-            }
-            if u32_at(s, 28 + place) != 0 {
-                return Test::Fault(REGION, 28 + place);
-            }
-            Test::Fine
-        }
+    meets_none(s, i, top)?;
+    if !is_capacity(capacity_of(s, i)) {
+        return Err(Fault(Refusal::Region, 24 + place));
     }
-}
-
-fn higher(a: usize, b: usize) -> usize
-    ensures { (a ≤ result) × (b ≤ result) }
-{
-    if a < b {
-        return b;
+    if u32_at(s, 28 + place) != 0 {
+        return Err(Fault(Refusal::Region, 28 + place));
     }
-    a
+    Ok(())
 }
 
 // Rings stand in the order of their descriptors as a rule; `top` is the highest end so far.
-fn descriptors(s: &[u8], n: u32) -> Test
-    ensures { test_of result ≡ asked (each (descriptor_checks s.now) n) }
+fn descriptors(s: &[u8], n: u32) -> Result<(), Fault>
+    ensures { outcome_of result ≡ asked (each (descriptor_checks s.now) n) }
 {
-    let mut i = 0;
     let mut top = 0usize;
-    while i < n {
-        match descriptor(s, i, top) {
-            Test::Fault(number, place) => {
-                return Test::Fault(number, place);
-            }
-            Test::Fine => {
-                top = higher(top, end_of(s, i));
-                i += 1;
-            }
-        }
+    for i in 0..n {
+        descriptor(s, i, top)?;
+        top = top.max(end_of(s, i));
     }
-    Test::Fine
+    Ok(())
 }
 
 // The header of a ring that stands at `at`, `cap` being its descriptor's capacity.
-fn ring_fields(ring: Ring, at: u32, cap: u32) -> Test
-    ensures { test_of result ≡ asked (cursor_checks ring at cap) }
+fn ring_fields(ring: Ring, at: u32, cap: u32) -> Result<(), Fault>
+    ensures { outcome_of result ≡ asked (cursor_checks ring at cap) }
 {
     let o = at as usize;
     if ring.head % 4 != 0 {
-        return Test::Fault(REGION, o);
+        return Err(Fault(Refusal::Region, o));
     }
     if (cap as u64)
         < (ahead(ring.head, ring.commit) as u64) + (ahead(ring.commit, ring.reserve) as u64)
     {
-        return Test::Fault(REGION, o);
+        return Err(Fault(Refusal::Region, o));
     }
     if ring.reserve % 4 != 0 {
-        return Test::Fault(REGION, o + 4);
+        return Err(Fault(Refusal::Region, o + 4));
     }
     if ring.commit % 4 != 0 {
-        return Test::Fault(REGION, o + 8);
+        return Err(Fault(Refusal::Region, o + 8));
     }
     if ring.capacity != cap {
-        return Test::Fault(REGION, o + 12);
+        return Err(Fault(Refusal::Region, o + 12));
     }
-    Test::Fine
+    Ok(())
 }
 
-fn ring_header(s: &[u8], i: u32) -> Test
-    ensures { test_of result ≡ asked (ring_checks s.now i) }
+fn ring_header(s: &[u8], i: u32) -> Result<(), Fault>
+    ensures { outcome_of result ≡ asked (ring_checks s.now i) }
 {
     let at = offset_of(s, i);
-    ring_fields(cut_ring(s, at), at, capacity_of(s, i))
+    ring_fields(ring_at(s, at), at, capacity_of(s, i))
 }
 
-fn ring_headers(s: &[u8], n: u32) -> Test
-    ensures { test_of result ≡ asked (each (ring_checks s.now) n) }
+fn ring_headers(s: &[u8], n: u32) -> Result<(), Fault>
+    ensures { outcome_of result ≡ asked (each (ring_checks s.now) n) }
 {
-    let mut i = 0;
-    while i < n {
-        match ring_header(s, i) {
-            Test::Fault(number, place) => {
-                return Test::Fault(number, place);
-            }
-            Test::Fine => {
-                i += 1;
-            }
-        }
+    for i in 0..n {
+        ring_header(s, i)?;
     }
-    Test::Fine
+    Ok(())
 }
 
 // The descriptors, then the headers of their rings.
-fn tables(s: &[u8]) -> Test
-    ensures { test_of result ≡ asked (table_checks s.now) }
+fn tables(s: &[u8]) -> Result<(), Fault>
+    ensures { outcome_of result ≡ asked (table_checks s.now) }
 {
     let n = u32_at(s, 12);
-    match descriptors(s, n) {
-        Test::Fault(number, place) => Test::Fault(number, place),
-        Test::Fine => ring_headers(s, n),
-    }
+    descriptors(s, n)?;
+    ring_headers(s, n)
 }
 
 // ---- the same at once, where nothing is wrong
@@ -326,10 +273,7 @@ fn is_beside(s: &[u8], j: u32, from: usize, end: usize) -> bool
 {
     let place = 16 * (j as usize);
     let other = whole_at(s, 20 + place) as usize;
-    if other + 16 + (whole_at(s, 24 + place) as usize) <= from {
-        return true;
-    }
-    end <= other
+    other + 16 + (whole_at(s, 24 + place) as usize) <= from || end <= other
 }
 
 // The same of each ring before the i-th.
@@ -337,12 +281,10 @@ fn is_clear(s: &[u8], i: u32, from: usize, end: usize) -> bool
     requires { 16 + 16 * i ≤ length s.now }
     ensures { result ≡ true → Clear s.now i from end }
 {
-    let mut j = 0;
-    while j < i {
+    for j in 0..i {
         if !is_beside(s, j, from, end) {
             return false;
         }
-        j += 1;
     }
     true
 }
@@ -361,34 +303,34 @@ fn is_free(s: &[u8], i: u32, from: usize, end: usize, top: usize) -> bool
     is_clear(&s[..], i, from, end)
 }
 
-// Where the descriptors and all rings up to the i-th have ended, those before it at `top`, if nothing is wrong with it and its descriptor; else 0.
-fn right_end(s: &[u8], i: u32, top: usize) -> usize
+// Where the descriptors and all rings up to the i-th have ended, those before it at `top`; nothing where it or its descriptor is wrong.
+fn right_end(s: &[u8], i: u32, top: usize) -> Option<usize>
     requires { Reached s.now i top }
-    ensures { 0 < result → Further s.now i top result }
+    ensures { IfSome result (λ end. Further s.now i top end) }
 {
     let place = 16 * (i as usize);
     let at = whole_at(s, 20 + place);
     let cap = whole_at(s, 24 + place);
     let end = (at as usize) + 16 + (cap as usize);
     if !is_free(s, i, at as usize, end, top) {
-        return 0;
+        return None;
     }
     if at % 4 != 0 {
-        return 0;
+        return None;
     }
     if s.len() < end {
-        return 0;
+        return None;
     }
     if !is_capacity(cap) {
-        return 0;
+        return None;
     }
     if whole_at(s, 28 + place) != 0 {
-        return 0;
+        return None;
     }
-    match ring_fields(whole_ring(s, at), at, cap) {
-        Test::Fault(_, _) => 0,
-        Test::Fine => higher(top, end),
+    if ring_fields(whole_ring(s, at), at, cap).is_err() {
+        return None;
     }
+    Some(top.max(end))
 }
 
 // Whether nothing is wrong with n queues. `top` starts behind the descriptors and is the highest end so far: where rings stand in the order of their
@@ -397,14 +339,12 @@ fn are_right(s: &[u8], n: u32) -> bool
     requires { (n ≡ count_of s.now) × (16 + 16 * n ≤ length s.now) }
     ensures { result ≡ true → Right s.now n }
 {
-    let mut i = 0;
     let mut top = 16 + 16 * (n as usize);
-    while i < n {
-        top = right_end(s, i, top);
-        if top == 0 {
+    for i in 0..n {
+        let Some(end) = right_end(s, i, top) else {
             return false;
-        }
-        i += 1;
+        };
+        top = end;
     }
     true
 }
@@ -413,98 +353,91 @@ fn are_right(s: &[u8], n: u32) -> bool
 fn is_right(s: &[u8], queue: u32) -> bool
     ensures { result ≡ true → Valid s.now × (queue < count_of s.now) }
 {
-    match header(&s[..]) {
-        Test::Fault(_, _) => false,
-        Test::Fine => {
-            let n = u32_at(&s[..], 12);
-            if n <= queue {
-                return false;
-            }
-            are_right(&s[..], n)
-        }
+    if header(&s[..]).is_err() {
+        return false;
     }
+    let n = u32_at(&s[..], 12);
+    if n <= queue {
+        return false;
+    }
+    are_right(&s[..], n)
 }
 
 // ---- the calls
 
+// The region's first wrong field.
+fn checked(s: &[u8]) -> Result<(), Fault>
+    ensures { outcome_of result ≡ asked (region_checks s.now) }
+{
+    if is_right(s, 0) {
+        return Ok(());
+    }
+    header(s)?;
+    tables(s)
+}
+
 pub fn check(s: &[u8]) -> Answer
     ensures { result ≡ verdict (asked (region_checks s.now)) }
 {
-    if is_right(s, 0) {
-        return Answer {
-            number: TAKEN,
-            place: 0,
-        };
-    }
-    match header(s) {
-        Test::Fault(number, place) => Answer {
-            number,
-            place: place as u64,
-        },
-        Test::Fine => answer::answered(tables(s)),
-    }
+    Answer::from(checked(s))
 }
 
 // The region's first wrong field, where it is asked for a queue.
-fn fault_in(s: &[u8], queue: u32) -> Test
-    ensures { test_of result ≡ asked (queue_checks s.now queue) }
+fn fault_in(s: &[u8], queue: u32) -> Result<(), Fault>
+    ensures { outcome_of result ≡ asked (queue_checks s.now queue) }
 {
-    match header(s) {
-        Test::Fault(number, place) => Test::Fault(number, place),
-        Test::Fine => {
-            if u32_at(s, 12) <= queue {
-                return Test::Fault(REGION, 12);
-            }
-            tables(s)
-        }
+    header(s)?;
+    if u32_at(s, 12) <= queue {
+        return Err(Fault(Refusal::Region, 12));
     }
+    tables(s)
 }
 
 // The same: the first check of each call.
-pub fn check_queue(s: &[u8], queue: u32) -> Test
-    ensures { test_of result ≡ asked (queue_checks s.now queue) }
+pub fn check_queue(s: &[u8], queue: u32) -> Result<(), Fault>
+    ensures { outcome_of result ≡ asked (queue_checks s.now queue) }
 {
     if is_right(s, queue) {
-        return Test::Fine;
+        return Ok(());
     }
     fault_in(s, queue)
 }
 
-// A cursor as the i32 of the same bits.
-fn signed(x: u32) -> i32
-    ensures { result ≡ signed_of x }
+// The cursors of a queue, or the region's first wrong field.
+fn queue_ring(s: &[u8], queue: u32) -> Result<Ring, Fault>
+    ensures { outcome_of result ≡ report_call s.now queue }
 {
-    if x < 2147483648 {
-        return x as i32;
+    check_queue(s, queue)?;
+    Ok(ring_at(s, offset_of(s, queue)))
+}
+
+// Each cursor as the i32 of the same bits.
+impl From<Result<Ring, Fault>> for Cursors {
+    ghost from_gives = { λ r shown. shown ≡ as_cursors (outcome_of r) };
+
+    fn from(r: Result<Ring, Fault>) -> Cursors {
+        match r {
+            Ok(ring) => Cursors {
+                number: TAKEN,
+                place: 0,
+                head: ring.head.cast_signed(),
+                reserve: ring.reserve.cast_signed(),
+                commit: ring.commit.cast_signed(),
+            },
+            Err(fault) => Cursors {
+                number: u32::from(fault.0),
+                place: fault.1 as u64,
+                head: 0,
+                reserve: 0,
+                commit: 0,
+            },
+        }
     }
-    let back = (4294967295 - x) as i32;
-    -back - 1
 }
 
 // A queue's cursors, as hosts show them.
 pub fn report(s: &[u8], queue: u32) -> Cursors
     ensures { result ≡ as_cursors (report_call s.now queue) }
 {
-    match check_queue(s, queue) {
-        Test::Fault(number, place) => Cursors {
-            number,
-            place: place as u64,
-            head: 0,
-            reserve: 0,
-            commit: 0,
-        },
-        Test::Fine => {
-            let ring = ring_at(s, offset_of(s, queue));
-            let head = signed(ring.head);
-            let reserve = signed(ring.reserve);
-            let commit = signed(ring.commit);
-            Cursors {
-                number: TAKEN,
-                place: 0,
-                head,
-                reserve,
-                commit,
-            }
-        }
-    }
+    Cursors::from(queue_ring(s, queue))
 }

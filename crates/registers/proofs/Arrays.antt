@@ -1,56 +1,29 @@
 -- Loops that fill an array, or write one over a state: once for every kind of element and every number of them.
 -- Assumes nothing.
-use mathlib.Core.Path.{◌≡◌, refl, sym, ap, ◌∙◌}
+use mathlib.Core.Path.{◌≡◌, refl, ap, ◌∙◌}
 use mathlib.Core.List.{List, [], ◌∷◌, ◌++◌}
-use Prim.Native.Nat.{ℕ, suc, ◌+◌, ◌≤◌, ◌<◌}
-use native.Mathlib.Omega.{arith}
-use lib.ListN.{length, take, set, length-set}
-use lib.Seq.{take_all, take-suc-set}
+use Prim.Native.Nat.{ℕ, ◌+◌, ◌<◌}
+use native.Mathlib.Numerals.{add-one}
+use lib.ListN.{length, take, set}
+use lib.Seq.{take-suc-set}
 use Rattle.registers.specs.Registers.{gather, in_turn}
 
--- an array of n elements: the first i of them are f's
-pub record Filled {A : Type 0} (f : ℕ → A) (n : ℕ) (a : List A) (i : ℕ) : Type 0 where
-  pub few : i ≤ n
-  pub long : length a ≡ n
-  pub same : take i a ≡ gather f i
-
+-- the first i elements of an array are f's
 module _ {A : Type 0} (f : ℕ → A) where
-  pub filled_none : (n : ℕ) (a : List A) → length a ≡ n → Filled f n a 0
+  pub filled_none : (a : List A) → take 0 a ≡ gather f 0
   unfolding gather
-  filled_none n a l = record { few = omega arith; long = l; same = refl }
+  filled_none a = refl
 
-  pub filled_next : (n i : ℕ) (a : List A) (x : A) → Filled f n a i → i < n → x ≡ f i → Filled f n (set a i x) (i + 1)
+  pub filled_next : (i : ℕ) (a : List A) (x : A) → take i a ≡ gather f i → i < length a → x ≡ f i → take (i + 1) (set a i x) ≡ gather f (i + 1)
   unfolding gather
-  filled_next n i a x v h g =
-      let k : i + 1 ≡ suc i = omega arith in
-      let l : i < length a = omega (arith, v.long) in
-      record {
-        few = omega arith;
-        long = length-set a i x ∙ v.long;
-        same = rw k (take-suc-set a i x l ∙ ap (λ (m : List A). m ++ (x ∷ [])) v.same ∙ ap (λ (y : A). gather f i ++ (y ∷ [])) g);
-      }
+  filled_next i a x v h g = rw add-one (take-suc-set a i x h ∙ ap (λ (m : List A). m ++ (x ∷ [])) v ∙ ap (λ (y : A). gather f i ++ (y ∷ [])) g)
 
-  pub filled_all : (n i : ℕ) (a : List A) → Filled f n a i → n ≤ i → a ≡ gather f n
-  filled_all n i a v h =
-      let k : i ≡ n = omega (arith, v.few) in
-      sym (take_all n a (omega (arith, v.long))) ∙ rw k at v.same
-
--- a state over which i of n elements are written, by f
-pub record Turned (f : ℕ → List ℕ → List ℕ) (n : ℕ) (old now : List ℕ) (i : ℕ) : Type 0 where
-  pub few : i ≤ n
-  pub long : length now ≡ length old
-  pub same : now ≡ in_turn f i old
-
+-- i elements are written over a state, by f
 module _ (f : ℕ → List ℕ → List ℕ) where
-  pub turned_none : (n : ℕ) (s : List ℕ) → Turned f n s s 0
+  pub turned_none : (s : List ℕ) → s ≡ in_turn f 0 s
   unfolding in_turn
-  turned_none n s = record { few = omega arith; long = refl; same = refl }
+  turned_none s = refl
 
-  pub turned_next : (n i : ℕ) (old : List ℕ) {now new : List ℕ} → Turned f n old now i → i < n → length new ≡ length now → new ≡ f i now → Turned f n old new (i + 1)
+  pub turned_next : (i : ℕ) (old : List ℕ) {now new : List ℕ} → now ≡ in_turn f i old → new ≡ f i now → new ≡ in_turn f (i + 1) old
   unfolding in_turn
-  turned_next n i old v h l g =
-      let k : i + 1 ≡ suc i = omega arith in
-      record { few = omega arith; long = l ∙ v.long; same = rw k (g ∙ ap (f i) v.same) }
-
-  pub turned_all : (n i : ℕ) (old : List ℕ) {now : List ℕ} → Turned f n old now i → n ≤ i → now ≡ in_turn f n old
-  turned_all n i old v h = let k : i ≡ n = omega (arith, v.few) in rw k at v.same
+  turned_next i old v g = rw add-one (g ∙ ap (f i) v)

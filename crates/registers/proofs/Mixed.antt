@@ -93,10 +93,10 @@ module _ (s t : List ℕ) (b : Bytes s) (n : length t ≤ length s) where
 
   pub segment_mix : (k : ℕ) → k + 18 ≤ length t → segment_over k (segment_in s k) (mix s t k) ≡ mix s t (k + 18)
   segment_mix k h =
-      ap (λ (l : List ℕ). at (k + 14) 4 (le_at 4 s (k + 14)) (at (k + 10) 4 (le_at 4 s (k + 10)) (at (k + 2) 8 (le_at 8 s (k + 2)) l))) (number k 2 (omega arith))
-      ∙ ap (λ (l : List ℕ). at (k + 14) 4 (le_at 4 s (k + 14)) (at (k + 10) 4 (le_at 4 s (k + 10)) l)) (number (k + 2) 8 (omega arith) ∙ ap (mix s t) (let e : k + 2 + 8 ≡ k + 10 = omega arith in e))
-      ∙ ap (λ (l : List ℕ). at (k + 14) 4 (le_at 4 s (k + 14)) l) (number (k + 10) 4 (omega arith) ∙ ap (mix s t) (let e : k + 10 + 4 ≡ k + 14 = omega arith in e))
-      ∙ number (k + 14) 4 (omega arith) ∙ ap (mix s t) (let e : k + 14 + 4 ≡ k + 18 = omega arith in e)
+      let base : k + 2 + 8 ≡ k + 10 = omega arith in
+      let limit : k + 10 + 4 ≡ k + 14 = omega arith in
+      let access : k + 14 + 4 ≡ k + 18 = omega arith in
+      rw (number k 2 (omega arith), number (k + 2) 8 (omega arith), base, number (k + 10) 4 (omega arith), limit, number (k + 14) 4 (omega arith), access)
 
   -- all of s
   pub all_mix : (k : ℕ) → length s ≡ k → mix s t k ≡ s

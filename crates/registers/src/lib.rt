@@ -6,7 +6,7 @@ ghost use Rattle.registers.specs.Registers.{words_at, words_over, segment_in, se
 
 use wire::{put_u16, put_u32, put_u64, u16_at, u32_at, u64_at};
 
-#[derive(Clone, Copy)]
+#[derive(Clone, Copy, Default)]
 pub struct Segment {
     pub selector: u16,
     pub base: u64,
@@ -20,24 +20,15 @@ pub struct Segment {
 fn start_of(len: usize, at: usize, i: usize) -> usize
     ensures { result ≡ min (i * 8 + at) len }
 {
-    if len / 8 < i {
-        return len;
-    }
-    let left = len - i * 8;
-    if left < at {
-        return len;
-    }
-    i * 8 + at
+    i.saturating_mul(8).saturating_add(at).min(len)
 }
 
 // As many as the array has, from a place on; those past the end are 0.
 pub fn words(s: &[u8], at: usize, a: &mut [u64])
     ensures { a.new ≡ words_at at (length a.old) s.now }
 {
-    let mut i = 0;
-    while i < a.len() {
-        a[i] = u64_at(s, start_of(s.len(), at, i));
-        i += 1;
+    for (i, word) in a.iter_mut().enumerate() {
+        *word = u64_at(s, start_of(s.len(), at, i));
     }
 }
 
@@ -45,11 +36,8 @@ pub fn words(s: &[u8], at: usize, a: &mut [u64])
 pub fn put_words(s: &mut [u8], at: usize, a: &[u64])
     ensures { s.new ≡ words_over at a.now s.old }
 {
-    let len = s.len();
-    let mut i = 0;
-    while i < a.len() {
-        put_u64(s, start_of(len, at, i), a[i]);
-        i += 1;
+    for (i, word) in a.iter().enumerate() {
+        put_u64(s, start_of(s.len(), at, i), *word);
     }
 }
 

@@ -1,8 +1,10 @@
 -- The calls on a queue of a region: what each is refused for, and what it stores and answers.
 -- b are the region's bytes, o is where a ring's header starts; its data starts 16 bytes later.
 -- Assumes nothing.
-use Rattle.std.specs.Prelude.{◌≡◌, ℕ, ◌+◌, ◌*◌, ◌%◌, cond, List, [], ◌∷◌, length, ◌==◌, nat_le, nat_lt}
+use Rattle.std.specs.Prelude.{◌≡◌, Result, Ok, Err, ℕ, ◌+◌, ◌*◌, ◌%◌, cond, List, [], ◌∷◌, length, ◌==◌, nat_le, nat_lt}
 use Rattle.answer.specs.declared.Answer.{Answer}
+use Rattle.answer.specs.declared.Fault.{Fault}
+use Rattle.answer.specs.Calls.{fault_of}
 use Rattle.answer.specs.Numbers.{BIG, FULL, EMPTY, RECORD, TURN}
 use Rattle.answer.specs.Outcome.{Outcome, taken, refused, Checks, checked}
 use Rattle.wire.specs.Numbers.{le_at, bytes_of}
@@ -45,6 +47,15 @@ as_pair (refused n p) = record { number = n; place = p; start = 0; end = 0 }
 abbrev pub as_record : Outcome (Stores × (ℕ × ℕ)) → Record
 as_record (taken x) = record { number = 0; place = count x.0; payload_place = x.1.0; payload_length = x.1.1 }
 as_record (refused n p) = record { number = n; place = p; payload_place = 0; payload_length = 0 }
+
+-- the same of what the code has before it answers: what is taken, or a fault
+abbrev pub pair_of : Result Pair Fault → Pair
+pair_of (Ok x) = x
+pair_of (Err f) = as_pair (fault_of f)
+
+abbrev pub record_answer : Result Record Fault → Record
+record_answer (Ok x) = x
+record_answer (Err f) = as_record (fault_of f)
 
 -- the promise of a call: the answer r shows its outcome o, and the region that held `old` holds `new`
 pub record Leaves {A R : Type 0} (shows : Outcome (Stores × A) → R) (o : Outcome (Stores × A)) (old : List ℕ) (r : R) (new : List ℕ) : Type 0 where

@@ -11,10 +11,10 @@ ghost use Rattle.aerosnap.specs.Content.{content_of, render};
 ghost use Rattle.aerosnap.specs.Salvage.{parts_of, loss_rows, salvage};
 ghost use Rattle.sections.specs.Directory.{directory_places};
 ghost use Rattle.sections.specs.Steps.{held, HoldsParts, HasDirectory};
-ghost use Rattle.salvage.specs.Salvaging.{Salvages};
+ghost use Rattle.salvage.specs.Salvaging.{Salvages, rescue_answer};
 
-use answer::{ROOM, TAKEN};
-use sections::{Division, Places};
+use answer::{Fault, TAKEN, roomy};
+use sections::Places;
 
 // The answer of a salvage: number and place, and how many losses there are.
 #[repr(C)]
@@ -25,6 +25,32 @@ pub struct Salvaged {
     pub losses: u64,
 }
 
+// What was kept: how many bytes were written of it, and how many parts are lost.
+#[derive(Clone, Copy)]
+pub struct Rescue {
+    pub bytes: usize,
+    pub losses: usize,
+}
+
+impl From<Result<Rescue, Fault>> for Salvaged {
+    ghost from_gives = { λ r s. s ≡ rescue_answer r };
+
+    fn from(r: Result<Rescue, Fault>) -> Salvaged {
+        match r {
+            Ok(rescue) => Salvaged {
+                number: TAKEN,
+                place: rescue.bytes as u64,
+                losses: rescue.losses as u64,
+            },
+            Err(f) => Salvaged {
+                number: u32::from(f.0),
+                place: f.1 as u64,
+                losses: 0,
+            },
+        }
+    }
+}
+
 // The records of what is lost, for which there is room: the parts of the file are found once more, since it is known only now that they may be written.
 fn put_losses(file: &[u8], lost: usize, index: &mut [u32], losses: &mut [u8])
     requires { Pass (header_checks file.now) × (directory_places ≤ length index.old) × (lost ≡ length (loss_rows 16 (parts_of file.now))) × (length (join (loss_rows 16 (parts_of file.now))) ≤ length losses.old) }
@@ -33,10 +59,10 @@ fn put_losses(file: &[u8], lost: usize, index: &mut [u32], losses: &mut [u8])
     if lost == 0 {
         return;
     }
-    sections::divide(file, index, losses);
+    let _ = sections::divide(file, index, losses);
 }
 
-// The canonical form of what is kept, for which there is room.
+// The canonical form of what is kept, for which there is room. `canon` has the same function of its own: a public one would have to take every input, and this one leans on `HasDirectory`.
 fn put_form(file: &[u8], index: &[u32], out: &mut [u8]) -> usize
     requires { HasDirectory file.now index.now × (length (render (content_of (held file.now))) ≤ length out.old) }
     ensures { Wrote (render (content_of (held file.now))) out.old out.new result }
@@ -52,49 +78,46 @@ fn salvage_in(
     index: &mut [u32],
     out: &mut [u8],
     losses: &mut [u8],
-) -> Salvaged
+) -> Result<Rescue, Fault>
     requires { HasDirectory file.now index.old × (lost ≡ length (loss_rows 16 (parts_of file.now))) }
-    ensures { Salvages (salvage (length out.old) (length losses.old) file.now) out.old losses.old result out.new losses.new }
+    ensures { Salvages (salvage (length out.old) (length losses.old) file.now) out.old losses.old (rescue_answer result) out.new losses.new }
 {
-    let need = sections::noted(index, 18);
-    if out.len() < need {
-        return Salvaged {
-            number: ROOM,
-            place: need as u64,
-            losses: 0,
-        };
-    }
-    let rows = 24 * lost;
-    if losses.len() < rows {
-        return Salvaged {
-            number: ROOM,
-            place: rows as u64,
-            losses: 0,
-        };
-    }
-    let n = put_form(&file[..], index, out);
+    roomy(out.len(), sections::noted(index, 18))?;
+    roomy(losses.len(), 24 * lost)?;
+    let bytes = put_form(&file[..], index, out);
     put_losses(&file[..], lost, index, losses);
-    Salvaged {
-        number: TAKEN,
-        place: n as u64,
-        losses: lost as u64,
+    Ok(Rescue {
+        bytes,
+        losses: lost,
+    })
+}
+
+// What can be kept of a file, with an index of so many places.
+fn salvage_with<const N: usize>(
+    file: &[u8],
+    out: &mut [u8],
+    losses: &mut [u8],
+) -> Result<Rescue, Fault>
+    requires holds { HoldsParts file.now N }
+    requires few { N ≤ 4883 }
+    ensures { Salvages (salvage (length out.old) (length losses.old) file.now) out.old losses.old (rescue_answer result) out.new losses.new }
+{
+    let mut index = [0u32; N];
+    let mut none = [0u8; 1];
+    match sections::divide(&file[..], &mut index, &mut none[..0])? {
+        None => salvage_in(&file[..], 0, &mut index, out, losses),
+        Some(lost) => salvage_in(&file[..], lost.parts, &mut index, out, losses),
     }
 }
 
-// What can be kept of a file, with room for its index.
-fn salvage_by(file: &[u8], index: &mut [u32], out: &mut [u8], losses: &mut [u8]) -> Salvaged
-    requires { HoldsParts file.now (length index.old) }
-    ensures { Salvages (salvage (length out.old) (length losses.old) file.now) out.old losses.old result out.new losses.new }
+// The same, with an index of as many places as the file needs.
+fn rescued(file: &[u8], out: &mut [u8], losses: &mut [u8]) -> Result<Rescue, Fault>
+    ensures { Salvages (salvage (length out.old) (length losses.old) file.now) out.old losses.old (rescue_answer result) out.new losses.new }
 {
-    let mut none = [0u8; 1];
-    match sections::divide(&file[..], index, &mut none[..0]) {
-        Division::Fault(number, place) => Salvaged {
-            number,
-            place: place as u64,
-            losses: 0,
-        },
-        Division::Whole => salvage_in(&file[..], 0, index, out, losses),
-        Division::Lost(lost, _, _) => salvage_in(&file[..], lost, index, out, losses),
+    match sections::places_for(&file[..], file.len()) {
+        Places::Few => salvage_with::<51>(&file[..], out, losses),
+        Places::Some => salvage_with::<275>(&file[..], out, losses),
+        Places::All => salvage_with::<4883>(&file[..], out, losses),
     }
 }
 
@@ -102,18 +125,5 @@ fn salvage_by(file: &[u8], index: &mut [u32], out: &mut [u8], losses: &mut [u8])
 pub fn salvage(file: &[u8], out: &mut [u8], losses: &mut [u8]) -> Salvaged
     ensures { Salvages (salvage (length out.old) (length losses.old) file.now) out.old losses.old result out.new losses.new }
 {
-    match sections::places_for(&file[..], file.len()) {
-        Places::Few => {
-            let mut index = [0u32; 51];
-            salvage_by(&file[..], &mut index, out, losses)
-        }
-        Places::Some => {
-            let mut index = [0u32; 275];
-            salvage_by(&file[..], &mut index, out, losses)
-        }
-        Places::All => {
-            let mut index = [0u32; 4883];
-            salvage_by(&file[..], &mut index, out, losses)
-        }
-    }
+    Salvaged::from(rescued(&file[..], out, losses))
 }

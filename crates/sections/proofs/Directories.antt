@@ -15,12 +15,17 @@ use Rattle.answer.specs.Calls.{asked}
 use Rattle.answer.proofs.Checks.{pass-checked, checked-pass, asked_stop}
 use Rattle.aerosnap.specs.File.{header_checks, file_of}
 use Rattle.aerosnap.specs.Salvage.{Part, parts_of, all_kept}
-use Rattle.sections.specs.declared.Division.{Division}
-use Rattle.sections.specs.declared.Division.TheVariants.{Fault}
+use Rattle.sections.specs.declared.Losses.{Losses}
+use Rattle.answer.specs.declared.Refusal.TheVariants.{Room}
+use Rattle.answer.specs.Refusals.{number_of}
+use Rattle.answer.specs.Calls.{fault_of}
+use Rattle.answer.proofs.Once.{fault_once, outcome_once}
+use Rattle.answer.proofs.Outcomes.{taken_is, taken_refused}
 use Rattle.sections.specs.Index.{kept}
-use Rattle.sections.specs.Directory.{directory_places, seats, seat_of, Directory, parts_in, division_of, losses_of, IndexAfter, rows_after, Divides, IndexesFile}
+use Rattle.sections.specs.Directory.{directory_places, seats, seat_of, Directory, parts_in, division_of, divided_of, lost_of, losses_of, IndexAfter, rows_after, Divides, IndexesFile}
 use Rattle.sections.specs.Steps.{Parted, Divided, walked_from}
-use Rattle.answer.specs.declared.Test.{Test}
+use Rattle.std.proofs.Common.{Result, Ok, Err, Option, Some, None}
+use Rattle.answer.specs.declared.Fault.{Fault}
 
 -- ---- a directory stored
 
@@ -50,7 +55,7 @@ module _ (d old : List ℕ) (l : length d ≡ directory_places) (r : directory_p
 -- ---- the directory of a file's parts
 
 -- the header's bytes are counted, the directory is stored before the starts
-pub directory_made : (s old d starts rows recs new : List ℕ) (lost : Division) → directory_places ≤ length old → Parted s d (drop directory_places old) starts rows recs lost
+pub directory_made : (s old d starts rows recs new : List ℕ) (lost : Option Losses) → directory_places ≤ length old → Parted s d (drop directory_places old) starts rows recs lost
     → new ≡ set d 18 (get_or d 18 0 + 16) ++ starts → length starts ≡ length (drop directory_places old) → Directory (parts_of s) old new
 directory_made s old d starts rows recs new lost r v q n =
     let e : List ℕ = set d 18 (get_or d 18 0 + 16) in
@@ -69,7 +74,7 @@ directory_made s old d starts rows recs new lost r v q n =
     }
 
 -- the same of what the code lends: the part of the index behind the directory, which comes back in its place
-module _ (s old : List ℕ) (r : directory_places ≤ length old) {d last rows recs : List ℕ} {lost : Division} (v : Parted s d (take (length old - directory_places) (drop directory_places old)) last rows recs lost)
+module _ (s old : List ℕ) (r : directory_places ≤ length old) {d last rows recs : List ℕ} {lost : Option Losses} (v : Parted s d (take (length old - directory_places) (drop directory_places old)) last rows recs lost)
     (n : length last ≡ length (take (length old - directory_places) (drop directory_places old))) where
   abbrev behind : List ℕ
   behind = drop directory_places old
@@ -101,30 +106,30 @@ module _ (s old : List ℕ) (r : directory_places ≤ length old) {d last rows r
 
 -- ---- the exits of the call
 
-divides_stop : (s old rows : List ℕ) {n p : ℕ} → parts_in (length old) s ≡ refused n p → Divides s old rows (Fault n p) old rows
-divides_stop s old rows {n} {p} e = record {
+divides_stop : (s old rows : List ℕ) {f : Fault} → parts_in (length old) s ≡ fault_of f → Divides s old rows (Err f) old rows
+divides_stop s old rows {f} e = record {
   answers = sym (ap (division_of s) e);
   index = subst (λ (o : Outcome (List Part)). IndexAfter o old old) (sym e) refl;
   records = sym (ap (λ (o : Outcome (List Part)). rows_after o rows) e);
 }
 
-pub divides_fault : (s old rows : List ℕ) {n p : ℕ} → refused n p ≡ asked (header_checks s) → Divides s old rows (Fault n p) old rows
+pub divides_fault : (s old rows : List ℕ) {f : Fault} → fault_of f ≡ asked (header_checks s) → Divides s old rows (Err f) old rows
 divides_fault s old rows e = divides_stop s old rows (asked_stop (header_checks s) (checked ((leb directory_places (length old), ROOM, directory_places) ∷ []) (taken (parts_of s))) e)
 
 module _ (s old rows : List ℕ) (h : Pass (header_checks s)) where
   whole : parts_in (length old) s ≡ checked ((leb directory_places (length old), ROOM, directory_places) ∷ []) (taken (parts_of s))
   whole = pass-checked (header_checks s) (checked ((leb directory_places (length old), ROOM, directory_places) ∷ []) (taken (parts_of s))) h
 
-  pub divides_room : length old < directory_places → Divides s old rows (Fault ROOM directory_places) old rows
+  pub divides_room : length old < directory_places → Divides s old rows (Err (record { 0 = Room; 1 = directory_places })) old rows
   divides_room i = divides_stop s old rows (whole ∙ rw (lt-leb directory_places (length old) i) refl)
 
-  pub divides_done : directory_places ≤ length old → {new recs : List ℕ} {r : Division} → Divided s old new rows recs r → Divides s old rows r new recs
+  pub divides_done : directory_places ≤ length old → {new recs : List ℕ} {r : Option Losses} → Divided s old new rows recs r → Divides s old rows (Ok r) new recs
   unfolding file_of
   divides_done i {new} {recs} {r} v =
       let e : parts_in (length old) s ≡ taken (parts_of s) = whole ∙ rw (le-leb directory_places (length old) i) refl in
       let f : file_of s ≡ walked_from s = pass-checked (header_checks s) (walked_from s) h in
       record {
-        answers = v.losses ∙ sym (ap (division_of s) e ∙ ap (λ (o : Outcome (List (List ℕ))). losses_of o (parts_of s)) f);
+        answers = ap taken v.losses ∙ sym (ap (division_of s) e ∙ ap (λ (o : Outcome (List (List ℕ))). taken (losses_of o (parts_of s))) f);
         index = subst (λ (o : Outcome (List Part)). IndexAfter o old new) (sym e) v.index;
         records = v.records ∙ sym (ap (λ (o : Outcome (List Part)). rows_after o rows) e);
       }
@@ -164,6 +169,23 @@ directory_once l old new now r a b =
         go false t false p false q true r = let z : i ≡ 17 = omega (arith, leb-false i 16 q, leb-true i 17 r) in rw z (a.sections ∙ sym b.sections)
         go false t false p false q false r = let z : i ≡ 18 = omega (arith, leb-false i 17 r) in rw z (a.bytes ∙ sym b.bytes)
 
+-- the code's own answers stand for different ones
+lost_once : (a b : Option Losses) → lost_of a ≡ lost_of b → a ≡ b
+lost_once None None e = refl
+lost_once None (Some b) e = let z : ◌≡◌ {A = ℕ} 0 1 = cc in absurd (omega arith)
+lost_once (Some a) None e = let z : ◌≡◌ {A = ℕ} 0 1 = cc in absurd (omega arith)
+lost_once (Some a) (Some b) e =
+    let t : ◌≡◌ {A = ℕ × ℕ × ℕ} (a.parts, number_of a.first.0, a.first.1) (b.parts, number_of b.first.0, b.first.1) = cc in
+    let make : ℕ → Fault → Losses = λ k f. record { parts = k; first = f } in
+    let f : a.first ≡ b.first = fault_once {A = ℕ} a.first b.first (ap (λ (x : ℕ × ℕ × ℕ). refused x.1 x.2) t) in
+    ap Some (ap (λ (k : ℕ). make k a.first) (ap (λ (x : ℕ × ℕ × ℕ). x.0) t) ∙ ap (make b.parts) f)
+
+divided_once : (r p : Result (Option Losses) Fault) → divided_of r ≡ divided_of p → r ≡ p
+divided_once (Ok a) (Ok b) e = ap Ok (lost_once a b (taken_is e))
+divided_once (Ok a) (Err f) e = absurd (taken_refused e)
+divided_once (Err f) (Ok b) e = absurd (taken_refused (sym e))
+divided_once (Err f) (Err g) e = ap Err (fault_once {A = Option (ℕ × ℕ × ℕ)} f g e)
+
 module _ (s old : List ℕ) {new now : List ℕ} where
   indexed : (o : Outcome (List Part)) → parts_in (length old) s ≡ o → IndexAfter o old new → IndexAfter o old now → new ≡ now
   indexed (taken l) e x y =
@@ -171,8 +193,8 @@ module _ (s old : List ℕ) {new now : List ℕ} where
       directory_once l old new now (leb-true directory_places (length old) (checked-pass ((leb directory_places (length old), ROOM, directory_places) ∷ []) (taken (parts_of s)) l c).0.0) x y
   indexed (refused n p) e x y = x ∙ sym y
 
-  pub divides_once : (rows : List ℕ) {r p : Division} {recs lines : List ℕ} → Divides s old rows r new recs → Divides s old rows p now lines → (r ≡ p) × (new ≡ now) × (recs ≡ lines)
-  divides_once rows a b = (a.answers ∙ sym b.answers, indexed (parts_in (length old) s) refl a.index b.index, a.records ∙ sym b.records)
+  pub divides_once : (rows : List ℕ) (r p : Result (Option Losses) Fault) {recs lines : List ℕ} → Divides s old rows r new recs → Divides s old rows p now lines → (r ≡ p) × (new ≡ now) × (recs ≡ lines)
+  divides_once rows r p a b = (divided_once r p (a.answers ∙ sym b.answers), indexed (parts_in (length old) s) refl a.index b.index, a.records ∙ sym b.records)
 
-  pub indexes_once : {r p : Test} → IndexesFile s old r new → IndexesFile s old p now → (r ≡ p) × (new ≡ now)
-  indexes_once a b = (a.answers ∙ sym b.answers, indexed (parts_in (length old) s) refl a.index b.index)
+  pub indexes_once : (r p : Result (Unit {0}) Fault) → IndexesFile s old r new → IndexesFile s old p now → (r ≡ p) × (new ≡ now)
+  indexes_once r p a b = (outcome_once r p (a.answers ∙ sym b.answers), indexed (parts_in (length old) s) refl a.index b.index)

@@ -10,8 +10,8 @@ use lib.Seq.{take-append_seam, length-take-le}
 use lib.Dec.{leb, eqb}
 use borrow.Author.Tests.{leb-true, le-leb, lt-leb}
 use Rattle.answer.specs.Numbers.{CUT}
-use Rattle.answer.specs.declared.Piece.{Piece}
-use Rattle.answer.specs.declared.Piece.TheVariants.{Stop, Ends}
+use Rattle.std.proofs.Common.{Result, Ok, Err, Option}
+use Rattle.answer.specs.declared.Fault.{Fault}
 use Rattle.answer.specs.Outcome.{Outcome, taken, checked}
 use Rattle.answer.proofs.Checks.{checked-pass, and_true}
 use Rattle.answer.proofs.Outcomes.{made_stop, made_taken}
@@ -36,12 +36,12 @@ use Rattle.aerosnap.proofs.Judged.{span}
 use Rattle.aerosnap.proofs.Copies.{secs-count, render_size}
 use Rattle.aerosnap.proofs.Slots.{once_last}
 use Rattle.aerosnap.proofs.Written.{is_empty, tidy_one}
-use Rattle.sections.specs.Steps.{walked_from, Marks, Keeps, tallied, seated, written_size, FirstOf, division_for, Parted}
+use Rattle.sections.specs.Steps.{walked_from, Marks, Keeps, tallied, seated, written_size, FirstOf, losses_by, Parted}
 use Rattle.sections.specs.Index.{starts_of, kept}
-use Rattle.sections.specs.Directory.{directory_places, seats, seat_of, others_in, loss_rows_in}
-use Rattle.sections.specs.declared.Division.{Division}
-use Rattle.answer.specs.declared.Test.{Test}
-use Rattle.answer.specs.declared.Test.TheVariants.{Fine}
+use Rattle.sections.specs.Directory.{directory_places, seats, seat_of, others_in, loss_rows_in, lost_of}
+use Rattle.sections.specs.declared.Losses.{Losses}
+use Rattle.answer.specs.declared.Refusal.TheVariants.{Cut}
+use Rattle.answer.specs.Refusals.{number_of}
 use Rattle.sections.proofs.Rules.{keeps_stop}
 use Rattle.sections.proofs.Kept.{whole-fits, kept-fits, kept_last, starts_front, starts_most, kept_less}
 use Rattle.aerosnap.proofs.Turns.{sections_at}
@@ -64,10 +64,10 @@ module _ (s : List ℕ) (at : ℕ) where
   length_not q h = sym (ap (λ (t : Bool). cond t (16 + length_of (drop at s)) (length (drop at s))) (sym q ∙ h) ∙ length-drop at s)
 
   module _ (l : List (List ℕ)) {k old new : List ℕ} {b : Bool} (q : b ≡ fits_in (drop at s)) where
-    pub part_not : b ≡ false → new ≡ old → Keeps (read_part l at (drop at s)) k old (Stop CUT at) new
+    pub part_not : b ≡ false → new ≡ old → Keeps (read_part l at (drop at s)) k old (Err (record { 0 = Cut; 1 = at })) new
     part_not h w = keeps_stop (sym (ap (λ (t : Bool). checked ((t, CUT, at) ∷ []) (section_of l at (drop at s))) (sym q ∙ h))) w
 
-    pub part_fits : b ≡ true → {r : Piece} → Keeps (section_of l at (drop at s)) k old r new → Keeps (read_part l at (drop at s)) k old r new
+    pub part_fits : b ≡ true → {r : Result ℕ Fault} → Keeps (section_of l at (drop at s)) k old r new → Keeps (read_part l at (drop at s)) k old r new
     part_fits h {r} m = subst (λ (o : Outcome ℕ). Keeps o k old r new) (sym (ap (λ (t : Bool). checked ((t, CUT, at) ∷ []) (section_of l at (drop at s))) (sym q ∙ h))) m
 
 -- ---- records
@@ -127,7 +127,7 @@ span_step [] x = omega (arith, length-append (bytes_in x) [])
 span_step (y ∷ l) x = omega (arith, span_step l x, length-append (bytes_in y) (join (map bytes_in (l ++ (x ∷ [])))), length-append (bytes_in y) (join (map bytes_in l)))
 
 -- the parts up to a place are found: n sections are kept, their starts stand first in the places that held `old`, and so many parts are lost, whose records stand first in what held `rows`
-pub record Dividing (s : List ℕ) (at n used lost t : ℕ) (first : Test) (seen d old new rows recs : List ℕ) : Type 0 where
+pub record Dividing (s : List ℕ) (at n used lost t : ℕ) (first : Result (Unit {0}) Fault) (seen d old new rows recs : List ℕ) : Type 0 where
   pub done : List Part
   pub same : parts_of s ≡ done ++ parts_at (all_kept done) s at
   pub place : at ≡ 16 + span done
@@ -141,7 +141,7 @@ pub record Dividing (s : List ℕ) (at n used lost t : ℕ) (first : Test) (seen
   pub starts : Wrote (kept (length old) (all_kept done)) old new used
   pub records : Wrote (loss_rows_in (length rows) (loss_rows 16 done)) rows recs t
 
-pub dividing_start : (s d old rows : List ℕ) → 16 ≤ length s → d ≡ zeros directory_places → Dividing s 16 0 0 0 0 Fine (replicate 9 0) d old old rows rows
+pub dividing_start : (s d old rows : List ℕ) → 16 ≤ length s → d ≡ zeros directory_places → Dividing s 16 0 0 0 0 (Ok tt) (replicate 9 0) d old old rows rows
 dividing_start s d old rows h z = record {
   done = [];
   same = refl;
@@ -157,11 +157,11 @@ dividing_start s d old rows h z = record {
   records = none rows;
 }
 
-module _ {s : List ℕ} {at n used lost t : ℕ} {first : Test} {seen d old new rows recs : List ℕ} (v : Dividing s at n used lost t first seen d old new rows recs) where
+module _ {s : List ℕ} {at n used lost t : ℕ} {first : Result (Unit {0}) Fault} {seen d old new rows recs : List ℕ} (v : Dividing s at n used lost t first seen d old new rows recs) where
   abbrev tail : List ℕ
   tail = take (length new - used) (drop used new)
 
-  abbrev pub Told : Piece → List ℕ → Type 0
+  abbrev pub Told : Result ℕ Fault → List ℕ → Type 0
   Told r last = Keeps (read_part (all_kept v.done) at (drop at s)) (whole (length tail) (starts_of (drop at s))) tail r last
 
   -- the starts as they come back
@@ -240,7 +240,7 @@ module _ {s : List ℕ} {at n used lost t : ℕ} {first : Test} {seen d old new 
       once = v.sound.once;
     }
 
-    pub dividing_done : {r : Division} → r ≡ division_for first lost → Parted s d old new rows recs r
+    pub dividing_done : {r : Option Losses} → r ≡ losses_by first lost → Parted s d old new rows recs r
     dividing_done {r} e = record {
       long = v.seating.long;
       others = v.seating.others ∙ ap (λ (l : List Part). others_in (all_kept l)) all;
@@ -250,7 +250,7 @@ module _ {s : List ℕ} {at n used lost t : ℕ} {first : Test} {seen d old new 
       bytes = ap (λ (k : ℕ). 16 + k) v.seating.bytes ∙ sym (render_size (all_kept v.done) valid) ∙ ap (λ (l : List Part). length (render (content_of (all_kept l)))) all;
       starts = v.starts.bytes ∙ ap (λ (l : List Part). kept (length old) (all_kept l) ++ drop (length (kept (length old) (all_kept l))) old) all;
       records = v.records.bytes ∙ ap (λ (l : List Part). loss_rows_in (length rows) (loss_rows 16 l) ++ drop (length (loss_rows_in (length rows) (loss_rows 16 l))) rows) all;
-      losses = e ∙ first_done s at (64 - n) lost (all_kept v.done) h first v.firsts (parts_of s) (v.count ∙ ap (λ (l : List Part). length (loss_rows 16 l)) all);
+      losses = ap lost_of e ∙ first_done s at (64 - n) lost (all_kept v.done) h first v.firsts (parts_of s) (v.count ∙ ap (λ (l : List Part). length (loss_rows 16 l)) all);
       small = omega (arith, dividing_bytes, v.inside);
     }
 
@@ -278,19 +278,19 @@ module _ {s : List ℕ} {at n used lost t : ℕ} {first : Test} {seen d old new 
     abbrev rtail : List ℕ
     rtail = take (length recs - t) (drop t recs)
 
-    pub dividing_lost : {a p : ℕ} {last : List ℕ} → Told (Stop a p) last → (r : Test) → FirstOf first s at n a p r → {more : List ℕ} {m : ℕ} → Wrote (whole (length rtail) (loss_bytes at w a)) rtail more m
+    pub dividing_lost : (f : Fault) {last : List ℕ} → Told (Err f) last → (r : Result (Unit {0}) Fault) → FirstOf first s at n f r → {more : List ℕ} {m : ℕ} → Wrote (whole (length rtail) (loss_bytes at w (number_of f.0))) rtail more m
         → Dividing s (at + w) n used (lost + 1) (t + m) r seen d old (back last) rows (take t recs ++ (more ++ drop (length recs - t) (drop t recs)))
-    dividing_lost {a} {p} {last} k y' fo {more} {m} so =
+    dividing_lost fault {last} k y' fo {more} {m} so =
         let r = made_stop (read_part (all_kept v.done) at b) _ k.answers in
         let e = parts_lost (all_kept v.done) s at h r in
-        let x : Part = loses a bytes in
+        let x : Part = loses (number_of fault.0) bytes in
         let g : List Part = v.done ++ (x ∷ []) in
         let kk : all_kept g ≡ all_kept v.done = kept_step v.done x ∙ append-nil (all_kept v.done) in
-        let y : List ℕ = loss_bytes at w a in
+        let y : List ℕ = loss_bytes at w (number_of fault.0) in
         let u : loss_rows 16 g ≡ loss_rows 16 v.done ++ (y ∷ []) = loss_last v.done 16 x ∙ cc (v.place, bytes_long) in
         let o : length rtail ≡ length rows - length (loss_rows_in (length rows) (loss_rows 16 v.done)) = length_tail t recs ∙ omega (arith, dividing_rows, v.records.count) in
         let c : loss_rows_in (length rows) (loss_rows 16 v.done) ++ whole (length rtail) y ≡ loss_rows_in (length rows) (loss_rows 16 g) = cc (o, rows_last (length rows) (loss_rows 16 v.done) y, u) in
-        let f : back last ≡ new = ap back (k.stays a p r) ∙ restored in
+        let f : back last ≡ new = ap back (k.stays (number_of fault.0) fault.1 r) ∙ restored in
         record {
           done = g;
           same =
@@ -305,8 +305,8 @@ module _ {s : List ℕ} {at n used lost t : ℕ} {first : Test} {seen d old new 
           sound = subst Sound (sym kk) v.sound;
           count = omega (arith, v.count, ap length u, length-append (loss_rows 16 v.done) (y ∷ []));
           few = omega (arith, v.few, dividing_goes.0);
-          firsts = first_lost s at n lost (all_kept v.done) h v.marks.count first y' v.firsts fo r (sections_at (64 - n) (all_kept g) s (at + w));
-          seating = seating_lost v.seating a bytes;
+          firsts = first_lost s at n lost (all_kept v.done) h v.marks.count first y' v.firsts fault fo r (sections_at (64 - n) (all_kept g) s (at + w));
+          seating = seating_lost v.seating (number_of fault.0) bytes;
           starts = subst (λ (l : List (List ℕ)). Wrote (kept (length old) l) old (back last) used) (sym kk) (subst (λ (l : List ℕ). Wrote (kept (length old) (all_kept v.done)) old l used) (sym f) v.starts);
           records = subst (λ (l : List ℕ). Wrote l rows (take t recs ++ (more ++ drop (length recs - t) (drop t recs))) (t + m)) c (wrote_tail v.records so);
         }
@@ -314,7 +314,7 @@ module _ {s : List ℕ} {at n used lost t : ℕ} {first : Test} {seen d old new 
         restored : take used new ++ (take (length new - used) (drop used new) ++ drop (length new - used) (drop used new)) ≡ new
         restored = ap (λ (l : List ℕ). take used new ++ l) (take-append-drop (length new - used) (drop used new)) ∙ take-append-drop used new
 
-    module _ {k : ℕ} {last : List ℕ} (ends : Told (Ends k) last) where
+    module _ {k : ℕ} {last : List ℕ} (ends : Told (Ok k) last) where
       told : (a : ℕ) × (read_part (all_kept v.done) at b ≡ taken a) × (k ≡ length (whole (length tail) (starts_of b)))
       told = made_taken (read_part (all_kept v.done) at b) _ ends.answers
 

@@ -11,14 +11,15 @@ use lib.Dec.{leb, ltb}
 use borrow.Author.Tests.{le-leb, lt-leb, lt-ltb, le-ltb}
 use Rattle.answer.specs.Numbers.{CUT, MANY}
 use Rattle.answer.specs.Outcome.{Outcome, taken, refused, checked, after}
-use Rattle.answer.specs.declared.Test.{Test}
-use Rattle.answer.specs.declared.Test.TheVariants.{Fault, Fine}
+use Rattle.std.proofs.Common.{Result, Ok, Err, Some}
+use Rattle.answer.specs.declared.Fault.{Fault}
+use Rattle.answer.specs.Calls.{fault_of}
+use Rattle.answer.specs.Refusals.{number_of}
 use Rattle.aerosnap.specs.File.{sections_most, length_of, fits_in, id_of, version_of, flags_of, payload_of, ruled, section_of}
 use Rattle.aerosnap.specs.Salvage.{Part, loss_rows, read_part}
 use Rattle.aerosnap.proofs.Turns.{sections_at, walk_end, walk_stop, walk_next}
-use Rattle.sections.specs.declared.Division.TheVariants.{Lost}
-use Rattle.sections.specs.Steps.{walked_from, FirstOf, division_for}
-use Rattle.sections.specs.Directory.{losses_of}
+use Rattle.sections.specs.Steps.{walked_from, FirstOf, losses_by}
+use Rattle.sections.specs.Directory.{losses_of, lost_of}
 
 -- ---- the reader's own answer
 
@@ -54,28 +55,28 @@ module _ (l : List (List ℕ)) (at : ℕ) (b : List ℕ) where
 -- ---- what the loop keeps
 
 -- nothing is lost, and the walk goes on from the place; or something is, and the whole walk is refused
-abbrev pub FirstSo : Test → Outcome (List (List ℕ)) → ℕ → Outcome (List (List ℕ)) → Type 0
-FirstSo Fine o lost rest = (lost ≡ 0) × (o ≡ rest)
-FirstSo (Fault a p) o lost rest = (1 ≤ lost) × (o ≡ refused a p)
+abbrev pub FirstSo : Result (Unit {0}) Fault → Outcome (List (List ℕ)) → ℕ → Outcome (List (List ℕ)) → Type 0
+FirstSo (Ok _) o lost rest = (lost ≡ 0) × (o ≡ rest)
+FirstSo (Err f) o lost rest = (1 ≤ lost) × (o ≡ fault_of f)
 
 module _ (s : List ℕ) (at n lost : ℕ) (l : List (List ℕ)) (h : at < length s) (c : n ≡ length l) where
   -- a part is lost
-  pub first_lost : (first r : Test) → FirstSo first (walked_from s) lost (sections_at (64 - n) l s at) → {number place : ℕ} → FirstOf first s at n number place r → read_part l at (drop at s) ≡ refused number place
+  pub first_lost : (first r : Result (Unit {0}) Fault) → FirstSo first (walked_from s) lost (sections_at (64 - n) l s at) → (fault : Fault) → FirstOf first s at n fault r → read_part l at (drop at s) ≡ fault_of fault
       → (rest : Outcome (List (List ℕ))) → FirstSo r (walked_from s) (lost + 1) rest
-  first_lost (Fault a p) r v f q rest = subst (λ (t : Test). FirstSo t (walked_from s) (lost + 1) rest) (sym f) (omega arith, v.1)
-  first_lost Fine r v f q rest =
-      subst (λ (t : Test). FirstSo t (walked_from s) (lost + 1) rest) (sym f.is) (omega arith, v.1 ∙ walk_stop l s at (64 - n) h (f.reader l c q))
+  first_lost (Err g) r v fault f q rest = subst (λ (t : Result (Unit {0}) Fault). FirstSo t (walked_from s) (lost + 1) rest) (sym f) (omega arith, v.1)
+  first_lost (Ok _) r v fault f q rest =
+      subst (λ (t : Result (Unit {0}) Fault). FirstSo t (walked_from s) (lost + 1) rest) (sym f.is) (omega arith, v.1 ∙ walk_stop l s at (64 - n) h (f.reader l c q))
 
   -- a section is kept
-  pub first-kept : (first : Test) → FirstSo first (walked_from s) lost (sections_at (64 - n) l s at) → n < 64 → {w k : ℕ} → section_of l at (drop at s) ≡ taken w → w ≡ k → {e : List ℕ} → take w (drop at s) ≡ e
+  pub first-kept : (first : Result (Unit {0}) Fault) → FirstSo first (walked_from s) lost (sections_at (64 - n) l s at) → n < 64 → {w k : ℕ} → section_of l at (drop at s) ≡ taken w → w ≡ k → {e : List ℕ} → take w (drop at s) ≡ e
       → FirstSo first (walked_from s) lost (sections_at (64 - (n + 1)) (l ++ (e ∷ [])) s (at + k))
-  first-kept (Fault a p) v i q y z = v
-  first-kept Fine v i {w} q y {e} z =
+  first-kept (Err f) v i q y z = v
+  first-kept (Ok _) v i {w} q y {e} z =
       let m : 64 - n ≡ suc (64 - (n + 1)) = omega arith in
       (v.0, v.1 ∙ ap (λ (j : ℕ). sections_at j l s at) m ∙ walk_next l s at (64 - (n + 1)) h q ∙ ap (λ (d : List ℕ). sections_at (64 - (n + 1)) (l ++ (d ∷ [])) s (at + w)) z ∙ ap (λ (j : ℕ). sections_at (64 - (n + 1)) (l ++ (e ∷ [])) s (at + j)) y)
 
 -- the file ends
-pub first_done : (s : List ℕ) (at m lost : ℕ) (l : List (List ℕ)) → length s ≤ at → (first : Test) → FirstSo first (walked_from s) lost (sections_at m l s at) → (parts : List Part) → lost ≡ length (loss_rows 16 parts)
-    → division_for first lost ≡ losses_of (walked_from s) parts
-first_done s at m lost l h Fine v parts c = sym (ap (λ (o : Outcome (List (List ℕ))). losses_of o parts) (v.1 ∙ walk_end l s at m h))
-first_done s at m lost l h (Fault a p) v parts c = ap (λ (k : ℕ). Lost k a p) c ∙ sym (ap (λ (o : Outcome (List (List ℕ))). losses_of o parts) v.1)
+pub first_done : (s : List ℕ) (at m lost : ℕ) (l : List (List ℕ)) → length s ≤ at → (first : Result (Unit {0}) Fault) → FirstSo first (walked_from s) lost (sections_at m l s at) → (parts : List Part) → lost ≡ length (loss_rows 16 parts)
+    → lost_of (losses_by first lost) ≡ losses_of (walked_from s) parts
+first_done s at m lost l h (Ok _) v parts c = sym (ap (λ (o : Outcome (List (List ℕ))). losses_of o parts) (v.1 ∙ walk_end l s at m h))
+first_done s at m lost l h (Err f) v parts c = ap (λ (k : ℕ). Some (k, number_of f.0, f.1)) c ∙ sym (ap (λ (o : Outcome (List (List ℕ))). losses_of o parts) v.1)

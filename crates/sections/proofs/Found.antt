@@ -10,7 +10,8 @@ use lib.ListN.{length, take, drop, length-take, length-drop}
 use lib.Seq.{drop-drop, drop-append-le, take_at}
 use lib.Dec.{eqb}
 use borrow.Author.Tests.{eq-eqb, ne_eqb, eqb-true}
-use Rattle.answer.specs.declared.Piece.TheVariants.{Stop, Ends}
+use Rattle.std.proofs.Common.{Ok, Err}
+use Rattle.answer.specs.declared.Fault.{Fault}
 use Rattle.answer.specs.Outcome.{Outcome, taken, refused, after}
 use Rattle.answer.proofs.Outcomes.{taken_is, made_stop, made_taken, made_same}
 use Rattle.wire.specs.Numbers.{le_at}
@@ -32,10 +33,8 @@ use Rattle.aerosnap.proofs.Bodies.{Lawfully, lawful_body}
 use Rattle.aerosnap.proofs.Slots.{Once, first_once, rest_once}
 use Rattle.aerosnap.proofs.Taken.{file_sound}
 use Rattle.aerosnap.proofs.Standing.{Stand, stand_start, stand_next, ends_at, end_at, Turn, turn, goes, finished}
-use Rattle.sections.specs.declared.Spot.{Spot}
-use Rattle.sections.specs.declared.Spot.TheVariants.{Fault}
 use Rattle.sections.specs.Walks.{sections_in, Read, place_of}
-use Rattle.sections.specs.Index.{starts_of, first_of, count_in, spot_in, Scanned, spot_of, Spotted}
+use Rattle.sections.specs.Index.{starts_of, first_of, count_in, spot_in, Scanned, Spotted}
 use Rattle.sections.proofs.Kept.{starts-count, entries_front, starts_bound, first_most}
 
 -- the sections of a file that is taken
@@ -62,13 +61,13 @@ module _ {i : ℕ} {s : List ℕ} {l : List (List ℕ)} {at n : ℕ} (v : Seekin
   pub seeking_goes : at < length s → (at < end_at s at) × (end_at s at ≤ length s) × (length s ≤ 1073741824)
   seeking_goes = goes v.left v.stand
 
-  pub seeking_none : length s ≤ at → ◌≡◌ {A = Outcome (ℕ × ℕ)} (taken (at, n)) (taken (place_of i 16 l, first_of i l))
+  pub seeking_none : length s ≤ at → (at ≡ place_of i 16 l) × (n ≡ first_of i l)
   unfolding place_of
   seeking_none h =
       let e : v.left ≡ [] = finished v.left v.stand h in
       let p : at ≡ place_of i 16 l = sym (v.same ∙ ap (place_of i at) e) in
       let q : n ≡ first_of i l = omega (arith, v.first, ap (first_of i) e) in
-      cc (p, q)
+      (p, q)
 
   module _ (h : at < length s) {id : ℕ} (q : id ≡ le_at 4 s at) where
     seeking_turn : Turn s at v.left
@@ -88,11 +87,11 @@ module _ {i : ℕ} {s : List ℕ} {l : List (List ℕ)} {at n : ℕ} (v : Seekin
         ∙ ap (λ (m : List (List ℕ)). n + first_of i m) seeking_turn.split
         ∙ ap (λ (x : Bool). n + cond x 0 (length (starts_of seeking_turn.e) + first_of i seeking_turn.more)) (ap (λ (n : ℕ). eqb n i) its_id ∙ t)
 
-    pub seeking_found : id ≡ i → ◌≡◌ {A = Outcome (ℕ × ℕ)} (taken (at, n)) (taken (place_of i 16 l, first_of i l))
+    pub seeking_found : id ≡ i → (at ≡ place_of i 16 l) × (n ≡ first_of i l)
     seeking_found e =
         let p : at ≡ place_of i 16 l = sym (by_turn (eq-eqb id i e)) in
         let q : n ≡ first_of i l = omega (arith, first_turn (eq-eqb id i e)) in
-        cc (p, q)
+        (p, q)
 
     -- how many entries the section there has
     seeking_many : {k : ℕ} → k ≡ count_in (drop at s) → k ≡ length (starts_of seeking_turn.e)
@@ -119,11 +118,11 @@ module _ {i : ℕ} {s : List ℕ} {l : List (List ℕ)} {at n : ℕ} (v : Seekin
 abbrev spot : ℕ → List (List ℕ) → ℕ × ℕ
 spot i l = (place_of i 16 l, first_of i l)
 
-pub found_stop : (i : ℕ) (s : List ℕ) {a b : ℕ} {old new : List ℕ} → Scanned (file_of s) old (Stop a b) new → Spotted i (file_of s) old (Fault a b) new
+pub found_stop : (i : ℕ) (s : List ℕ) {f : Fault} {old new : List ℕ} → Scanned (file_of s) old (Err f) new → Spotted i (file_of s) old (Err f) new
 found_stop i s k = record { answers = made_same (file_of s) length (spot i) k.answers; leaves = k.leaves }
 
-pub found_at : (i : ℕ) (s : List ℕ) {n : ℕ} {r : Spot} {old new : List ℕ} → Scanned (file_of s) old (Ends n) new → spot_of r ≡ taken (place_of i 16 (sections_in s), first_of i (sections_in s)) → Spotted i (file_of s) old r new
-found_at i s k q = record { answers = q ∙ sym (ap (spot_in i) (made_read s length k.answers)); leaves = k.leaves }
+pub found_at : (i : ℕ) (s : List ℕ) {n : ℕ} (r : ℕ × ℕ) {old new : List ℕ} → Scanned (file_of s) old (Ok n) new → (r.0 ≡ place_of i 16 (sections_in s)) × (r.1 ≡ first_of i (sections_in s)) → Spotted i (file_of s) old (Ok r) new
+found_at i s r k q = record { answers = ap (λ (x : ℕ). taken (x, r.1)) q.0 ∙ ap (λ (x : ℕ). taken (place_of i 16 (sections_in s), x)) q.1 ∙ sym (ap (spot_in i) (made_read s length k.answers)); leaves = k.leaves }
 
 -- what the call that looks for it says of a file: its fault, or that it is taken, where the section starts and how many starts stand before its own
 pub spot_stop : (i : ℕ) (s : List ℕ) {a b : ℕ} → refused a b ≡ spot_in i (file_of s) → file_of s ≡ refused a b

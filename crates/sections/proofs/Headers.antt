@@ -9,12 +9,11 @@ use native.Mathlib.Omega.{arith}
 use lib.ListN.{length, take, drop}
 use lib.Dec.{eqb}
 use borrow.Author.Tests.{eq-eqb, ne_eqb, leb-true}
-use Rattle.answer.specs.declared.Piece.{Piece}
-use Rattle.answer.specs.declared.Piece.TheVariants.{Stop, Ends}
-use Rattle.answer.specs.declared.Test.{Test}
-use Rattle.answer.specs.declared.Test.TheVariants.{Fault, Fine}
+use Rattle.std.proofs.Common.{Result, Ok, Err}
+use Rattle.answer.specs.declared.Fault.{Fault}
+use Rattle.answer.specs.Refusals.{number_of}
 use Rattle.answer.specs.Outcome.{Outcome, taken, refused, after}
-use Rattle.answer.specs.Calls.{asked, piece_of}
+use Rattle.answer.specs.Calls.{fault_of, asked, outcome_of}
 use Rattle.answer.proofs.Checks.{checked-pass, Left, left_all}
 use Rattle.wire.specs.Numbers.{Bytes, le, le_at}
 use Rattle.wire.specs.Parts.{same}
@@ -48,28 +47,28 @@ letters_number s h b e = same_number 8 s 0 letters b (omega arith) (omega arith)
 -- ---- the file
 
 -- refused before anything is stored
-pub stopped_first : {o : Outcome (List (List ℕ))} {a b : ℕ} {old : List ℕ} → o ≡ refused a b → Scanned o old (Stop a b) old
+pub stopped_first : {o : Outcome (List (List ℕ))} {f : Fault} {old : List ℕ} → o ≡ fault_of f → Scanned o old (Err f) old
 stopped_first h = rw h (record { answers = refl; leaves = refl })
 
 -- judged with no place to store in
-abbrev test_for : Piece → Test
-test_for (Stop a b) = Fault a b
-test_for (Ends n) = Fine
+abbrev test_for : Result ℕ Fault → Result (Unit {0}) Fault
+test_for (Err f) = Err f
+test_for (Ok n) = Ok tt
 
-pub judged_first : (o : Outcome (List (List ℕ))) (index : List ℕ) (r : Piece) → piece_of r ≡ counted o → MayWrite o index (test_for r)
-judged_first (taken l) index (Stop a b) e = let z : ◌≡◌ {A = ℕ} 0 1 = cc in absurd (omega arith)
-judged_first (taken l) index (Ends n) e = inr (l, refl)
-judged_first (refused n p) index (Stop a b) e = let i : n ≡ a = cc in let j : p ≡ b = cc in cc
-judged_first (refused n p) index (Ends k) e = let z : ◌≡◌ {A = ℕ} 0 1 = cc in absurd (omega arith)
+pub judged_first : (o : Outcome (List (List ℕ))) (index : List ℕ) (r : Result ℕ Fault) → outcome_of r ≡ counted o → MayWrite o index (test_for r)
+judged_first (taken l) index (Err f) e = let z : ◌≡◌ {A = ℕ} 0 1 = cc in absurd (omega arith)
+judged_first (taken l) index (Ok n) e = inr (l, refl)
+judged_first (refused n p) index (Err f) e = let i : n ≡ number_of f.0 = cc in let j : p ≡ f.1 = cc in cc
+judged_first (refused n p) index (Ok k) e = let z : ◌≡◌ {A = ℕ} 0 1 = cc in absurd (omega arith)
 
 module _ (s : List ℕ) where
   by_header : {r : Outcome (Unit {0})} → r ≡ asked (header_checks s) → after r (λ _. walked_from s) ≡ file_of s
   by_header h = sym (file_header s ∙ ap (λ (r : Outcome (Unit {0})). after r (λ _. walked_from s)) (sym h))
 
-  pub scan_stop : {a b : ℕ} {old : List ℕ} → refused a b ≡ asked (header_checks s) → Scanned (file_of s) old (Stop a b) old
-  scan_stop {a} {b} {old} h = subst (λ (o : Outcome (List (List ℕ))). Scanned o old (Stop a b) old) (by_header h) (stopped_first refl)
+  pub scan_stop : {f : Fault} {old : List ℕ} → fault_of f ≡ asked (header_checks s) → Scanned (file_of s) old (Err f) old
+  scan_stop {f} {old} h = subst (λ (o : Outcome (List (List ℕ))). Scanned o old (Err f) old) (by_header h) (stopped_first refl)
 
-  pub scan-walk : {r : Piece} {old new : List ℕ} → taken tt ≡ asked (header_checks s) → Scanned (walked_from s) old r new → Scanned (file_of s) old r new
+  pub scan-walk : {r : Result ℕ Fault} {old new : List ℕ} → taken tt ≡ asked (header_checks s) → Scanned (walked_from s) old r new → Scanned (file_of s) old r new
   scan-walk {r} {old} {new} h k = subst (λ (o : Outcome (List (List ℕ))). Scanned o old r new) (by_header h) k
 
   pub scan-fits : taken tt ≡ asked (header_checks s) → (16 ≤ length s) × (length s ≤ file_most)

@@ -1,48 +1,34 @@
 -- Each promise fixes its answer and all of the lent memory: any two that it allows are equal.
 -- Assumes nothing.
-use mathlib.Core.Path.{◌≡◌, ap}
+use mathlib.Core.Path.{◌≡◌}
 use mathlib.Core.Bool.{Bool, not, ◌||◌}
 use mathlib.Core.List.{List}
 use Prim.Native.Nat.{ℕ}
-use native.Mathlib.Omega.{arith}
 use lib.Dec.{leb, eqb}
 use lib.ListN.{drop, get_or}
-use Rattle.answer.specs.declared.Piece.{Piece}
-use Rattle.answer.specs.declared.Test.{Test}
+use Rattle.std.proofs.Common.{Result, Option}
+use Rattle.answer.specs.declared.Fault.{Fault}
 use Rattle.answer.specs.Outcome.{Outcome}
-use Rattle.answer.proofs.Outcomes.{taken_is}
 use Rattle.aerosnap.specs.File.{devices_most, fits_in}
-use Rattle.answer.proofs.Once.{equal_once, piece_once}
-use Rattle.sections.specs.declared.Division.{Division}
+use Rattle.answer.proofs.Once.{equal_once, outcome_once}
+use Rattle.sections.specs.declared.Losses.{Losses}
 use Rattle.sections.specs.declared.Places.{Places}
 use Rattle.sections.specs.Places.{places_for}
 use Rattle.sections.specs.Directory.{Divides, IndexesFile}
 use Rattle.sections.proofs.Directories.{divides_once, indexes_once}
-use Rattle.sections.specs.declared.Spot.{Spot}
-use Rattle.sections.specs.declared.Spot.TheVariants.{Fault, At}
-use Rattle.sections.specs.Index.{is_list_id, counts, Scanned, spot_of, Spotted}
+use Rattle.sections.specs.Index.{is_list_id, counts, Scanned, Spotted}
 
 pub small_once : (id n : ℕ) {r p : Bool} → r ≡ (not (eqb id 4) || leb n devices_most) → p ≡ (not (eqb id 4) || leb n devices_most) → r ≡ p
 small_once id n e f = equal_once e f
 
-pub scan_once : {o : Outcome (List (List ℕ))} {old : List ℕ} (r p : Piece) {new now : List ℕ} → Scanned o old r new → Scanned o old p now → (r ≡ p) × (new ≡ now)
-scan_once r p a b = (piece_once r p (equal_once a.answers b.answers), equal_once a.leaves b.leaves)
+pub scan_once : {o : Outcome (List (List ℕ))} {old : List ℕ} (r p : Result ℕ Fault) {new now : List ℕ} → Scanned o old r new → Scanned o old p now → (r ≡ p) × (new ≡ now)
+scan_once r p a b = (outcome_once r p (equal_once a.answers b.answers), equal_once a.leaves b.leaves)
 
 pub is_list_once : (id : ℕ) {r p : Bool} → r ≡ is_list_id id → p ≡ is_list_id id → r ≡ p
 is_list_once id e f = equal_once e f
 
-spot_once : (r p : Spot) → spot_of r ≡ spot_of p → r ≡ p
-spot_once (Fault n p) (Fault m q) e = cc
-spot_once (Fault n p) (At q m) e = let z : ◌≡◌ {A = ℕ} 0 1 = cc in absurd (omega arith)
-spot_once (At p n) (Fault m q) e = let z : ◌≡◌ {A = ℕ} 0 1 = cc in absurd (omega arith)
-spot_once (At p n) (At q m) e =
-    let t : ◌≡◌ {A = ℕ × ℕ} (p, n) (q, m) = taken_is e in
-    let i : p ≡ q = ap (λ (x : ℕ × ℕ). x.0) t in
-    let j : n ≡ m = ap (λ (x : ℕ × ℕ). x.1) t in
-    cc
-
-pub check_and_find_once : (i : ℕ) {o : Outcome (List (List ℕ))} {old : List ℕ} (r p : Spot) {new now : List ℕ} → Spotted i o old r new → Spotted i o old p now → (r ≡ p) × (new ≡ now)
-check_and_find_once i r p a b = (spot_once r p (equal_once a.answers b.answers), equal_once a.leaves b.leaves)
+pub check_and_find_once : (i : ℕ) {o : Outcome (List (List ℕ))} {old : List ℕ} (r p : Result (ℕ × ℕ) Fault) {new now : List ℕ} → Spotted i o old r new → Spotted i o old p now → (r ≡ p) × (new ≡ now)
+check_and_find_once i r p a b = (outcome_once r p (equal_once a.answers b.answers), equal_once a.leaves b.leaves)
 
 pub places_for_once : (s : List ℕ) (most : ℕ) {r p : Places} → r ≡ places_for (counts most (drop 16 s)) → p ≡ places_for (counts most (drop 16 s)) → r ≡ p
 places_for_once s most e f = equal_once e f
@@ -53,8 +39,8 @@ noted_once index i e f = equal_once e f
 pub fits_once : (s : List ℕ) (at : ℕ) {r p : Bool} → r ≡ fits_in (drop at s) → p ≡ fits_in (drop at s) → r ≡ p
 fits_once s at e f = equal_once e f
 
-pub divide_once : (s old rows : List ℕ) {r p : Division} {new now recs lines : List ℕ} → Divides s old rows r new recs → Divides s old rows p now lines → (r ≡ p) × (new ≡ now) × (recs ≡ lines)
-divide_once s old rows a b = divides_once s old rows a b
+pub divide_once : (s old rows : List ℕ) (r p : Result (Option Losses) Fault) {new now recs lines : List ℕ} → Divides s old rows r new recs → Divides s old rows p now lines → (r ≡ p) × (new ≡ now) × (recs ≡ lines)
+divide_once s old rows r p a b = divides_once s old rows r p a b
 
-pub index_file_once : (s old : List ℕ) {r p : Test} {new now : List ℕ} → IndexesFile s old r new → IndexesFile s old p now → (r ≡ p) × (new ≡ now)
-index_file_once s old a b = indexes_once s old a b
+pub index_file_once : (s old : List ℕ) (r p : Result (Unit {0}) Fault) {new now : List ℕ} → IndexesFile s old r new → IndexesFile s old p now → (r ≡ p) × (new ≡ now)
+index_file_once s old r p a b = indexes_once s old r p a b

@@ -24,10 +24,11 @@ use Rattle.aerosnap.specs.Known.{known}
 use Rattle.aerosnap.proofs.Copies.{is_list_body}
 use Rattle.lists.specs.Promises.{lent_after}
 use Rattle.aerosnap.specs.File.{file_of}
-use Rattle.sections.specs.declared.Spot.{Spot}
-use Rattle.sections.specs.declared.Spot.TheVariants.{At}
+use Rattle.std.proofs.Common.{Result, Ok}
+use Rattle.answer.specs.declared.Fault.{Fault}
+use Rattle.answer.specs.Calls.{outcome_of}
 use Rattle.sections.specs.Walks.{sections_in, Read}
-use Rattle.sections.specs.Index.{kept, kept_in, starts_of, Reading, first_of, spot_of, Spotted}
+use Rattle.sections.specs.Index.{kept, kept_in, starts_of, Reading, first_of, Spotted}
 use Rattle.sections.specs.Steps.{HoldsStarts}
 use Rattle.sections.proofs.Found.{Sited, spot_taken, Here}
 use Rattle.sections.proofs.Kept.{kept_all, its_payload, its_body, listed_id, starts-count}
@@ -63,9 +64,9 @@ pub record Opened (i : ℕ) (s index : List ℕ) (p n : ℕ) : Type 0 where
   pub site : Sited i s p n
   pub starts : Reading (sections_in s) index 0
 
-pub spot_opened : (i : ℕ) (s old : List ℕ) → HoldsStarts s (length old) → {r : Spot} {new : List ℕ} → Spotted i (file_of s) old r new → {p n : ℕ} → r ≡ At p n → Opened i s new p n
+pub spot_opened : (i : ℕ) (s old : List ℕ) → HoldsStarts s (length old) → {r : Result (ℕ × ℕ) Fault} {new : List ℕ} → Spotted i (file_of s) old r new → {p n : ℕ} → r ≡ Ok (p, n) → Opened i s new p n
 spot_opened i s old room w q =
-    let y = spot_taken i s (sym (ap spot_of q) ∙ w.answers) in
+    let y = spot_taken i s (sym (ap outcome_of q) ∙ w.answers) in
     record { site = y; starts = index_reading s old y.read room w.leaves }
 
 -- ---- the starts of sections one after another

@@ -10,11 +10,11 @@ use lib.ListN.{length, take, drop, get_or, length-drop, length-take}
 use lib.Seq.{drop-drop}
 use lib.Dec.{leb, ltb, eqb}
 use borrow.Author.Tests.{le-leb, eq-eqb, ne_eqb}
-use Rattle.answer.specs.declared.Piece.{Piece}
-use Rattle.answer.specs.declared.Piece.TheVariants.{Stop, Ends}
+use Rattle.std.proofs.Common.{Result, Ok, Err}
+use Rattle.answer.specs.declared.Fault.{Fault}
 use Rattle.answer.specs.Numbers.{CUT, MANY}
 use Rattle.answer.specs.Outcome.{Outcome, taken, refused, Checks, checked, after, moved}
-use Rattle.answer.specs.Calls.{piece_of}
+use Rattle.answer.specs.Calls.{fault_of, outcome_of}
 use Rattle.answer.proofs.Checks.{pass-checked, checked-pass, checked-after, Left}
 use Rattle.answer.proofs.Outcomes.{after_taken, after-after, taken_is, taken_refused, made_stop, made_taken}
 use Rattle.wire.specs.Numbers.{le_at}
@@ -82,18 +82,18 @@ module _ (id v : ℕ) (p old : List ℕ) where
     pub count : n ≡ length its_starts
     pub kept : new ≡ its_starts ++ drop (length its_starts) old
 
-  module _ {r : Piece} {new : List ℕ} (w : Indexed (kept_of (length old) id v p) old r new) where
-    pub read_stop : {n q : ℕ} → r ≡ Stop n q → refused n q ≡ read
+  module _ {r : Result ℕ Fault} {new : List ℕ} (w : Indexed (kept_of (length old) id v p) old r new) where
+    pub read_stop : {f : Fault} → r ≡ Err f → fault_of f ≡ read
     read_stop h =
-        let stop = made_stop (kept_of (length old) id v p) length (sym (ap piece_of h) ∙ w.answers) in
+        let stop = made_stop (kept_of (length old) id v p) length (sym (ap outcome_of h) ∙ w.answers) in
         sym (made_stop read (λ _. its_starts) (sym (checked-after (part_checks p) (payload (body_of id v) p) (λ _. taken its_starts) ∙ stop)))
 
-    pub read_stays : {n q : ℕ} → r ≡ Stop n q → new ≡ old
-    read_stays h = w.leaves ∙ ap (λ (o : Outcome (List ℕ)). lent_after o old) (made_stop (kept_of (length old) id v p) length (sym (ap piece_of h) ∙ w.answers))
+    pub read_stays : {f : Fault} → r ≡ Err f → new ≡ old
+    read_stays h = w.leaves ∙ ap (λ (o : Outcome (List ℕ)). lent_after o old) (made_stop (kept_of (length old) id v p) length (sym (ap outcome_of h) ∙ w.answers))
 
-    pub read_took : {n : ℕ} → r ≡ Ends n → Took n new
+    pub read_took : {n : ℕ} → r ≡ Ok n → Took n new
     read_took {n} h =
-        let a = made_taken (kept_of (length old) id v p) length (sym (ap piece_of h) ∙ w.answers) in
+        let a = made_taken (kept_of (length old) id v p) length (sym (ap outcome_of h) ∙ w.answers) in
         let c = checked-pass (part_checks p) (after (payload (body_of id v) p) (λ _. taken its_starts)) a.0 a.1 in
         let d = after_taken (payload (body_of id v) p) (λ _. taken its_starts) c.1 in
         let e : its_starts ≡ a.0 = taken_is d.2 in
@@ -110,10 +110,10 @@ fault_place id v p h e = rw (← (e ∙ pass-checked (part_checks p) (payload (b
 -- ---- what is kept of a section
 
 module _ {A : Type 0} {o : Outcome A} {k old new : List ℕ} where
-  pub keeps_stop : {n p : ℕ} → refused n p ≡ o → new ≡ old → Keeps o k old (Stop n p) new
+  pub keeps_stop : {f : Fault} → fault_of f ≡ o → new ≡ old → Keeps o k old (Err f) new
   keeps_stop h w = record { answers = ap (λ (r : Outcome A). after r (λ _. taken (length k))) h; leaves = λ a q. absurd (taken_refused (sym q ∙ sym h)); stays = λ _ _ _. w }
 
-  pub keeps_done : {a : A} {n : ℕ} → taken a ≡ o → n ≡ length k → new ≡ k ++ drop (length k) old → Keeps o k old (Ends n) new
+  pub keeps_done : {a : A} {n : ℕ} → taken a ≡ o → n ≡ length k → new ≡ k ++ drop (length k) old → Keeps o k old (Ok n) new
   keeps_done h n w = record { answers = ap taken n ∙ ap (λ (r : Outcome A). after r (λ _. taken (length k))) h; leaves = λ _ _. w; stays = λ n p q. absurd (taken_refused (h ∙ q)) }
 
 -- ---- marks
@@ -159,11 +159,11 @@ module _ (l : List (List ℕ)) (s : List ℕ) (at : ℕ) where
   starts_here = sym (simp (le_at_here 4 s at, le_at-drop 2 s at 4, le_at-drop 8 s at 8, drop-drop))
 
   -- what its rules say of it and keep of its starts, where m bytes are its payload
-  abbrev pub Judges : ℕ → List ℕ → Piece → List ℕ → ℕ → Type 0
+  abbrev pub Judges : ℕ → List ℕ → Result ℕ Fault → List ℕ → ℕ → Type 0
   Judges have old r new m = let p = take m (drop (at + 16) s) in Keeps (ruled l at (le_at 4 s at) (le_at 2 s (at + 4)) (le_at 2 s (at + 6)) p) (whole have (starts (body_of (le_at 4 s at) (le_at 2 s (at + 4))) p)) old r new
 
   -- no row is left: the rules of a section that is there whole
-  module _ (w : Framing 3) (have : ℕ) {m : ℕ} (e : m ≡ le_at 8 s (at + 8)) {old new : List ℕ} {r : Piece} where
+  module _ (w : Framing 3) (have : ℕ) {m : ℕ} (e : m ≡ le_at 8 s (at + 8)) {old new : List ℕ} {r : Result ℕ Fault} where
     over-rest : {k : List ℕ} → Keeps rules k old r new → Keeps (section_of l at (drop at s)) k old r new
     over-rest {k} h = record {
       answers = h.answers ∙ sym (ap (λ (o : Outcome ℕ). after o (λ _. taken (length k))) (sym w.same) ∙ after-after rules (λ _. taken (16 + le_at 8 s (at + 8))) (λ _. taken (length k)));

@@ -10,9 +10,10 @@ use lib.ListN.{length, take, drop, get_or, set, length-set, length-append, lengt
 use lib.Seq.{get_or-set_same, get_or-set_other, take_at}
 use lib.Dec.{leb, eqb}
 use borrow.Author.Tests.{eq-eqb, ne_eqb, eqb-true, eqb-false, leb-false}
-use Rattle.answer.specs.declared.Piece.{Piece}
-use Rattle.answer.specs.declared.Piece.TheVariants.{Stop, Ends}
-use Rattle.answer.specs.Outcome.{Outcome, taken, refused}
+use Rattle.std.proofs.Common.{Result, Ok, Err}
+use Rattle.answer.specs.declared.Fault.{Fault}
+use Rattle.answer.specs.Calls.{fault_of}
+use Rattle.answer.specs.Outcome.{Outcome, taken}
 use Rattle.answer.proofs.Outcomes.{made_stop, made_taken}
 use Rattle.wire.specs.Numbers.{le_at}
 use Rattle.wire.specs.Parts.{Wrote}
@@ -25,7 +26,6 @@ use Rattle.aerosnap.specs.Rules.{IsSection}
 use Rattle.aerosnap.proofs.Sections.{id_front, length_front, section_sound}
 use Rattle.aerosnap.proofs.Turns.{sections_at, walk_end, walk_stop, walk_next}
 use Rattle.lists.specs.Lists.{whole}
-use Rattle.answer.specs.declared.Test.TheVariants.{Fine}
 use Rattle.lists.specs.Promises.{zeros, lent_after}
 use Rattle.lists.specs.Steps.{MayWrite}
 use Rattle.lists.proofs.InPlace.{cleared}
@@ -125,7 +125,7 @@ module _ {s : List ℕ} {i at t : ℕ} {m old new : List ℕ} (v : Walks s i at 
   tail = take (length new - t) (drop t new)
 
   -- what the call said that read the section at the place
-  abbrev pub Told : Piece → List ℕ → Type 0
+  abbrev pub Told : Result ℕ Fault → List ℕ → Type 0
   Told r last = Keeps (section_of v.before at (drop at s)) (whole (length tail) (starts_of (drop at s))) tail r last
 
   pub walks_long : length new ≡ length old
@@ -138,17 +138,17 @@ module _ {s : List ℕ} {i at t : ℕ} {m old new : List ℕ} (v : Walks s i at 
   pub walks_back : (last : List ℕ) → length last ≡ length tail → length (take t new ++ (last ++ drop (length new - t) (drop t new))) ≡ length old
   walks_back last h = rw (length-append, length-append, length-take, length-drop, length-drop) (omega (arith, h, length_tail t new, walks_at, walks_long))
 
-  pub walks_stop : at < length s → {a b : ℕ} {last now : List ℕ} → Told (Stop a b) last → MayWrite (walked_from s) old Fine → now ≡ zeros (length old) → Scanned (walked_from s) old (Stop a b) now
-  walks_stop h {a} {b} k m z =
-      let e : walked_from s ≡ refused a b = v.same ∙ walk_stop v.before s at (64 - i) h (made_stop (section_of v.before at (drop at s)) _ k.answers) in
+  pub walks_stop : at < length s → {f : Fault} {last now : List ℕ} → Told (Err f) last → MayWrite (walked_from s) old (Ok tt) → now ≡ zeros (length old) → Scanned (walked_from s) old (Err f) now
+  walks_stop h {f} k m z =
+      let e : walked_from s ≡ fault_of f = v.same ∙ walk_stop v.before s at (64 - i) h (made_stop (section_of v.before at (drop at s)) _ k.answers) in
       record { answers = sym (ap counted e); leaves = cleared e m z ∙ sym (ap (λ (o : Outcome (List (List ℕ))). lent_after (kept_in (length old) o) old) e) }
 
-  pub walks_done : length s ≤ at → Scanned (walked_from s) old (Ends i) new
+  pub walks_done : length s ≤ at → Scanned (walked_from s) old (Ok i) new
   walks_done h =
       let e : walked_from s ≡ taken v.before = v.same ∙ walk_end v.before s at (64 - i) h in
       record { answers = ap taken v.marks.count ∙ sym (ap counted e); leaves = v.wrote.bytes ∙ sym (ap (λ (o : Outcome (List (List ℕ))). lent_after (kept_in (length old) o) old) e) }
 
-  module _ (h : at < length s) {n : ℕ} {last : List ℕ} (k : Told (Ends n) last) where
+  module _ (h : at < length s) {n : ℕ} {last : List ℕ} (k : Told (Ok n) last) where
     -- the section that was passed
     pub passed : Passed v.before s at
     passed =

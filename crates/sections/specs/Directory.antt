@@ -2,17 +2,18 @@
 -- Assumes nothing.
 use Rattle.std.specs.Prelude.{◌≡◌, List, [], ◌∷◌, ◌++◌, cond, ℕ, ◌+◌, ◌-◌, ◌≤◌, leb, eqb, length, drop, get_or}
 use Rattle.answer.specs.Numbers.{ROOM}
-use Rattle.answer.specs.Outcome.{Outcome, taken, refused, checked}
-use Rattle.answer.specs.declared.Test.{Test}
-use Rattle.answer.specs.declared.Test.TheVariants as test
+use Rattle.answer.specs.Outcome.{Outcome, taken, refused, checked, after}
+use Rattle.std.specs.Prelude.{Result, Option, Some, None}
+use Rattle.answer.specs.declared.Fault.{Fault}
+use Rattle.answer.specs.Calls.{outcome_of}
+use Rattle.answer.specs.Refusals.{number_of}
 use Rattle.order.specs.Keyed.{weigh}
 use Rattle.lists.specs.Lists.{whole}
 use Rattle.aerosnap.specs.Known.{known}
 use Rattle.aerosnap.specs.File.{header_checks, id_of, file_of}
 use Rattle.aerosnap.specs.Content.{content_of, secs, render}
 use Rattle.aerosnap.specs.Salvage.{Part, keeps, loses, parts_of, all_kept, loss_rows}
-use Rattle.sections.specs.declared.Division.{Division}
-use Rattle.sections.specs.declared.Division.TheVariants.{Fault, Whole, Lost}
+use Rattle.sections.specs.declared.Losses.{Losses}
 use Rattle.sections.specs.Index.{starts_of, kept}
 
 -- the places of an index that its directory takes
@@ -61,13 +62,20 @@ abbrev pub parts_in : ℕ → List ℕ → Outcome (List Part)
 parts_in have s = checked (header_checks s) (checked ((leb directory_places have, ROOM, directory_places) ∷ []) (taken (parts_of s)))
 
 -- what is answered of parts: nothing is lost where the reader takes the file, else how many parts are, and the reader's refusal
-abbrev pub losses_of : Outcome (List (List ℕ)) → List Part → Division
-losses_of (taken l) parts = Whole
-losses_of (refused n p) parts = Lost (length (loss_rows 16 parts)) n p
+abbrev pub losses_of : Outcome (List (List ℕ)) → List Part → Option (ℕ × ℕ × ℕ)
+losses_of (taken l) parts = None
+losses_of (refused n p) parts = Some (length (loss_rows 16 parts), n, p)
 
-abbrev pub division_of : List ℕ → Outcome (List Part) → Division
-division_of s (taken l) = losses_of (file_of s) l
-division_of s (refused n p) = Fault n p
+abbrev pub division_of : List ℕ → Outcome (List Part) → Outcome (Option (ℕ × ℕ × ℕ))
+division_of s o = after o (λ l. taken (losses_of (file_of s) l))
+
+-- what the code's own answers stand for
+abbrev pub lost_of : Option Losses → Option (ℕ × ℕ × ℕ)
+lost_of None = None
+lost_of (Some l) = Some (l.parts, number_of l.first.0, l.first.1)
+
+abbrev pub divided_of : Result (Option Losses) Fault → Outcome (Option (ℕ × ℕ × ℕ))
+divided_of r = after (outcome_of r) (λ l. taken (lost_of l))
 
 -- the lent places and bytes afterwards; a refusal leaves them as they were
 abbrev pub IndexAfter : Outcome (List Part) → List ℕ → List ℕ → Type 0
@@ -79,18 +87,17 @@ rows_after (taken l) old = loss_rows_in (length old) (loss_rows 16 l) ++ drop (l
 rows_after (refused n p) old = old
 
 -- the promise of the call that finds the parts of s: what is lost, the index that held `old`, and as many records as stand whole in the buffer that held `rows`
-pub record Divides (s old rows : List ℕ) (r : Division) (new after-rows : List ℕ) : Type 0 where
-  pub answers : r ≡ division_of s (parts_in (length old) s)
+pub record Divides (s old rows : List ℕ) (r : Result (Option Losses) Fault) (new after-rows : List ℕ) : Type 0 where
+  pub answers : divided_of r ≡ division_of s (parts_in (length old) s)
   pub index : IndexAfter (parts_in (length old) s) old new
   pub records : after-rows ≡ rows_after (parts_in (length old) s) rows
 
 -- the same as a verdict
-abbrev pub verdict_of : Division → Test
-verdict_of (Fault n p) = test.Fault n p
-verdict_of Whole = test.Fine
-verdict_of (Lost k n p) = test.Fault n p
+abbrev pub verdict_of : Option (ℕ × ℕ × ℕ) → Outcome (Unit {0})
+verdict_of None = taken tt
+verdict_of (Some (k, n, p)) = refused n p
 
 -- the promise of the call that makes the index of a file that is taken
-pub record IndexesFile (s old : List ℕ) (r : Test) (new : List ℕ) : Type 0 where
-  pub answers : r ≡ verdict_of (division_of s (parts_in (length old) s))
+pub record IndexesFile (s old : List ℕ) (r : Result (Unit {0}) Fault) (new : List ℕ) : Type 0 where
+  pub answers : outcome_of r ≡ after (division_of s (parts_in (length old) s)) verdict_of
   pub index : IndexAfter (parts_in (length old) s) old new

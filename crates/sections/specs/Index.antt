@@ -1,9 +1,10 @@
 -- The index of a file: where the entries of its lists start.
 -- Assumes nothing.
 use Rattle.std.specs.Prelude.{◌≡◌, List, [], ◌∷◌, ◌++◌, Bool, cond, ◌||◌, ℕ, zero, suc, ◌+◌, ◌-◌, ◌≤◌, eqb, length, drop}
-use Rattle.answer.specs.declared.Piece.{Piece}
-use Rattle.answer.specs.Outcome.{Outcome, taken, refused, after}
-use Rattle.answer.specs.Calls.{piece_of}
+use Rattle.std.specs.Prelude.{Result}
+use Rattle.answer.specs.declared.Fault.{Fault}
+use Rattle.answer.specs.Outcome.{Outcome, taken, after}
+use Rattle.answer.specs.Calls.{outcome_of}
 use Rattle.wire.specs.Numbers.{le_at}
 use Rattle.order.specs.Keyed.{flat}
 use Rattle.aerosnap.specs.Known.{DEVICES, DISKS, CPUS, MMUS}
@@ -13,8 +14,6 @@ use Rattle.aerosnap.specs.Content.{is_id}
 use Rattle.lists.specs.Lists.{whole}
 use Rattle.lists.specs.Promises.{lent_after}
 use Rattle.payloads.specs.Starts.{starts}
-use Rattle.sections.specs.declared.Spot.{Spot}
-use Rattle.sections.specs.declared.Spot.TheVariants.{Fault, At}
 use Rattle.sections.specs.Walks.{counted, place_of}
 
 -- where the entries of a section's list start, counted from its payload, in the order of their keys; none where it is no list
@@ -59,16 +58,11 @@ counts zero b = 0
 counts (suc n) b = cond (fits_in b) (count_in b + counts n (drop (16 + length_of b) b)) 0
 
 -- the promise of the call that reads sections: how many there are, and their starts in the lent places that held `old`
-pub record Scanned (o : Outcome (List (List ℕ))) (old : List ℕ) (r : Piece) (new : List ℕ) : Type 0 where
-  pub answers : piece_of r ≡ counted o
+pub record Scanned (o : Outcome (List (List ℕ))) (old : List ℕ) (r : Result ℕ Fault) (new : List ℕ) : Type 0 where
+  pub answers : outcome_of r ≡ counted o
   pub leaves : new ≡ lent_after (kept_in (length old) o) old
 
--- the outcome that an answer with a place and a number stands for
-abbrev pub spot_of : Spot → Outcome (ℕ × ℕ)
-spot_of (Fault n p) = refused n p
-spot_of (At p n) = taken (p, n)
-
 -- the promise of the call that looks for the section with an id: where it starts and how many starts stand before its own, and all starts in the lent places that held `old`
-pub record Spotted (i : ℕ) (o : Outcome (List (List ℕ))) (old : List ℕ) (r : Spot) (new : List ℕ) : Type 0 where
-  pub answers : spot_of r ≡ spot_in i o
+pub record Spotted (i : ℕ) (o : Outcome (List (List ℕ))) (old : List ℕ) (r : Result (ℕ × ℕ) Fault) (new : List ℕ) : Type 0 where
+  pub answers : outcome_of r ≡ spot_in i o
   pub leaves : new ≡ lent_after (kept_in (length old) o) old

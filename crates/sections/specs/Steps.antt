@@ -2,20 +2,18 @@
 -- Assumes nothing.
 use Rattle.std.specs.Prelude.{◌≡◌, cond, ◌&&◌, List, [], ◌++◌, ℕ, ◌+◌, ◌-◌, ◌≤◌, eqb, length, drop, get_or, set}
 use Rattle.answer.specs.Outcome.{Outcome, taken, refused, Pass, after}
-use Rattle.answer.specs.Calls.{piece_of}
-use Rattle.answer.specs.declared.Piece.{Piece}
-use Rattle.answer.specs.declared.Test.{Test}
-use Rattle.answer.specs.declared.Test.TheVariants.{Fault, Fine}
+use Rattle.answer.specs.Calls.{outcome_of, fault_of}
+use Rattle.std.specs.Prelude.{Result, Ok, Err, Option, Some, None}
+use Rattle.answer.specs.declared.Fault.{Fault}
 use Rattle.order.specs.Keyed.{flat, has}
 use Rattle.aerosnap.specs.Known.{known}
 use Rattle.aerosnap.specs.File.{header_checks, sections_most, slot_of, section_of, sections, file_of}
 use Rattle.aerosnap.specs.Salvage.{read_part, parts_of, all_kept, loss_rows}
 use Rattle.aerosnap.specs.Content.{content_of, secs, render}
-use Rattle.sections.specs.declared.Division.{Division}
-use Rattle.sections.specs.declared.Division.TheVariants.{Lost, Whole}
+use Rattle.sections.specs.declared.Losses.{Losses}
 use Rattle.sections.specs.Walks.{Read}
 use Rattle.sections.specs.Index.{starts_of, kept, is_list_id}
-use Rattle.sections.specs.Directory.{directory_places, seats, seat_of, others_in, loss_rows_in, losses_of, Directory}
+use Rattle.sections.specs.Directory.{directory_places, seats, seat_of, others_in, loss_rows_in, losses_of, lost_of, Directory}
 
 -- the marks say which slots are taken by the n sections before
 pub record Marks (m : List ℕ) (before : List (List ℕ)) (n : ℕ) : Type 0 where
@@ -28,8 +26,8 @@ abbrev pub walked_from : List ℕ → Outcome (List (List ℕ))
 walked_from s = sections sections_most [] 16 (drop 16 s)
 
 -- a section read, of which the outcome is o, and its starts k kept: how many, or the fault; and unless there is one, they stand first in the lent places that held `old`, which a fault leaves as they were
-pub record Keeps {A : Type 0} (o : Outcome A) (k old : List ℕ) (r : Piece) (new : List ℕ) : Type 0 where
-  pub answers : piece_of r ≡ after o (λ _. taken (length k))
+pub record Keeps {A : Type 0} (o : Outcome A) (k old : List ℕ) (r : Result ℕ Fault) (new : List ℕ) : Type 0 where
+  pub answers : outcome_of r ≡ after o (λ _. taken (length k))
   pub leaves : (a : A) → o ≡ taken a → new ≡ k ++ drop (length k) old
   pub stays : (n p : ℕ) → o ≡ refused n p → new ≡ old
 
@@ -77,24 +75,23 @@ pub record WholeFile (s index : List ℕ) : Type 0 where
 
 -- ---- what the parts of the code ask and give that find the parts of a file
 
--- the first fault stays; before there is one, it is the reader's own of a part at a place that is lost with a number and a place, after n sections that are kept
-pub record FirstFound (s : List ℕ) (at n number place : ℕ) (r : Test) : Type 0 where
-  pub fault : ℕ
-  pub spot : ℕ
-  pub is : r ≡ Fault fault spot
-  pub reader : (l : List (List ℕ)) → n ≡ length l → read_part l at (drop at s) ≡ refused number place → section_of l at (drop at s) ≡ refused fault spot
+-- the first fault stays; before there is one, it is the reader's own of a part at a place that is lost for a fault, after n sections that are kept
+pub record FirstFound (s : List ℕ) (at n : ℕ) (f : Fault) (r : Result (Unit {0}) Fault) : Type 0 where
+  pub fault : Fault
+  pub is : r ≡ Err fault
+  pub reader : (l : List (List ℕ)) → n ≡ length l → read_part l at (drop at s) ≡ fault_of f → section_of l at (drop at s) ≡ fault_of fault
 
-abbrev pub FirstOf : Test → List ℕ → ℕ → ℕ → ℕ → ℕ → Test → Type 0
-FirstOf (Fault a p) s at n number place r = r ≡ Fault a p
-FirstOf Fine s at n number place r = FirstFound s at n number place r
+abbrev pub FirstOf : Result (Unit {0}) Fault → List ℕ → ℕ → ℕ → Fault → Result (Unit {0}) Fault → Type 0
+FirstOf (Err g) s at n f r = r ≡ Err g
+FirstOf (Ok _) s at n f r = FirstFound s at n f r
 
 -- what is answered where so many parts are lost
-abbrev pub division_for : Test → ℕ → Division
-division_for (Fault n p) k = Lost k n p
-division_for Fine k = Whole
+abbrev pub losses_by : Result (Unit {0}) Fault → ℕ → Option Losses
+losses_by (Err f) k = Some (record { parts = k; first = f })
+losses_by (Ok _) k = None
 
 -- the parts of a file: the directory d alone, and the starts and records in what held `old` and `rows`. The bytes of the header are not counted yet.
-pub record Parted (s d old new rows after-rows : List ℕ) (r : Division) : Type 0 where
+pub record Parted (s d old new rows after-rows : List ℕ) (r : Option Losses) : Type 0 where
   pub long : length d ≡ directory_places
   pub others : get_or d 0 0 ≡ others_in (all_kept (parts_of s))
   pub places : (i : ℕ) → 1 ≤ i → i ≤ 8 → get_or d i 0 ≡ seat_of (λ x. x.place) i (seats 16 directory_places (length old) (parts_of s))
@@ -103,11 +100,11 @@ pub record Parted (s d old new rows after-rows : List ℕ) (r : Division) : Type
   pub bytes : 16 + get_or d 18 0 ≡ length (render (content_of (all_kept (parts_of s))))
   pub starts : new ≡ kept (length old) (all_kept (parts_of s)) ++ drop (length (kept (length old) (all_kept (parts_of s)))) old
   pub records : after-rows ≡ loss_rows_in (length rows) (loss_rows 16 (parts_of s)) ++ drop (length (loss_rows_in (length rows) (loss_rows 16 (parts_of s)))) rows
-  pub losses : r ≡ losses_of (walked_from s) (parts_of s)
+  pub losses : lost_of r ≡ losses_of (walked_from s) (parts_of s)
   pub small : get_or d 18 0 + 16 ≤ length s
 
 -- the same of the whole index
-pub record Divided (s old new rows after-rows : List ℕ) (r : Division) : Type 0 where
+pub record Divided (s old new rows after-rows : List ℕ) (r : Option Losses) : Type 0 where
   pub index : Directory (parts_of s) old new
   pub records : after-rows ≡ loss_rows_in (length rows) (loss_rows 16 (parts_of s)) ++ drop (length (loss_rows_in (length rows) (loss_rows 16 (parts_of s)))) rows
-  pub losses : r ≡ losses_of (walked_from s) (parts_of s)
+  pub losses : lost_of r ≡ losses_of (walked_from s) (parts_of s)

@@ -4,9 +4,9 @@
 
 ghost use Rattle.std.specs.Prelude.{◌≡◌, true, not, ◌||◌, cond, List, [], ◌∷◌, ◌++◌, ℕ, ◌+◌, ◌≤◌, ◌<◌, leb, eqb, length, take, drop, get_or};
 ghost use Rattle.answer.specs.Outcome.{taken};
-ghost use Rattle.answer.specs.Calls.{test_of, asked};
+ghost use Rattle.answer.specs.Calls.{outcome_of, asked};
+ghost use Rattle.answer.specs.Refusals.{number_of};
 ghost use Rattle.wire.specs.Numbers.{le_at};
-ghost use Rattle.answer.specs.declared.Test.TheVariants.{Fine};
 ghost use Rattle.lists.specs.Lists.{whole};
 ghost use Rattle.lists.specs.Promises.{zeros};
 ghost use Rattle.lists.specs.Steps.{MayWrite};
@@ -18,25 +18,15 @@ ghost use Rattle.aerosnap.specs.File as file;
 ghost use Rattle.aerosnap.specs.Salvage.{length_of_part, read_part, loss_bytes};
 ghost use Rattle.payloads.specs.Starts.{starts};
 ghost use Rattle.sections.specs.Walks.{sections_in, Read, place_of};
-ghost use Rattle.sections.specs.Steps.{walked_from, Marks, Keeps, FirstOf, division_for, Parted, Divided, tallied, seated, written_size};
-ghost use Rattle.sections.specs.Index.{starts_of, first_of, is_list_id, count_in, counts, Scanned, spot_of, Spotted};
+ghost use Rattle.sections.specs.Steps.{walked_from, Marks, Keeps, FirstOf, losses_by, Parted, Divided, tallied, seated, written_size};
+ghost use Rattle.sections.specs.Index.{starts_of, first_of, is_list_id, count_in, counts, Scanned, Spotted};
 ghost use Rattle.sections.specs.Places.{places_for};
 ghost use Rattle.sections.specs.Directory.{directory_places, Divides, IndexesFile};
 
 use aerosnap::{DEVICES_MOST, SECTIONS_MOST};
-use answer::{
-    CUT, ENDIAN, LIMIT, MAGIC, MANY, Piece, RESERVED, ROOM, SECVER, SHORT, SIZE, TWICE, Test,
-    VERSION,
-};
+use answer::{Fault, Refusal};
 use lists::FILE_MOST;
 use wire::{u8_at, u16_at, u32_at, u64_at};
-
-// A place and a number of starts, or a fault.
-#[derive(Clone, Copy)]
-pub enum Spot {
-    Fault(u32, usize),
-    At(usize, usize),
-}
 
 // `AEROSNAP`, as the number that the letters are in the file.
 const LETTERS: u64 = 0x50414E534F524541;
@@ -44,38 +34,24 @@ const LETTERS: u64 = 0x50414E534F524541;
 fn known(id: u32) -> bool
     ensures { result ≡ known.known id }
 {
-    if id < 1 {
-        return false;
-    }
-    id <= 8
+    matches!(id, 1..=8)
 }
 
 // The sections that have a version 2: CPU, MMU, CPUS, MMUS.
 fn has_two(id: u32) -> bool
     ensures { result ≡ (eqb id 2 || eqb id 3 || eqb id 7 || eqb id 8) }
 {
-    if id == 2 {
-        return true;
-    }
-    if id == 3 {
-        return true;
-    }
-    if id == 7 {
-        return true;
-    }
-    id == 8
+    matches!(id, 2 | 3 | 7 | 8)
 }
 
 fn takes(id: u32, version: u16) -> bool
     ensures { result ≡ known.takes id version }
 {
-    if version == 1 {
-        return true;
+    match version {
+        1 => true,
+        2 => has_two(id),
+        _ => false,
     }
-    if version == 2 {
-        return has_two(id);
-    }
-    false
 }
 
 // CPU and CPUS share a slot, and MMU and MMUS.
@@ -83,13 +59,11 @@ fn slot(id: u32) -> usize
     requires { known.known id ≡ true }
     ensures { (result ≡ known.slot id) × (1 ≤ result) × (result ≤ 8) }
 {
-    if id == 7 {
-        return 2;
+    match id {
+        7 => 2,
+        8 => 3,
+        _ => id as usize,
     }
-    if id == 8 {
-        return 3;
-    }
-    id as usize
 }
 
 // The bound of a section's payload: only DEVICES has one.
@@ -111,32 +85,32 @@ fn ruled(
     seen: &[u8; 9],
     p: &[u8],
     index: &mut [u32],
-) -> Piece
+) -> Result<usize, Fault>
     requires { (known.known id ≡ true) × (at + 16 + length p.now ≤ file_most) }
     ensures { (l : List (List ℕ)) (n : ℕ) → Marks seen.now l n
         → Keeps (file.ruled l at id version flags p.now) (whole (length index.old) (starts (body_of id version) p.now)) index.old result index.new }
 {
     if !takes(id, version) {
-        return Piece::Stop(SECVER, at + 4);
+        return Err(Fault(Refusal::Secver, at + 4));
     }
     if 0 < flags {
-        return Piece::Stop(RESERVED, at + 6);
+        return Err(Fault(Refusal::Reserved, at + 6));
     }
     let k = slot(id);
     if seen[k] == 1 {
-        return Piece::Stop(TWICE, at);
+        return Err(Fault(Refusal::Twice, at));
     }
     if !small(id, p.len()) {
-        return Piece::Stop(LIMIT, at + 8);
+        return Err(Fault(Refusal::Limit, at + 8));
     }
     match payloads::index(id, version, p, index) {
-        Piece::Stop(number, place) => Piece::Stop(number, at + 16 + place),
-        Piece::Ends(n) => Piece::Ends(n),
+        Err(Fault(refusal, place)) => Err(Fault(refusal, at + 16 + place)),
+        Ok(n) => Ok(n),
     }
 }
 
 // The section at a place, whose payload has m bytes and is there.
-fn judged(s: &[u8], at: usize, m: usize, seen: &[u8; 9], index: &mut [u32]) -> Piece
+fn judged(s: &[u8], at: usize, m: usize, seen: &[u8; 9], index: &mut [u32]) -> Result<usize, Fault>
     requires { (at + 16 + m ≤ length s.now) × (length s.now ≤ file_most) }
     ensures { (l : List (List ℕ)) (n : ℕ) → Marks seen.now l n
         → Keeps (file.ruled l at (le_at 4 s.now at) (le_at 2 s.now (at + 4)) (le_at 2 s.now (at + 6)) (take m (drop (at + 16) s.now)))
@@ -144,7 +118,7 @@ fn judged(s: &[u8], at: usize, m: usize, seen: &[u8; 9], index: &mut [u32]) -> P
 {
     let id = u32_at(s, at);
     if !known(id) {
-        return Piece::Ends(0);
+        return Ok(0);
     }
     let version = u16_at(s, at + 4);
     let flags = u16_at(s, at + 6);
@@ -154,21 +128,27 @@ fn judged(s: &[u8], at: usize, m: usize, seen: &[u8; 9], index: &mut [u32]) -> P
 }
 
 // The section at a place, after n others: how many starts were kept, or its first fault.
-fn section_at(s: &[u8], at: usize, n: usize, seen: &[u8; 9], index: &mut [u32]) -> Piece
+fn section_at(
+    s: &[u8],
+    at: usize,
+    n: usize,
+    seen: &[u8; 9],
+    index: &mut [u32],
+) -> Result<usize, Fault>
     requires { (at ≤ length s.now) × (length s.now ≤ file_most) }
     ensures { (l : List (List ℕ)) → Marks seen.now l n
         → Keeps (file.section_of l at (drop at s.now)) (whole (length index.old) (starts_of (drop at s.now))) index.old result index.new }
 {
     if s.len() - at < 16 {
-        return Piece::Stop(CUT, at);
+        return Err(Fault(Refusal::Cut, at));
     }
     if SECTIONS_MOST <= n {
-        return Piece::Stop(MANY, at);
+        return Err(Fault(Refusal::Many, at));
     }
     let w = u64_at(s, at + 8);
     let left = (s.len() - (at + 16)) as u64;
     if left < w {
-        return Piece::Stop(CUT, at);
+        return Err(Fault(Refusal::Cut, at));
     }
     judged(s, at, w as usize, seen, index)
 }
@@ -184,21 +164,22 @@ fn note(seen: &mut [u8; 9], id: u32)
 }
 
 // How many sections there are behind the header, or the first fault. The starts of each list go into the tail of the index from where the last ended.
-fn walk(s: &[u8], index: &mut [u32]) -> Piece
-    requires { (16 ≤ length s.now) × (length s.now ≤ file_most) × MayWrite (walked_from s.now) index.old Fine }
+fn walk(s: &[u8], index: &mut [u32]) -> Result<usize, Fault>
+    requires { (16 ≤ length s.now) × (length s.now ≤ file_most) × MayWrite (walked_from s.now) index.old (Ok tt) }
     ensures { Scanned (walked_from s.now) index.old result index.new }
 {
     let mut seen = [0u8; 9];
     let mut at = 16;
     let mut i = 0;
     let mut used = 0;
+    // The place jumps by the length that each section says.
     while at < s.len() {
         match section_at(s, at, i, &seen, &mut index[used..]) {
-            Piece::Stop(number, place) => {
+            Err(fault) => {
                 lists::forget(index);
-                return Piece::Stop(number, place);
+                return Err(fault);
             }
-            Piece::Ends(n) => {
+            Ok(n) => {
                 note(&mut seen, u32_at(s, at));
                 at = at + (16 + (u64_at(s, at + 8) as usize));
                 i += 1;
@@ -206,70 +187,64 @@ fn walk(s: &[u8], index: &mut [u32]) -> Piece
             }
         }
     }
-    Piece::Ends(i)
+    Ok(i)
 }
 
-fn header(s: &[u8]) -> Test
-    ensures { test_of result ≡ asked (header_checks s.now) }
+fn header(s: &[u8]) -> Result<(), Fault>
+    ensures { outcome_of result ≡ asked (header_checks s.now) }
 {
     if FILE_MOST < s.len() {
-        return Test::Fault(SIZE, 0);
+        return Err(Fault(Refusal::Size, 0));
     }
     if s.len() < 16 {
-        return Test::Fault(SHORT, 0);
+        return Err(Fault(Refusal::Short, 0));
     }
     if u64_at(s, 0) != LETTERS {
-        return Test::Fault(MAGIC, 0);
+        return Err(Fault(Refusal::Magic, 0));
     }
     if u16_at(s, 8) != 1 {
-        return Test::Fault(VERSION, 8);
+        return Err(Fault(Refusal::Version, 8));
     }
     if u8_at(s, 10) != 1 {
-        return Test::Fault(ENDIAN, 10);
+        return Err(Fault(Refusal::Endian, 10));
     }
     if u8_at(s, 11) != 0 {
-        return Test::Fault(RESERVED, 11);
+        return Err(Fault(Refusal::Reserved, 11));
     }
     if u32_at(s, 12) != 0 {
-        return Test::Fault(RESERVED, 12);
+        return Err(Fault(Refusal::Reserved, 12));
     }
-    Test::Fine
+    Ok(())
 }
 
 // Whether the index may be written over before the whole file is judged: one that holds nothing is cleared after a refusal, and another is lent to a file that has no fault.
-fn may_write(s: &[u8], index: &[u32]) -> Test
+fn may_write(s: &[u8], index: &[u32]) -> Result<(), Fault>
     requires { (16 ≤ length s.now) × (length s.now ≤ file_most) }
     ensures { MayWrite (walked_from s.now) index.now result }
 {
     if lists::blank(index) {
-        return Test::Fine;
+        return Ok(());
     }
     let mut none = [0u32; 1];
-    match walk(s, &mut none[..0]) {
-        Piece::Stop(number, place) => Test::Fault(number, place),
-        Piece::Ends(_) => Test::Fine,
-    }
+    walk(s, &mut none[..0])?;
+    Ok(())
 }
 
 // The sections behind a header that is as it should be.
-fn behind_header(s: &[u8], index: &mut [u32]) -> Piece
+fn behind_header(s: &[u8], index: &mut [u32]) -> Result<usize, Fault>
     requires { (16 ≤ length s.now) × (length s.now ≤ file_most) }
     ensures { Scanned (walked_from s.now) index.old result index.new }
 {
-    match may_write(&s[..], index) {
-        Test::Fault(number, place) => Piece::Stop(number, place),
-        Test::Fine => walk(&s[..], index),
-    }
+    may_write(&s[..], index)?;
+    walk(&s[..], index)
 }
 
 // The whole file: how many sections it has, or its first fault. The starts of its lists stand in the index then, as far as there is room for whole lists; a refusal leaves it as it was.
-pub fn scan(file: &[u8], index: &mut [u32]) -> Piece
+pub fn scan(file: &[u8], index: &mut [u32]) -> Result<usize, Fault>
     ensures { Scanned (file_of file.now) index.old result index.new }
 {
-    match header(&file[..]) {
-        Test::Fault(number, place) => Piece::Stop(number, place),
-        Test::Fine => behind_header(&file[..], index),
-    }
+    header(&file[..])?;
+    behind_header(&file[..], index)
 }
 
 // ---- where a section stands
@@ -278,16 +253,7 @@ pub fn scan(file: &[u8], index: &mut [u32]) -> Piece
 pub fn is_list(id: u32) -> bool
     ensures { result ≡ is_list_id id }
 {
-    if id == 4 {
-        return true;
-    }
-    if id == 5 {
-        return true;
-    }
-    if id == 7 {
-        return true;
-    }
-    id == 8
+    matches!(id, 4 | 5 | 7 | 8)
 }
 
 // How many entries the section at a place says that it has.
@@ -302,30 +268,29 @@ fn entries_at(s: &[u8], at: usize) -> usize
 }
 
 // Where the section with an id starts in a file that is taken, and how many starts stand before its own; the end of the file and all starts where there is none.
-fn seek(file: &[u8], id: u32) -> Spot
+fn seek(file: &[u8], id: u32) -> (usize, usize)
     requires { Read file.now }
-    ensures { spot_of result ≡ taken (place_of id 16 (sections_in file.now), first_of id (sections_in file.now)) }
+    ensures { (result.0 ≡ place_of id 16 (sections_in file.now)) × (result.1 ≡ first_of id (sections_in file.now)) }
 {
     let mut at = 16;
     let mut first = 0;
+    // The place jumps by the length that each section says.
     while at < file.len() {
         if u32_at(file, at) == id {
-            return Spot::At(at, first);
+            return (at, first);
         }
         first += entries_at(file, at);
         at = at + (16 + (u64_at(file, at + 8) as usize));
     }
-    Spot::At(at, first)
+    (at, first)
 }
 
 // The whole file: where the section with an id starts and how many starts stand before its own, or the file's first fault. The index is left as by `scan`.
-pub fn check_and_find(file: &[u8], id: u32, index: &mut [u32]) -> Spot
+pub fn check_and_find(file: &[u8], id: u32, index: &mut [u32]) -> Result<(usize, usize), Fault>
     ensures { Spotted id (file_of file.now) index.old result index.new }
 {
-    match scan(&file[..], index) {
-        Piece::Stop(number, place) => Spot::Fault(number, place),
-        Piece::Ends(_) => seek(&file[..], id),
-    }
+    scan(&file[..], index)?;
+    Ok(seek(&file[..], id))
 }
 
 // Whether the section at a place is there whole.
@@ -357,9 +322,8 @@ fn count_starts(file: &[u8], most: usize) -> usize
     ensures { places_for result ≡ places_for (counts most (drop 16 file.now)) }
 {
     let mut at = 16;
-    let mut i: usize = 0;
     let mut n = 0;
-    while i < most {
+    for i in 0..most {
         if 256 < n {
             return n;
         }
@@ -368,7 +332,6 @@ fn count_starts(file: &[u8], most: usize) -> usize
         }
         n += entries_at(file, at);
         at = at + (16 + (u64_at(file, at + 8) as usize));
-        i += 1;
     }
     n
 }
@@ -393,12 +356,11 @@ pub fn places_for(file: &[u8], most: usize) -> Places
 // the starts of its list begin, then how many sections and bytes the canonical form has.
 pub const DIRECTORY: usize = 19;
 
-// The first fault of the header; else nothing of the file is lost, or so many parts, and then the first fault that the reader finds.
+// What is lost of a file: how many parts, and the first fault that the reader finds.
 #[derive(Clone, Copy)]
-pub enum Division {
-    Fault(u32, usize),
-    Whole,
-    Lost(usize, u32, usize),
+pub struct Losses {
+    pub parts: usize,
+    pub first: Fault,
 }
 
 // How long the part at a place is: a section that fits in the file, or else all that is left.
@@ -413,27 +375,33 @@ fn part_length(s: &[u8], at: usize) -> usize
 }
 
 // What the reader says of it after the n sections that are kept: whether it fits is asked first.
-fn part_at(s: &[u8], at: usize, n: usize, seen: &[u8; 9], starts: &mut [u32]) -> Piece
+fn part_at(
+    s: &[u8],
+    at: usize,
+    n: usize,
+    seen: &[u8; 9],
+    starts: &mut [u32],
+) -> Result<usize, Fault>
     requires { (at ≤ length s.now) × (length s.now ≤ file_most) }
     ensures { (l : List (List ℕ)) → Marks seen.now l n
         → Keeps (read_part l at (drop at s.now)) (whole (length starts.old) (starts_of (drop at s.now))) starts.old result starts.new }
 {
     if !fits(s, at) {
-        return Piece::Stop(CUT, at);
+        return Err(Fault(Refusal::Cut, at));
     }
     section_at(s, at, n, seen, starts)
 }
 
 // The record of a loss over the start of `out`, if there is room for it.
-fn put_loss(at: usize, w: usize, number: u32, out: &mut [u8]) -> usize
-    ensures { Wrote (whole (length out.old) (loss_bytes at w number)) out.old out.new result }
+fn put_loss(at: usize, w: usize, refusal: Refusal, out: &mut [u8]) -> usize
+    ensures { Wrote (whole (length out.old) (loss_bytes at w (number_of refusal))) out.old out.new result }
 {
     if out.len() < 24 {
         return 0;
     }
     wire::put_u64(out, 0, at as u64);
     wire::put_u64(out, 8, w as u64);
-    wire::put_u32(out, 16, number);
+    wire::put_u32(out, 16, u32::from(refusal));
     wire::put_u32(out, 20, 0);
     24
 }
@@ -469,10 +437,7 @@ fn seat(id: u32, at: u32, first: u32, dir: &mut [u32])
 fn one_of(size: u32) -> u32
     ensures { (result ≡ cond (eqb size 0) 0 1) × (result ≤ 1) }
 {
-    if size == 0 {
-        return 0;
-    }
-    1
+    u32::from(size != 0)
 }
 
 // So many bytes more are written.
@@ -495,36 +460,38 @@ fn enter(id: u32, at: usize, w: usize, used: usize, dir: &mut [u32])
 
 // The first fault of a file, where a part is lost at a place after n sections that are kept: the one that was found before, or what the reader says of the part. It counts a section before it asks whether its
 // payload fits.
-fn first_of(first: Test, s: &[u8], at: usize, n: usize, number: u32, place: usize) -> Test
+fn first_of(
+    first: Result<(), Fault>,
+    s: &[u8],
+    at: usize,
+    n: usize,
+    fault: Fault,
+) -> Result<(), Fault>
     requires { at ≤ length s.now }
-    ensures { FirstOf first s.now at n number place result }
+    ensures { FirstOf first s.now at n fault result }
 {
-    match first {
-        Test::Fault(earlier, spot) => Test::Fault(earlier, spot),
-        Test::Fine => {
-            if n < SECTIONS_MOST {
-                return Test::Fault(number, place);
-            }
-            if s.len() - at < 16 {
-                return Test::Fault(number, place);
-            }
-            Test::Fault(MANY, at)
-        }
+    first?;
+    if n < SECTIONS_MOST {
+        return Err(fault);
     }
+    if s.len() - at < 16 {
+        return Err(fault);
+    }
+    Err(Fault(Refusal::Many, at))
 }
 
 // What is answered of the parts of a file, so many of which are lost.
-fn division_by(first: Test, lost: usize) -> Division
-    ensures { result ≡ division_for first lost }
+fn losses_by(first: Result<(), Fault>, parts: usize) -> Option<Losses>
+    ensures { result ≡ losses_by first parts }
 {
     match first {
-        Test::Fault(number, place) => Division::Lost(lost, number, place),
-        Test::Fine => Division::Whole,
+        Err(first) => Some(Losses { parts, first }),
+        Ok(()) => None,
     }
 }
 
 // The parts behind a header that is as it should be: how many are lost, and the file's first fault. The directory is filled, the starts of each list go into the tail of the starts, and the record of each loss into the tail of the records.
-fn find_parts(s: &[u8], dir: &mut [u32], starts: &mut [u32], losses: &mut [u8]) -> Division
+fn find_parts(s: &[u8], dir: &mut [u32], starts: &mut [u32], losses: &mut [u8]) -> Option<Losses>
     requires { (16 ≤ length s.now) × (length s.now ≤ file_most) × (dir.old ≡ zeros directory_places) }
     ensures { Parted s.now dir.new starts.old starts.new losses.old losses.new result }
 {
@@ -534,17 +501,18 @@ fn find_parts(s: &[u8], dir: &mut [u32], starts: &mut [u32], losses: &mut [u8]) 
     let mut used = 0;
     let mut lost = 0;
     let mut t = 0;
-    let mut first = Test::Fine;
+    let mut first = Ok(());
+    // The place jumps by the length of each part.
     while at < s.len() {
         let w = part_length(s, at);
         match part_at(s, at, n, &seen, &mut starts[used..]) {
-            Piece::Stop(number, place) => {
-                t += put_loss(at, w, number, &mut losses[t..]);
-                first = first_of(first, s, at, n, number, place);
+            Err(fault) => {
+                t += put_loss(at, w, fault.0, &mut losses[t..]);
+                first = first_of(first, s, at, n, fault);
                 lost += 1;
                 at += w;
             }
-            Piece::Ends(k) => {
+            Ok(k) => {
                 let id = u32_at(s, at);
                 enter(id, at, w, used, dir);
                 note(&mut seen, id);
@@ -554,17 +522,17 @@ fn find_parts(s: &[u8], dir: &mut [u32], starts: &mut [u32], losses: &mut [u8]) 
             }
         }
     }
-    division_by(first, lost)
+    losses_by(first, lost)
 }
 
 // A number of the directory of an index, 0 past the end.
 pub fn noted(index: &[u32], i: usize) -> usize
     ensures { result ≡ get_or index.now i 0 }
 {
-    if index.len() <= i {
-        return 0;
+    match index.get(i) {
+        Some(&x) => x as usize,
+        None => 0,
     }
-    index[i] as usize
 }
 
 // The directory into the first places of an index.
@@ -572,15 +540,11 @@ fn put_directory(dir: &[u32], index: &mut [u32])
     requires { (length dir.now ≡ directory_places) × (directory_places ≤ length index.old) }
     ensures { index.new ≡ dir.now ++ drop directory_places index.old }
 {
-    let mut i: usize = 0;
-    while i < DIRECTORY {
-        index[i] = dir[i];
-        i += 1;
-    }
+    index[..DIRECTORY].copy_from_slice(dir);
 }
 
 // The parts of a file whose header is as it should be, for an index that has room for the directory.
-fn divide_in(file: &[u8], index: &mut [u32], losses: &mut [u8]) -> Division
+fn divide_in(file: &[u8], index: &mut [u32], losses: &mut [u8]) -> Option<Losses>
     requires { (16 ≤ length file.now) × (length file.now ≤ file_most) × (directory_places ≤ length index.old) }
     ensures { Divided file.now index.old index.new losses.old losses.new result }
 {
@@ -593,28 +557,23 @@ fn divide_in(file: &[u8], index: &mut [u32], losses: &mut [u8]) -> Division
 
 // What is kept of a file and what is lost: how many parts are lost, and the first fault that the reader finds; or the first fault of the header. An index that has no room for the directory is refused. The index then holds the directory and the
 // starts of the lists that are kept, as far as there is room for whole lists, and `losses` the records of what is lost, as far as there is room for whole records. A refusal leaves both as they were.
-pub fn divide(file: &[u8], index: &mut [u32], losses: &mut [u8]) -> Division
+pub fn divide(file: &[u8], index: &mut [u32], losses: &mut [u8]) -> Result<Option<Losses>, Fault>
     ensures { Divides file.now index.old losses.old result index.new losses.new }
 {
-    match header(&file[..]) {
-        Test::Fault(number, place) => Division::Fault(number, place),
-        Test::Fine => {
-            if index.len() < DIRECTORY {
-                return Division::Fault(ROOM, DIRECTORY);
-            }
-            divide_in(&file[..], index, losses)
-        }
+    header(&file[..])?;
+    if index.len() < DIRECTORY {
+        return Err(Fault(Refusal::Room, DIRECTORY));
     }
+    Ok(divide_in(&file[..], index, losses))
 }
 
 // The index of a file that is taken, with its directory, or the file's first fault; an index that has no room for the directory is refused. The index is left as by `divide`.
-pub fn index_file(file: &[u8], index: &mut [u32]) -> Test
+pub fn index_file(file: &[u8], index: &mut [u32]) -> Result<(), Fault>
     ensures { IndexesFile file.now index.old result index.new }
 {
     let mut none = [0u8; 1];
-    match divide(&file[..], index, &mut none[..0]) {
-        Division::Fault(number, place) => Test::Fault(number, place),
-        Division::Whole => Test::Fine,
-        Division::Lost(_, number, place) => Test::Fault(number, place),
+    match divide(&file[..], index, &mut none[..0])? {
+        None => Ok(()),
+        Some(losses) => Err(losses.first),
     }
 }

@@ -1,29 +1,25 @@
 -- The calls on sheets: the code's answers against the definitions.
 -- Assumes nothing.
-use mathlib.Core.Path.{◌≡◌, sym, ap, ◌∙◌, subst⁻¹}
+use mathlib.Core.Path.{◌≡◌, sym, ap, ◌∙◌}
 use mathlib.Core.Bool.{true, false}
 use mathlib.Core.List.{List, ◌++◌}
-use Prim.Native.Nat.{ℕ, ◌+◌, ◌≤◌, min}
+use Prim.Native.Nat.{ℕ, ◌≤◌, min}
 use native.Mathlib.Decide.{dec_le}
 use native.Mathlib.Omega.{arith}
-use lib.ListN.{length, take, drop, replicate, length-append, take-append-drop, drop_of_length-le}
-use lib.Seq.{take_all, length-take-le, drop-append_seam}
+use lib.ListN.{length, take, drop, take-append-drop, drop_of_length-le}
+use lib.Seq.{take_all, take_at, drop_at, length-take-le}
+use borrow.Rule.Slice.PartMut.{put_mid}
 use Rattle.answer.specs.Numbers.{SHAPE}
-use Rattle.answer.specs.Outcome.{Outcome, taken, refused, checked}
+use Rattle.answer.specs.Outcome.{taken, refused, checked}
 use Rattle.answer.specs.Calls.{asked}
-use Rattle.answer.specs.declared.Answer.{Answer}
 use Rattle.answer.proofs.Checks.{and_true, asked_stop, asked-pass, pass-checked}
-use Rattle.wire.specs.Parts.{splice, put}
-use Rattle.wire.proofs.Parts.{put-fits}
 use Rattle.entries.specs.States.{cpu_length, extends}
 use Rattle.entries.proofs.States.{two_wide}
 use Rattle.fields.specs.declared.State.TheVariants.{Cpu}
-use Rattle.fields.specs.Fields.{right_length, state_checks, Changes}
-use Rattle.fields.proofs.Splices.{kept}
-use Rattle.fields.proofs.Outcomes.{changes_refused}
+use Rattle.fields.specs.Fields.{right_length, state_checks}
 use Rattle.sheet.specs.declared.CpuSheet.{CpuSheet}
 use Rattle.sheet.specs.Sheet.{cpu_of, fields_over, cpu_over}
-use Rattle.sheet.specs.Calls.{matches, cpu_count, cpu_shown, cpu_call, cpu_over_checks, cpu_over_call}
+use Rattle.sheet.specs.Calls.{matches, cpu_call, cpu_over_checks, cpu_over_call}
 
 -- ---- lengths
 
@@ -36,14 +32,13 @@ cpu_long s e = cpu_wide s (asked-pass (state_checks Cpu s) e).0
 
 -- ---- reading
 
-module _ (s : List ℕ) {number place : ℕ} where
-  pub cpu_fault : {c : CpuSheet} → refused number place ≡ asked (state_checks Cpu s) → c ≡ cpu_of (replicate 1183 0) → record { number = number; place = place; sheet = c } ≡ cpu_shown (cpu_call s)
-  unfolding cpu_call
-  cpu_fault e f = rw (asked_stop (state_checks Cpu s) (taken (cpu_of s)) e, f)
-
-pub cpu_fine : (s : List ℕ) {c : CpuSheet} → taken tt ≡ asked (state_checks Cpu s) → c ≡ cpu_of s → record { number = 0; place = 0; sheet = c } ≡ cpu_shown (cpu_call s)
+pub cpu_fault : (s : List ℕ) {n p : ℕ} → refused n p ≡ asked (state_checks Cpu s) → cpu_call s ≡ refused n p
 unfolding cpu_call
-cpu_fine s e f = rw (pass-checked (state_checks Cpu s) (taken (cpu_of s)) (asked-pass (state_checks Cpu s) e), f)
+cpu_fault s e = asked_stop (state_checks Cpu s) (taken (cpu_of s)) e
+
+pub cpu_fine : (s : List ℕ) {c : CpuSheet} → taken tt ≡ asked (state_checks Cpu s) → c ≡ cpu_of s → cpu_call s ≡ taken c
+unfolding cpu_call
+cpu_fine s e f = pass-checked (state_checks Cpu s) (taken (cpu_of s)) (asked-pass (state_checks Cpu s) e) ∙ ap taken (sym f)
 
 -- ---- writing over a state
 
@@ -68,29 +63,23 @@ module _ (s : List ℕ) {n : ℕ} (e : n ≡ min (length s) 1191) where
   reach_over c h = rw (h, reach_take, reach_drop)
 
   -- kept aside, and stored again
-  pub restored : {old : List ℕ} (x : List ℕ) {s₃ : List ℕ} → length x ≡ length (take n s) → old ≡ put 0 (take n s) (replicate 1191 0) → s₃ ≡ put 0 (take n old) (x ++ drop n s) → s₃ ≡ s
-  unfolding splice
-  restored {old} x l q f =
+  pub restored : (zs x : List ℕ) {old back : List ℕ} → length x ≡ length (take n s) → old ≡ take n s → back ≡ take n (put_mid 0 n zs old) → put_mid 0 n (x ++ drop n s) back ≡ s
+  restored zs x {old} {back} l f g =
       let m : length (take n s) ≡ n = length-take-le n s (omega arith) in
-      let k : take n old ≡ take n s = ap (take n) q ∙ rw m at (kept (take n s) 1191 (omega arith)) in
-      let w : 0 + length (take n s) ≤ length (x ++ drop n s) = omega (arith, length-append x (drop n s)) in
-      let z : 0 + length (take n s) ≡ length x = omega arith in
-      f ∙ ap (λ (b : List ℕ). put 0 b (x ++ drop n s)) k ∙ put-fits 0 (take n s) (x ++ drop n s) w
-      ∙ ap (λ (j : ℕ). take n s ++ drop j (x ++ drop n s)) z ∙ ap (λ (b : List ℕ). take n s ++ b) (drop-append_seam x (drop n s)) ∙ take-append-drop n s
+      let same : back ≡ take n s = g ∙ take_at old (drop n zs) n (ap length f ∙ m) ∙ f in
+      let rest : drop n (x ++ drop n s) ≡ drop n s = drop_at x (drop n s) n (l ∙ m) in
+      ap (λ (b : List ℕ). b ++ drop n (x ++ drop n s)) same ∙ ap (λ (b : List ℕ). take n s ++ b) rest ∙ take-append-drop n s
 
 -- asked of the state as it would be
-over-same : (c : CpuSheet) (s : List ℕ) → right_length Cpu s ≡ true → matches c.extension (length s) ≡ true → cpu_over_call c s ≡ checked (state_checks Cpu (cpu_over c s)) (taken (cpu_over c s))
-unfolding cpu_over_call cpu_over_checks
-over-same c s e f = rw (e, f)
+module _ (c : CpuSheet) (s : List ℕ) where
+  pub over-length : right_length Cpu s ≡ false → cpu_over_call c s ≡ refused SHAPE 0
+  unfolding cpu_over_call cpu_over_checks
+  over-length e = rw e
 
-pub over-stored : (c : CpuSheet) (s : List ℕ) {a : Answer} {new : List ℕ} → right_length Cpu s ≡ true → matches c.extension (length s) ≡ true
-    → Changes (cpu_count (length s)) (checked (state_checks Cpu (cpu_over c s)) (taken (cpu_over c s))) s a new → Changes (cpu_count (length s)) (cpu_over_call c s) s a new
-over-stored c s {a} {new} e f so = subst⁻¹ (λ (o : Outcome (List ℕ)). Changes (cpu_count (length s)) o s a new) (over-same c s e f) so
+  pub over_apart : right_length Cpu s ≡ true → matches c.extension (length s) ≡ false → cpu_over_call c s ≡ refused SHAPE 0
+  unfolding cpu_over_call cpu_over_checks
+  over_apart e f = rw (e, f)
 
-pub over-length : (c : CpuSheet) (s : List ℕ) → right_length Cpu s ≡ false → Changes (cpu_count (length s)) (cpu_over_call c s) s (record { number = SHAPE; place = 0 }) s
-unfolding cpu_over_call cpu_over_checks
-over-length c s e = changes_refused (rw e)
-
-pub over_apart : (c : CpuSheet) (s : List ℕ) → right_length Cpu s ≡ true → matches c.extension (length s) ≡ false → Changes (cpu_count (length s)) (cpu_over_call c s) s (record { number = SHAPE; place = 0 }) s
-unfolding cpu_over_call cpu_over_checks
-over_apart c s e f = changes_refused (rw (e, f))
+  pub over-stored : right_length Cpu s ≡ true → matches c.extension (length s) ≡ true → cpu_over_call c s ≡ checked (state_checks Cpu (cpu_over c s)) (taken (cpu_over c s))
+  unfolding cpu_over_call cpu_over_checks
+  over-stored e f = rw (e, f)

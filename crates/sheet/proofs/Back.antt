@@ -7,14 +7,14 @@ use native.Mathlib.Omega.{arith}
 use lib.ListN.{length, take, drop, get_or, length-drop, take-append-drop, drop_of_length-le}
 use lib.Seq.{length-take-le, take-add, drop-drop}
 use Rattle.wire.specs.Numbers.{Bytes, bytes_of}
-use Rattle.wire.specs.Parts.{splice, put}
+use Rattle.wire.specs.Parts.{splice}
 use Rattle.wire.proofs.Numbers.{length-bytes_of}
 use Rattle.wire.proofs.Parts.{put-fits, put_not}
 use Rattle.registers.specs.Registers.{gather, in_turn, at, segment_in, segment_over, no_segment}
 use Rattle.registers.proofs.Mixed.{get_or-gather, mix, length_mix, step, number, in_turn_mix, words_mix, segment_mix, all_mix}
 use Rattle.sheet.specs.Vectors.{rows, joined}
 use Rattle.sheet.proofs.Rows.{joined-rows}
-use Rattle.sheet.specs.Sheet.{front_of, front_over, segments_of, segments_over, math_of, math_over, st_of, sse_of, sse_over, image_of, extension_of, extension_over, cpu_of, fields_over}
+use Rattle.sheet.specs.Sheet.{front_of, front_over, math_of, math_over, sse_of, sse_over, extension_of, extension_over, cpu_of, fields_over}
 
 module _ (s t : List ℕ) (b : Bytes s) (n : length t ≤ length s) where
   segments_mix : (k m : ℕ) → k + m * 18 ≤ length t → in_turn (λ i. segment_over (i * 18 + k) (get_or (gather (λ (j : ℕ). segment_in s (j * 18 + k)) m) i no_segment)) m (mix s t k) ≡ mix s t (k + m * 18)
@@ -43,14 +43,7 @@ module _ (s t : List ℕ) (b : Bytes s) (n : length t ≤ length s) where
     sse_mix = ap (λ (l : List ℕ). splice 415 (joined (rows 16 (drop 415 s))) l) (number s t b n 411 4 (omega arith)) ∙ xmm_mix
 
     cpu_front : fields_over (cpu_of s) t ≡ extension_over (extension_of s) (mix s t 1183)
-    cpu_front =
-        ap (λ (l : List ℕ). extension_over (extension_of s) (put 671 (image_of s) (sse_over (sse_of s) (put 283 (st_of s) (math_over (math_of s) (segments_over (segments_of s) (front_over (front_of s) l))))))) (words_mix s t b n 0 16 (omega arith))
-        ∙ ap (λ (l : List ℕ). extension_over (extension_of s) (put 671 (image_of s) (sse_over (sse_of s) (put 283 (st_of s) (math_over (math_of s) (segments_over (segments_of s) l)))))) front_mix
-        ∙ ap (λ (l : List ℕ). extension_over (extension_of s) (put 671 (image_of s) (sse_over (sse_of s) (put 283 (st_of s) (math_over (math_of s) l))))) (segments_mix 146 6 (omega arith))
-        ∙ ap (λ (l : List ℕ). extension_over (extension_of s) (put 671 (image_of s) (sse_over (sse_of s) (put 283 (st_of s) l)))) math_mix
-        ∙ ap (λ (l : List ℕ). extension_over (extension_of s) (put 671 (image_of s) (sse_over (sse_of s) l))) (step s t b n 283 128 (omega arith))
-        ∙ ap (λ (l : List ℕ). extension_over (extension_of s) (put 671 (image_of s) l)) sse_mix
-        ∙ ap (λ (l : List ℕ). extension_over (extension_of s) l) (step s t b n 671 512 (omega arith))
+    cpu_front = rw (words_mix s t b n 0 16 (omega arith), front_mix, segments_mix 146 6 (omega arith), math_mix, step s t b n 283 128 (omega arith), sse_mix, step s t b n 671 512 (omega arith))
 
   pub cpu_over_plain : length s ≡ 1183 → length t ≡ 1183 → fields_over (cpu_of s) t ≡ s
   cpu_over_plain e f = cpu_front (omega arith) ∙ ap (extension_over (extension_of s)) (all_mix s t b n 1183 e) ∙ rw (none 1187 _ (omega arith), none 1188 _ (omega arith), none 1189 _ (omega arith), none 1190 _ (omega arith))

@@ -4,19 +4,11 @@ use mathlib.Core.Path.{◌≡◌, refl, sym, ap, ◌∙◌}
 use mathlib.Core.List.{List, [], ◌∷◌, ◌++◌, append_assoc, append-nil}
 use Prim.Native.Nat.{ℕ, zero, suc, ◌+◌, ◌*◌, ◌≤◌, ◌<◌}
 use native.Mathlib.Omega.{arith}
-use lib.ListN.{length, take, drop, get_or, set, length-drop, take-append-drop, drop_of_length-le}
+use lib.ListN.{length, take, drop, get_or, set, length-drop, take-append-drop}
 use lib.Seq.{length-take-le, take-add, drop-drop, take-suc, take-suc-set}
 use Rattle.wire.specs.Parts.{splice, put, Wrote}
-use Rattle.wire.proofs.Parts.{put-fits, wrote_put}
+use Rattle.wire.proofs.Parts.{wrote_put}
 use Rattle.sheet.specs.Vectors.{rows, joined}
-
--- bytes put over all of a list
-pub put_whole : (bs old : List ℕ) → length bs ≡ length old → put 0 bs old ≡ bs
-unfolding splice
-put_whole bs old e =
-    let g : 0 + length bs ≤ length old = omega arith in
-    let k : length old ≤ 0 + length bs = omega arith in
-    put-fits 0 bs old g ∙ rw (drop_of_length-le old k) (append-nil bs)
 
 -- one row more, at the end
 pub rows_snoc : (n : ℕ) (l : List ℕ) → rows (suc n) l ≡ rows n l ++ (take 16 (drop (n * 16) l) ∷ [])

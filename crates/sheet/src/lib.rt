@@ -2,16 +2,15 @@
 // The sixteen vector registers are an array of arrays. Which field stands where is said by `fields`; proofs/Ties.antt has the law.
 #![tactic(auto)]
 
-ghost use Rattle.std.specs.Prelude.{◌≡◌, Bool, ◌+◌, ◌≤◌, min, length, take, drop, leb};
-ghost use Rattle.answer.specs.Outcome.{taken, checked};
-ghost use Rattle.wire.specs.Parts.{splice, put};
-ghost use Rattle.fields.specs.declared.State.TheVariants.{Cpu};
-ghost use Rattle.fields.specs.Fields.{state_checks, Changes};
+ghost use Rattle.std.specs.Prelude.{◌≡◌, ◌+◌, ◌≤◌, length, take, drop, leb};
+ghost use Rattle.answer.specs.Calls.{outcome_of, count_answer};
+ghost use Rattle.wire.specs.Parts.{splice};
+ghost use Rattle.fields.specs.Fields.{Changes};
 ghost use Rattle.sheet.specs.Vectors.{rows, joined};
-ghost use Rattle.sheet.specs.Sheet.{front_of, segments_of, math_of, st_of, sse_of, image_of, extension_of, cpu_of, front_over, segments_over, math_over, sse_over, extension_over, cpu_over, fields_over};
+ghost use Rattle.sheet.specs.Sheet.{front_of, segments_of, math_of, extension_of, cpu_of, front_over, segments_over, math_over, sse_over, extension_over, fields_over};
 ghost use Rattle.sheet.specs.Calls.{matches, cpu_count, cpu_shown, cpu_call, cpu_over_call};
 
-use answer::{Answer, SHAPE, TAKEN, Test};
+use answer::{Answer, Fault, Refusal, TAKEN};
 use fields::State;
 use registers::{Segment, put_segment, put_words, segment_at, words};
 use wire::{put_u8, put_u16, put_u32, put_u64, u8_at, u16_at, u32_at, u64_at};
@@ -43,7 +42,7 @@ pub struct Sse {
     pub xmm: [[u8; 16]; 16],
 }
 
-// Whether the state has the extension, and what stands there; 0 where it has none.
+// Whether the state has the extension, and what stands there; 0 where it has none. No `Option`: `cpu_member` has the numbers of every sheet.
 #[derive(Clone, Copy)]
 pub struct Extension {
     pub there: bool,
@@ -67,6 +66,7 @@ pub struct CpuSheet {
 }
 
 // Number and place, and the sheet; beside a refusal the sheet of a state of zeros.
+// `mmu_sheet::MmuShown` is the same for the other sheet: theorems name both, and a shared generic struct would save three fields alone.
 #[derive(Clone, Copy)]
 pub struct CpuShown {
     pub number: u32,
@@ -74,16 +74,47 @@ pub struct CpuShown {
     pub sheet: CpuSheet,
 }
 
+impl From<Result<CpuSheet, Fault>> for CpuShown {
+    ghost from_gives = { λ r shown. shown ≡ cpu_shown (outcome_of r) };
+
+    fn from(r: Result<CpuSheet, Fault>) -> CpuShown {
+        match r {
+            Ok(sheet) => CpuShown {
+                number: TAKEN,
+                place: 0,
+                sheet,
+            },
+            Err(fault) => CpuShown {
+                number: u32::from(fault.0),
+                place: fault.1 as u64,
+                sheet: read_cpu(&[0; PLAIN]),
+            },
+        }
+    }
+}
+
+// The bytes of a state without the extension.
+const PLAIN: usize = 1183;
+
+// Those of a state with the extension and nothing behind it.
+const EXTENDED: usize = 1191;
+
+// Whether a state of `len` bytes has the extension.
+fn extended(len: usize) -> bool
+    ensures { result ≡ leb 1191 len }
+{
+    EXTENDED <= len
+}
+
 // ---- the vector registers
 
-// Sixteen bytes at a place.
-fn row(s: &[u8], at: usize) -> [u8; 16]
-    requires { at + 16 ≤ length s.now }
-    ensures { result ≡ take 16 (drop at s.now) }
+// The N bytes at a place.
+fn part<const N: usize>(s: &[u8], at: usize) -> [u8; N]
+    requires { at + N ≤ length s.now }
+    ensures { result ≡ take N (drop at s.now) }
 {
-    let mut a = [0u8; 16];
-    let e = at + 16;
-    wire::copy(&mut a, 0, &s[at..e]);
+    let mut a = [0; N];
+    a.copy_from_slice(&s[at..at + N]);
     a
 }
 
@@ -91,33 +122,24 @@ fn vectors(s: &[u8], at: usize) -> [[u8; 16]; 16]
     requires { at + 256 ≤ length s.now }
     ensures { result ≡ rows 16 (drop at s.now) }
 {
-    let mut a = [[0u8; 16]; 16];
-    let mut i = 0;
-    while i < 16 {
-        a[i] = row(s, at + i * 16);
-        i += 1;
+    let mut a = [[0; 16]; 16];
+    for (i, row) in a.iter_mut().enumerate() {
+        *row = part(s, at + i * 16);
     }
     a
 }
 
-fn put_row(s: &mut [u8], at: usize, r: [u8; 16])
-    ensures { (length r ≡ 16) × (s.new ≡ put at r s.old) }
-{
-    wire::copy(s, at, &r);
-}
-
-fn put_vectors(s: &mut [u8], at: usize, a: [[u8; 16]; 16])
+fn put_vectors(s: &mut [u8], at: usize, a: &[[u8; 16]; 16])
     requires { at + 256 ≤ length s.old }
-    ensures { s.new ≡ splice at (joined a) s.old }
+    ensures { s.new ≡ splice at (joined a.now) s.old }
 {
-    let mut i = 0;
-    while i < 16 {
-        put_row(s, at + i * 16, a[i]);
-        i += 1;
+    for (i, row) in a.iter().enumerate() {
+        let start = at + i * 16;
+        s[start..start + 16].copy_from_slice(row);
     }
 }
 
-// A struct that holds them is made, and they are taken out of it, by these two alone.
+// A struct that holds them is made, and they are taken out of it, by these two: docs/PROMISES.md names both.
 pub fn make_sse(mxcsr: u32, xmm: [[u8; 16]; 16]) -> Sse
     ensures { result ≡ record { mxcsr = mxcsr; xmm = xmm } }
 {
@@ -146,17 +168,9 @@ fn front_of(s: &[u8]) -> Front
 fn segments(s: &[u8]) -> [Segment; 6]
     ensures { result ≡ segments_of s.now }
 {
-    let none = Segment {
-        selector: 0,
-        base: 0,
-        limit: 0,
-        access: 0,
-    };
-    let mut a = [none; 6];
-    let mut i = 0;
-    while i < 6 {
-        a[i] = segment_at(s, (i * 18 + 146) as u32);
-        i += 1;
+    let mut a = [Segment::default(); 6];
+    for (i, segment) in a.iter_mut().enumerate() {
+        *segment = segment_at(s, (i * 18 + 146) as u32);
     }
     a
 }
@@ -177,39 +191,6 @@ fn math_of(s: &[u8]) -> Math
     }
 }
 
-fn st_of(s: &[u8]) -> [u8; 128]
-    requires { 1183 ≤ length s.now }
-    ensures { result ≡ st_of s.now }
-{
-    let mut a = [0u8; 128];
-    wire::copy(&mut a, 0, &s[283..411]);
-    a
-}
-
-fn sse_of(s: &[u8]) -> Sse
-    requires { 1183 ≤ length s.now }
-    ensures { result ≡ sse_of s.now }
-{
-    let mxcsr = u32_at(s, 411);
-    let xmm = vectors(s, 415);
-    make_sse(mxcsr, xmm)
-}
-
-fn image_of(s: &[u8]) -> [u8; 512]
-    requires { 1183 ≤ length s.now }
-    ensures { result ≡ image_of s.now }
-{
-    let mut a = [0u8; 512];
-    wire::copy(&mut a, 0, &s[671..1183]);
-    a
-}
-
-fn extended(len: usize) -> bool
-    ensures { result ≡ leb 1191 len }
-{
-    1191 <= len
-}
-
 fn extension_of(s: &[u8]) -> Extension
     ensures { result ≡ extension_of s.now }
 {
@@ -226,24 +207,17 @@ fn read_cpu(s: &[u8]) -> CpuSheet
     requires { 1183 ≤ length s.now }
     ensures { result ≡ cpu_of s.now }
 {
-    let mut gpr = [0u64; 16];
+    let mut gpr = [0; 16];
     words(s, 0, &mut gpr);
-    let front = front_of(s);
-    let sixes = segments(s);
-    let math = math_of(s);
-    let st = st_of(s);
-    let sse = sse_of(s);
-    let image = image_of(s);
-    let extension = extension_of(s);
     CpuSheet {
         gpr,
-        front,
-        segments: sixes,
-        math,
-        st,
-        sse,
-        image,
-        extension,
+        front: front_of(s),
+        segments: segments(s),
+        math: math_of(s),
+        st: part(s, 283),
+        sse: make_sse(u32_at(s, 411), vectors(s, 415)),
+        image: part(s, 671),
+        extension: extension_of(s),
     }
 }
 
@@ -258,13 +232,11 @@ fn put_front(s: &mut [u8], f: Front)
     put_u8(s, 145, f.halted);
 }
 
-fn put_segments(s: &mut [u8], a: [Segment; 6])
-    ensures { s.new ≡ segments_over a s.old }
+fn put_segments(s: &mut [u8], a: &[Segment; 6])
+    ensures { s.new ≡ segments_over a.now s.old }
 {
-    let mut i = 0;
-    while i < 6 {
-        put_segment(s, (i * 18 + 146) as u32, a[i]);
-        i += 1;
+    for (i, segment) in a.iter().enumerate() {
+        put_segment(s, (i * 18 + 146) as u32, *segment);
     }
 }
 
@@ -282,25 +254,12 @@ fn put_math(s: &mut [u8], m: Math)
     put_u16(s, 281, m.fds);
 }
 
-fn put_st(s: &mut [u8], a: [u8; 128])
-    ensures { s.new ≡ put 283 a s.old }
-{
-    wire::copy(s, 283, &a);
-}
-
 fn put_sse(s: &mut [u8], x: Sse)
-    requires { 1183 ≤ length s.old }
+    requires { 671 ≤ length s.old }
     ensures { s.new ≡ sse_over x s.old }
 {
-    let xmm = xmm_of(x);
     put_u32(s, 411, x.mxcsr);
-    put_vectors(s, 415, xmm);
-}
-
-fn put_image(s: &mut [u8], a: [u8; 512])
-    ensures { s.new ≡ put 671 a s.old }
-{
-    wire::copy(s, 671, &a);
+    put_vectors(s, 415, &xmm_of(x));
 }
 
 fn put_extension(s: &mut [u8], e: Extension)
@@ -316,121 +275,69 @@ fn write_cpu(s: &mut [u8], c: CpuSheet)
     requires { 1183 ≤ length s.old }
     ensures { s.new ≡ fields_over c s.old }
 {
-    let gpr = c.gpr;
-    let front = c.front;
-    let sixes = c.segments;
-    let math = c.math;
-    let st = c.st;
-    let sse = c.sse;
-    let image = c.image;
-    let extension = c.extension;
-    put_words(s, 0, &gpr);
-    put_front(s, front);
-    put_segments(s, sixes);
-    put_math(s, math);
-    put_st(s, st);
-    put_sse(s, sse);
-    put_image(s, image);
-    put_extension(s, extension);
+    put_words(s, 0, &c.gpr);
+    put_front(s, c.front);
+    put_segments(s, &c.segments);
+    put_math(s, c.math);
+    wire::copy(s, 283, &c.st);
+    put_sse(s, c.sse);
+    wire::copy(s, 671, &c.image);
+    put_extension(s, c.extension);
 }
 
 // ---- the calls
+
+// The sheet of a state that is taken.
+fn sheet_of(state: &[u8]) -> Result<CpuSheet, Fault>
+    ensures { outcome_of result ≡ cpu_call state.now }
+{
+    fields::judge(State::Cpu, state)?;
+    Ok(read_cpu(state))
+}
 
 // The sheet of a CPU state.
 pub fn cpu(state: &[u8]) -> CpuShown
     ensures { result ≡ cpu_shown (cpu_call state.now) }
 {
-    match fields::judge(State::Cpu, state) {
-        Test::Fault(number, place) => {
-            let zeros = [0u8; 1183];
-            let sheet = read_cpu(&zeros);
-            CpuShown {
-                number,
-                place: place as u64,
-                sheet,
-            }
-        }
-        Test::Fine => {
-            let sheet = read_cpu(state);
-            CpuShown {
-                number: TAKEN,
-                place: 0,
-                sheet,
-            }
-        }
-    }
+    CpuShown::from(sheet_of(state))
 }
 
 // A sheet says that the extension is there exactly if a state of `len` bytes has it.
 fn agrees(e: Extension, len: usize) -> bool
     ensures { result ≡ matches e len }
 {
-    if e.there {
-        return 1191 <= len;
-    }
-    len < 1191
+    e.there == extended(len)
 }
 
-// The bytes of all fields of a state of `len` bytes.
-fn count_of(len: usize) -> u64
+// The bytes of all fields of a state of `len` bytes: the extension's length, of 4 bytes, is none.
+fn count_of(len: usize) -> usize
     ensures { result ≡ cpu_count len }
 {
-    if 1191 <= len {
-        return 1187;
-    }
-    1183
+    if extended(len) { EXTENDED - 4 } else { PLAIN }
 }
 
-// How many bytes of a state of `len` bytes its fields stand in.
-fn reach_of(len: usize) -> usize
-    ensures { result ≡ min len 1191 }
+// A sheet over the first bytes of a state, and how many its fields are; if the state is refused then, all is as it was.
+fn lay_over(sheet: CpuSheet, state: &mut [u8]) -> Result<usize, Fault>
+    ensures { Changes (cpu_count (length state.old)) (cpu_over_call sheet state.old) state.old (count_answer (outcome_of result)) state.new }
 {
-    if len < 1191 {
-        return len;
+    let len = state.len();
+    if !fields::right_length(State::Cpu, state) || !agrees(sheet.extension, len) {
+        return Err(Fault(Refusal::Shape, 0));
     }
-    1191
-}
-
-// A sheet over the first bytes of a state; if the state is refused then, all is as it was.
-fn store_cpu(sheet: CpuSheet, s: &mut [u8]) -> Answer
-    requires { 1183 ≤ length s.old }
-    ensures { Changes (cpu_count (length s.old)) (checked (state_checks Cpu (cpu_over sheet s.old)) (taken (cpu_over sheet s.old))) s.old result s.new }
-{
-    let len = s.len();
-    let n = reach_of(len);
-    let mut old = [0u8; 1191];
-    wire::copy(&mut old, 0, &s[..n]);
-    write_cpu(&mut s[..n], sheet);
-    match fields::judge(State::Cpu, s) {
-        Test::Fault(number, place) => {
-            wire::copy(s, 0, &old[..n]);
-            Answer {
-                number,
-                place: place as u64,
-            }
-        }
-        Test::Fine => Answer {
-            number: TAKEN,
-            place: count_of(len),
-        },
+    let n = len.min(EXTENDED);
+    let mut old = [0; EXTENDED];
+    old[..n].copy_from_slice(&state[..n]);
+    write_cpu(&mut state[..n], sheet);
+    if let Err(fault) = fields::judge(State::Cpu, state) {
+        state[..n].copy_from_slice(&old[..n]);
+        return Err(fault);
     }
+    Ok(count_of(len))
 }
 
 // A sheet over a CPU state, if the state as it would be is taken.
 pub fn cpu_over(sheet: CpuSheet, state: &mut [u8]) -> Answer
     ensures { Changes (cpu_count (length state.old)) (cpu_over_call sheet state.old) state.old result state.new }
 {
-    if fields::right_length(State::Cpu, state) {
-        if agrees(sheet.extension, state.len()) {
-            return store_cpu(sheet, state);
-        }
-        return Answer {
-            number: SHAPE,
-            place: 0,
-        };
-    }
-    Answer {
-        number: SHAPE,
-        place: 0,
-    }
+    Answer::from(lay_over(sheet, state))
 }

@@ -8,14 +8,15 @@ use lib.ListN.{length, take, drop, length-drop}
 use lib.Seq.{length-take-le}
 use borrow.Author.Tests.{le-leb, lt-leb}
 use Rattle.answer.specs.Numbers.{ROOM}
-use Rattle.answer.specs.Outcome.{Outcome, taken, refused, after, done, fitting}
+use Rattle.answer.specs.Outcome.{Outcome, taken, refused, after, done, room, fitting}
 use Rattle.answer.specs.declared.Answer.{Answer}
-use Rattle.answer.specs.Calls.{verdict, Writes}
-use Rattle.answer.proofs.Outcomes.{made_stop, made_taken}
+use Rattle.std.proofs.Common.{Result, Ok, Err}
+use Rattle.answer.specs.declared.Fault.{Fault}
+use Rattle.answer.specs.Calls.{fault_of, asked, WritesCount}
+use Rattle.answer.proofs.Outcomes.{made_stop, made_taken, done_stop, done_taken, fills_stop, fills_done, room_stop, room_holds}
 use Rattle.wire.specs.Numbers.{le_at}
 use Rattle.wire.specs.Parts.{Wrote}
 use Rattle.wire.proofs.Parts.{none}
-use Rattle.wire.proofs.Calls.{writes_refused, writes_taken}
 use Rattle.order.specs.Keyed.{flat}
 use Rattle.lists.specs.Lists.{list_at, starts_in}
 use Rattle.tables.specs.declared.Table.{Table}
@@ -51,32 +52,36 @@ module _ (s : List ℕ) where
   faults_fine h = sym (ap done (counted_taken (file_of s) h).1)
 
   -- a file that is refused: nothing is written
-  pub stopped : (rows : List (List ℕ) → List ℕ) (old : List ℕ) {n p : ℕ} → file_of s ≡ refused n p → Writes (table rows (length old) s) old (record { number = n; place = p }) old
-  stopped rows old h = writes_refused (ap (λ (o : Outcome (List (List ℕ))). after o (λ l. fitting (length old) (rows l))) h)
+  pub stopped : (rows : List (List ℕ) → List ℕ) (old : List ℕ) {f : Fault} → file_of s ≡ fault_of f → WritesCount (table rows (length old) s) old (Err f) old
+  stopped rows old {f} h = fills_stop old f (ap (λ (o : Outcome (List (List ℕ))). after o (λ l. fitting (length old) (rows l))) h)
 
-  pub sections_stop : (old : List ℕ) {n p : ℕ} → refused n p ≡ counted (file_of s) → Writes (sections_call (length old) s) old (record { number = n; place = p }) old
+  pub sections_stop : (old : List ℕ) {f : Fault} → fault_of f ≡ counted (file_of s) → WritesCount (sections_call (length old) s) old (Err f) old
   sections_stop old h = stopped (section_rows 16 0) old (made_stop (file_of s) length h)
 
-  pub list_stop : (i : ℕ) (old : List ℕ) {n p : ℕ} → refused n p ≡ spot_in i (file_of s) → Writes (list_table i (length old) s) old (record { number = n; place = p }) old
+  pub list_stop : (i : ℕ) (old : List ℕ) {f : Fault} → fault_of f ≡ spot_in i (file_of s) → WritesCount (list_table i (length old) s) old (Err f) old
   list_stop i old h = stopped (λ l. flat (list_rows i) (placed 16 l)) old (spot_stop i s h)
 
   -- a file that is taken: its table, for an output of so many bytes
   pub table_of : (rows : List (List ℕ) → List ℕ) (have : ℕ) {l : List (List ℕ)} → file_of s ≡ taken l → table rows have s ≡ fitting have (rows l)
   table_of rows have h = ap (λ (o : Outcome (List (List ℕ))). after o (λ l. fitting have (rows l))) h
 
-  -- a file that has no section: no record, so that its verdict is the answer
-  module _ (rows : List (List ℕ) → List ℕ) (z : rows [] ≡ []) where
-    bare_rows : (old : List ℕ) → length s ≤ 16 → {r : Answer} → r ≡ verdict (file_of s) → Writes (table rows (length old) s) old r old
-    bare_rows old h k = subst (λ (r : Answer). Writes (table rows (length old) s) old r old) (sym k) (go (file_of s) refl)
-      where
-        go : (o : Outcome (List (List ℕ))) → file_of s ≡ o → Writes (table rows (length old) s) old (verdict o) old
-        go (refused n p) e = stopped rows old e
-        go (taken l) e = writes_taken (table_of rows (length old) e ∙ ap (λ (m : List (List ℕ)). fitting (length old) (rows m)) (no_section s e h) ∙ rw (z, le-leb 0 (length old) (omega arith))) (none old)
+  -- a file that has no section: its fault, or no record
+  pub bare_stop : (rows : List (List ℕ) → List ℕ) (old : List ℕ) {f : Fault} → fault_of f ≡ done (file_of s) → WritesCount (table rows (length old) s) old (Err f) old
+  bare_stop rows old h = stopped rows old (done_stop (file_of s) h)
 
-  pub bare-table : (i : ℕ) (old : List ℕ) → length s ≤ 16 → {r : Answer} → r ≡ verdict (file_of s) → Writes (list_table i (length old) s) old r old
+  module _ (rows : List (List ℕ) → List ℕ) (z : rows [] ≡ []) where
+    bare_rows : (old : List ℕ) → length s ≤ 16 → taken tt ≡ done (file_of s) → WritesCount (table rows (length old) s) old (Ok 0) old
+    bare_rows old h k =
+        let l = done_taken (file_of s) (sym k) in
+        fills_done [] (table_of rows (length old) l.1 ∙ ap (λ (m : List (List ℕ)). fitting (length old) (rows m)) (no_section s l.1 h) ∙ rw (z, le-leb 0 (length old) (omega arith))) refl refl
+
+  pub bare-table : (i : ℕ) (old : List ℕ) → length s ≤ 16 → taken tt ≡ done (file_of s) → WritesCount (list_table i (length old) s) old (Ok 0) old
   bare-table i old h k = bare_rows (λ l. flat (list_rows i) (placed 16 l)) (ap (flat (list_rows i)) none-placed) old h k
 
-  pub bare-sections : (old : List ℕ) → length s ≤ 16 → {r : Answer} → r ≡ verdict (file_of s) → Writes (sections_call (length old) s) old r old
+  pub table_stop : (i : ℕ) (old : List ℕ) {f : Fault} → fault_of f ≡ done (file_of s) → WritesCount (list_table i (length old) s) old (Err f) old
+  table_stop i old h = bare_stop (λ l. flat (list_rows i) (placed 16 l)) old h
+
+  pub bare-sections : (old : List ℕ) → length s ≤ 16 → taken tt ≡ done (file_of s) → WritesCount (sections_call (length old) s) old (Ok 0) old
   unfolding section_rows
   bare-sections old h k = bare_rows (section_rows 16 0) refl old h k
 
@@ -89,27 +94,28 @@ module _ (s old : List ℕ) {n : ℕ} (h : taken n ≡ counted (file_of s)) wher
   need : length (section_rows 16 0 (counted_taken (file_of s) h).0) ≡ ROW * n
   need = let w = counted_taken (file_of s) h in sections-length 16 0 w.0 ∙ ap (λ (k : ℕ). ROW * k) (sym w.2)
 
-  pub sections_short : length old < ROW * n → Writes (sections_call (length old) s) old (record { number = ROOM; place = ROW * n }) old
-  sections_short k =
+  pub sections_short : {f : Fault} → fault_of f ≡ asked (room (length old) (ROW * n)) → WritesCount (sections_call (length old) s) old (Err f) old
+  sections_short {f} k =
       let w = counted_taken (file_of s) h in
-      writes_refused (table_of s (section_rows 16 0) (length old) w.1 ∙ rw (need, lt-leb (ROW * n) (length old) k))
+      fills_stop old f (table_of s (section_rows 16 0) (length old) w.1 ∙ room_stop (length old) (section_rows 16 0 w.0) (k ∙ ap (λ (m : ℕ). asked (room (length old) m)) (sym need)))
 
-  pub sections_ready : ROW * n ≤ length old → (l : List (List ℕ)) × (file_of s ≡ taken l) × (ROW * length l ≤ length old)
-  sections_ready k = let w = counted_taken (file_of s) h in (w.0, w.1, omega (arith, w.2))
+  pub sections_ready : taken tt ≡ asked (room (length old) (ROW * n)) → (l : List (List ℕ)) × (file_of s ≡ taken l) × (ROW * length l ≤ length old)
+  sections_ready k = let w = counted_taken (file_of s) h in (w.0, w.1, omega (arith, w.2, room_holds (length old) (ROW * n) k))
 
-  pub sections-done : ROW * n ≤ length old → {new : List ℕ} → ((l : List (List ℕ)) → file_of s ≡ taken l → Wrote (section_rows 16 0 l) old new (ROW * length l))
-      → Writes (sections_call (length old) s) old (record { number = 0; place = ROW * n }) new
+  pub sections-done : taken tt ≡ asked (room (length old) (ROW * n)) → {new : List ℕ} → ((l : List (List ℕ)) → file_of s ≡ taken l → Wrote (section_rows 16 0 l) old new (ROW * length l))
+      → WritesCount (sections_call (length old) s) old (Ok (ROW * n)) new
   sections-done k {new} so =
       let w = counted_taken (file_of s) h in
-      writes_taken {b = section_rows 16 0 w.0} (table_of s (section_rows 16 0) (length old) w.1 ∙ rw (need, le-leb (ROW * n) (length old) k)) (subst (λ (j : ℕ). Wrote (section_rows 16 0 w.0) old new (ROW * j)) (sym w.2) (so w.0 w.1))
+      let b = subst (λ (j : ℕ). Wrote (section_rows 16 0 w.0) old new (ROW * j)) (sym w.2) (so w.0 w.1) in
+      fills_done (section_rows 16 0 w.0) (table_of s (section_rows 16 0) (length old) w.1 ∙ rw (need, le-leb (ROW * n) (length old) (room_holds (length old) (ROW * n) k))) b.count b.bytes
 
 -- ---- the table of the list with an id
 
 -- no section has it: no record
-pub list_none : (i : ℕ) (s : List ℕ) {p n : ℕ} → Sited i s p n → length s ≤ p → (old : List ℕ) → Writes (list_table i (length old) s) old (record { number = 0; place = 0 }) old
+pub list_none : (i : ℕ) (s : List ℕ) {p n : ℕ} → Sited i s p n → length s ≤ p → (old : List ℕ) → WritesCount (list_table i (length old) s) old (Ok 0) old
 list_none i s x g old =
     let n = made_none i (λ q. entry_rows (table_in i (version_of q.1)) q) 16 (sections_in s) (none-there i s x.read x.place g) in
-    writes_taken (table_of s (λ l. flat (list_rows i) (placed 16 l)) (length old) x.read ∙ rw (n, le-leb 0 (length old) (omega arith))) (none old)
+    fills_done [] (table_of s (λ l. flat (list_rows i) (placed 16 l)) (length old) x.read ∙ rw (n, le-leb 0 (length old) (omega arith))) refl refl
 
 module _ {i : ℕ} {s index : List ℕ} {p first : ℕ} (x : Lists i s p index first) where
   found : Here i s (sections_in s) p
@@ -155,13 +161,14 @@ module _ {i : ℕ} {s index : List ℕ} {p first : ℕ} (x : Lists i s p index f
       is_table : (have : ℕ) → list_table i have s ≡ fitting have rows
       is_table have = table_of s (λ l. flat (list_rows i) (placed 16 l)) have x.read ∙ ap (fitting have) all
 
-      pub list_short : (old : List ℕ) → length old < ROW * n → Writes (list_table i (length old) s) old (record { number = ROOM; place = ROW * n }) old
-      list_short old h = writes_refused (is_table (length old) ∙ rw (rows_long, lt-leb (ROW * n) (length old) h))
+      pub list_short : (old : List ℕ) {f : Fault} → fault_of f ≡ asked (room (length old) (ROW * n)) → WritesCount (list_table i (length old) s) old (Err f) old
+      list_short old {f} h = fills_stop old f (is_table (length old) ∙ room_stop (length old) rows (h ∙ ap (λ (m : ℕ). asked (room (length old) m)) (sym rows_long)))
 
-      pub list_done : {u : Table} {w : ℕ} → u ≡ table_in i w → w ≡ le_at 2 s (p + 4) → {old new : List ℕ} {r : ℕ} → ROW * n ≤ length old
+      pub list_done : {u : Table} {w : ℕ} → u ≡ table_in i w → w ≡ le_at 2 s (p + 4) → {old new : List ℕ} {r : ℕ} → taken tt ≡ asked (room (length old) (ROW * n))
           → Wrote (rows_in u (p + 16) (take (e - (p + 16)) (drop (p + 16) s)) (take (first + n - first) (drop first index)) (take (length old / ROW) (take (first + n - first) (drop first index)))) old new r
-          → Writes (list_table i (length old) s) old (record { number = 0; place = ROW * n }) new
-      list_done {u} d g {old} {new} h w =
+          → WritesCount (list_table i (length old) s) old (Ok (ROW * n)) new
+      list_done {u} d g {old} {new} k w =
+          let h : ROW * n ≤ length old = room_holds (length old) (ROW * n) k in
           let j : u ≡ t = d ∙ ap (table_in i) (g ∙ found.version) in
           let v : Wrote rows old new _ = rw (j, rows_all (take (first + n - first) (drop first index)) (length old) (omega (arith, count))) at w in
-          writes_taken {b = rows} (is_table (length old) ∙ rw (rows_long, le-leb (ROW * n) (length old) h)) (record { count = sym rows_long; bytes = v.bytes })
+          fills_done rows (is_table (length old) ∙ rw (rows_long, le-leb (ROW * n) (length old) h)) (sym rows_long) v.bytes

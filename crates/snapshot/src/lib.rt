@@ -4,7 +4,7 @@
 
 ghost use Rattle.std.specs.Prelude.{◌≡◌, true, cond, List, ℕ, ◌+◌, ◌*◌, ◌≤◌, eqb, length};
 ghost use Rattle.answer.specs.Outcome.{taken, done};
-ghost use Rattle.answer.specs.Calls.{test_of, verdict, Writes};
+ghost use Rattle.answer.specs.Calls.{outcome_of, verdict, Writes, WritesCount};
 ghost use Rattle.wire.specs.Numbers.{le_at};
 ghost use Rattle.wire.specs.Parts.{Wrote};
 ghost use Rattle.tables.specs.Tables.{ROW, described};
@@ -22,11 +22,11 @@ ghost use Rattle.sections.specs.Steps.{HoldsStarts};
 ghost use Rattle.snapshot.specs.Walks.{Lists};
 ghost use Rattle.snapshot.specs.MetaSection.{silent, meta_at, meta_call, as_meta};
 
-use answer::{Answer, Piece, ROOM, TAKEN, Test};
+use answer::{Answer, Fault, roomy};
 use cards::{Card, Edited};
 use edits::Edit;
 use salvage::Salvaged;
-use sections::{Places, Spot};
+use sections::Places;
 use tables::{ROW, Table};
 
 // A file that is no longer than its header has no section, and its tables are empty.
@@ -44,21 +44,19 @@ const CPUS: u32 = 7;
 const MMUS: u32 = 8;
 
 // The first fault of a file, if any. Nothing is written before the whole file is looked at.
-fn faults(file: &[u8]) -> Test
-    ensures { test_of result ≡ done (file_of file.now) }
+fn faults(file: &[u8]) -> Result<(), Fault>
+    ensures { outcome_of result ≡ done (file_of file.now) }
 {
     let mut index = [0u32; 1];
-    match sections::scan(file, &mut index[..0]) {
-        Piece::Stop(number, place) => Test::Fault(number, place),
-        Piece::Ends(_) => Test::Fine,
-    }
+    sections::scan(file, &mut index[..0])?;
+    Ok(())
 }
 
 // Whether a file is taken, or its first fault.
 pub fn check(file: &[u8]) -> Answer
     ensures { result ≡ verdict (check_call file.now) }
 {
-    answer::answered(faults(file))
+    Answer::from(faults(file))
 }
 
 // Where the section at a place ends.
@@ -77,6 +75,7 @@ fn put_rows(file: &[u8], out: &mut [u8])
     let mut at = 16;
     let mut t = 0;
     let mut q = 0;
+    // The place jumps by the length that each section says.
     while at < file.len() {
         tables::put_section(&mut out[t..], at as u32, q, wire::tail(file, at));
         at = end_at(file, at);
@@ -85,57 +84,39 @@ fn put_rows(file: &[u8], out: &mut [u8])
     }
 }
 
-// The table of sections in file order, of a file that may have some.
-fn section_table(file: &[u8], table: &mut [u8]) -> Answer
-    ensures { Writes (sections_call (length table.old) file.now) table.old result table.new }
+// The table of sections in file order. That a file has none is seen first.
+fn section_table(file: &[u8], table: &mut [u8]) -> Result<usize, Fault>
+    ensures { WritesCount (sections_call (length table.old) file.now) table.old result table.new }
 {
-    let mut index = [0u32; 1];
-    match sections::scan(file, &mut index[..0]) {
-        Piece::Stop(number, place) => Answer {
-            number,
-            place: place as u64,
-        },
-        Piece::Ends(n) => {
-            let need = ROW * n;
-            if table.len() < need {
-                return Answer {
-                    number: ROOM,
-                    place: need as u64,
-                };
-            }
-            put_rows(file, table);
-            Answer {
-                number: TAKEN,
-                place: need as u64,
-            }
-        }
+    if file.len() <= HEADER {
+        faults(file)?;
+        return Ok(0);
     }
+    let mut index = [0u32; 1];
+    let n = sections::scan(file, &mut index[..0])?;
+    let size = ROW * n;
+    roomy(table.len(), size)?;
+    put_rows(file, table);
+    Ok(size)
 }
 
 // The table of sections in file order.
 pub fn sections(file: &[u8], table: &mut [u8]) -> Answer
     ensures { Writes (sections_call (length table.old) file.now) table.old result table.new }
 {
-    if file.len() <= HEADER {
-        return check(file);
-    }
-    section_table(file, table)
+    Answer::from(section_table(file, table))
 }
 
 // The table of a list, by the id and the version of its section.
 fn table_in(id: u32, version: u16) -> Table
     ensures { result ≡ file_tables.table_in id version }
 {
-    if id == DEVICES {
-        return Table::Devices;
+    match id {
+        DEVICES => Table::Devices,
+        DISKS => Table::Disks,
+        CPUS => Table::Cpus(version),
+        _ => Table::Mmus(version),
     }
-    if id == DISKS {
-        return Table::Disks;
-    }
-    if id == CPUS {
-        return Table::Cpus(version);
-    }
-    Table::Mmus(version)
 }
 
 // The records of the list whose section is at a place, from its starts in the index, where there is room for them.
@@ -146,69 +127,56 @@ fn put_table(
     index: &[u32],
     first: usize,
     table: &mut [u8],
-) -> Answer
+) -> Result<usize, Fault>
     requires { Lists id file.now at index.now first }
-    ensures { Writes (file_tables.list_table id (length table.old) file.now) table.old result table.new }
+    ensures { WritesCount (file_tables.list_table id (length table.old) file.now) table.old result table.new }
 {
     let b = at + 16;
     let e = end_at(file, at);
     let n = wire::u32_at(file, b) as usize;
     let need = ROW * n;
-    if table.len() < need {
-        return Answer {
-            number: ROOM,
-            place: need as u64,
-        };
-    }
+    roomy(table.len(), need)?;
     let t = table_in(id, wire::u16_at(file, at + 4));
     let last = first + n;
     tables::put_rows(t, &file[b..e], b as u32, &index[first..last], table);
-    Answer {
-        number: TAKEN,
-        place: need as u64,
-    }
+    Ok(need)
 }
 
 // The table of the list with an id, with room for the file's index.
-fn list_table_in(id: u32, file: &[u8], index: &mut [u32], table: &mut [u8]) -> Answer
+fn list_table_in(id: u32, file: &[u8], index: &mut [u32], table: &mut [u8]) -> Result<usize, Fault>
     requires { (known id ≡ true) × ((v : ℕ) → body_of id v ≡ list (described (file_tables.table_in id v))) × HoldsStarts file.now (length index.old) }
-    ensures { Writes (file_tables.list_table id (length table.old) file.now) table.old result table.new }
+    ensures { WritesCount (file_tables.list_table id (length table.old) file.now) table.old result table.new }
 {
-    match sections::check_and_find(&file[..], id, index) {
-        Spot::Fault(number, place) => Answer {
-            number,
-            place: place as u64,
-        },
-        Spot::At(at, first) => {
-            if file.len() <= at {
-                return Answer {
-                    number: TAKEN,
-                    place: 0,
-                };
-            }
-            put_table(id, &file[..], at, index, first, table)
-        }
+    let (at, first) = sections::check_and_find(&file[..], id, index)?;
+    if file.len() <= at {
+        return Ok(0);
     }
+    put_table(id, &file[..], at, index, first, table)
+}
+
+// The same, with an index of so many places.
+fn list_table_with<const N: usize>(id: u32, file: &[u8], table: &mut [u8]) -> Result<usize, Fault>
+    requires is_list { (known id ≡ true) × ((v : ℕ) → body_of id v ≡ list (described (file_tables.table_in id v))) }
+    requires places { HoldsStarts file.now N × (N ≤ 4864) }
+    ensures { WritesCount (file_tables.list_table id (length table.old) file.now) table.old result table.new }
+{
+    let mut index = [0u32; N];
+    list_table_in(id, &file[..], &mut index, table)
 }
 
 // The same, with an index of as many places as the file needs: clearing places costs more than reading a short list.
-fn list_table(id: u32, file: &[u8], table: &mut [u8]) -> Answer
+fn list_table(id: u32, file: &[u8], table: &mut [u8]) -> Result<usize, Fault>
     requires { (known id ≡ true) × ((v : ℕ) → body_of id v ≡ list (described (file_tables.table_in id v))) }
-    ensures { Writes (file_tables.list_table id (length table.old) file.now) table.old result table.new }
+    ensures { WritesCount (file_tables.list_table id (length table.old) file.now) table.old result table.new }
 {
+    if file.len() <= HEADER {
+        faults(file)?;
+        return Ok(0);
+    }
     match sections::places_for(&file[..], 64) {
-        Places::Few => {
-            let mut index = [0u32; 32];
-            list_table_in(id, &file[..], &mut index, table)
-        }
-        Places::Some => {
-            let mut index = [0u32; 256];
-            list_table_in(id, &file[..], &mut index, table)
-        }
-        Places::All => {
-            let mut index = [0u32; 4864];
-            list_table_in(id, &file[..], &mut index, table)
-        }
+        Places::Few => list_table_with::<32>(id, &file[..], table),
+        Places::Some => list_table_with::<256>(id, &file[..], table),
+        Places::All => list_table_with::<4864>(id, &file[..], table),
     }
 }
 
@@ -216,40 +184,28 @@ fn list_table(id: u32, file: &[u8], table: &mut [u8]) -> Answer
 pub fn devices(file: &[u8], table: &mut [u8]) -> Answer
     ensures { Writes (devices_call (length table.old) file.now) table.old result table.new }
 {
-    if file.len() <= HEADER {
-        return check(file);
-    }
-    list_table(DEVICES, file, table)
+    Answer::from(list_table(DEVICES, file, table))
 }
 
 // The table of disks in key order.
 pub fn disks(file: &[u8], table: &mut [u8]) -> Answer
     ensures { Writes (disks_call (length table.old) file.now) table.old result table.new }
 {
-    if file.len() <= HEADER {
-        return check(file);
-    }
-    list_table(DISKS, file, table)
+    Answer::from(list_table(DISKS, file, table))
 }
 
 // The table of CPUs in key order; empty where a file has one CPU in a section of its own.
 pub fn cpus(file: &[u8], table: &mut [u8]) -> Answer
     ensures { Writes (cpus_call (length table.old) file.now) table.old result table.new }
 {
-    if file.len() <= HEADER {
-        return check(file);
-    }
-    list_table(CPUS, file, table)
+    Answer::from(list_table(CPUS, file, table))
 }
 
 // The table of MMUs in key order; empty where a file has one MMU in a section of its own.
 pub fn mmus(file: &[u8], table: &mut [u8]) -> Answer
     ensures { Writes (mmus_call (length table.old) file.now) table.old result table.new }
 {
-    if file.len() <= HEADER {
-        return check(file);
-    }
-    list_table(MMUS, file, table)
+    Answer::from(list_table(MMUS, file, table))
 }
 
 // ---- META
@@ -293,30 +249,21 @@ fn silent(number: u32, place: u64) -> MetaFields
 fn follows(flag: u8) -> u32
     ensures { result ≡ cond (eqb flag 0) 0 1 }
 {
-    if flag == 0 {
-        return 0;
-    }
-    1
+    u32::from(flag != 0)
 }
 
 // A number that follows such a byte, or 0.
 fn following(flag: u8, n: u64) -> u64
     ensures { result ≡ cond (eqb flag 0) 0 n }
 {
-    if flag == 0 {
-        return 0;
-    }
-    n
+    if flag == 0 { 0 } else { n }
 }
 
 // Where the time stands.
 fn time_in(flag: u8) -> usize
     ensures { (result ≡ cond (eqb flag 0) 9 17) × (result ≤ 17) }
 {
-    if flag == 0 {
-        return 9;
-    }
-    17
+    if flag == 0 { 9 } else { 17 }
 }
 
 // What the payload of META says, which stands at a place of the file.
@@ -354,8 +301,8 @@ pub fn meta(file: &[u8]) -> MetaFields
 {
     let mut index = [0u32; 1];
     match sections::check_and_find(&file[..], META, &mut index[..0]) {
-        Spot::Fault(number, place) => silent(number, place as u64),
-        Spot::At(at, _) => {
+        Err(fault) => silent(u32::from(fault.0), fault.1 as u64),
+        Ok((at, _)) => {
             if file.len() <= at {
                 return silent(0, 0);
             }

@@ -1,4 +1,5 @@
 -- The scan finds bytes broken at a place exactly if that is the first place at which no text continues. Assumes nothing.
+use Rattle.std.proofs.Common.{Result, Ok, Err}
 use Prim.Native.Nat.{ℕ, suc, ◌+◌, ◌≤◌, ◌<◌}
 use mathlib.Core.Path.{◌≡◌, refl, sym, ◌∙◌}
 use mathlib.Core.List.{List, [], ◌∷◌, ◌++◌, append_assoc}
@@ -6,8 +7,6 @@ use native.Mathlib.Numerals.{add-one}
 use native.Mathlib.Omega.{arith}
 use lib.ListN.{length, take, drop, take-append-drop}
 use lib.Seq.{take-take}
-use Rattle.utf8.specs.declared.Found.{Found}
-use Rattle.utf8.specs.declared.Found.TheVariants.{Whole, Broken}
 use Rattle.utf8.specs.Grammar.{Range, Alternative, UTF8-char, InRange, Fits, done, byte, Text, none, Begins, Longest, Breaks}
 use Rattle.utf8.specs.Scan.{ToCome, Next, Stop, lookup, lead_of, after_of, onward, scan_from, scan}
 use Rattle.utf8.proofs.Table.{picked}
@@ -52,12 +51,12 @@ record Broke (rs : List Range) (i : ℕ) (s : List ℕ) (k : ℕ) : Type 0 where
   d : ℕ
   place : i + d ≡ k
   within : d ≤ length s
-  continues : (u : List ℕ) × (scan_from rs i (take d s ++ u) ≡ Whole)
-  stops : d < length s → (u : List ℕ) → scan_from rs i (take (suc d) s ++ u) ≡ Broken k
+  continues : (u : List ℕ) × (scan_from rs i (take d s ++ u) ≡ Ok tt)
+  stops : d < length s → (u : List ℕ) → scan_from rs i (take (suc d) s ++ u) ≡ Err k
 
 -- broken at i itself
-broke_here : (rs : List Range) (i k : ℕ) (s : List ℕ) → Filled rs → Broken i ≡ Broken k
-    → (0 < length s → (u : List ℕ) → scan_from rs i (take 1 s ++ u) ≡ Broken k) → Broke rs i s k
+broke_here : (rs : List Range) (i k : ℕ) (s : List ℕ) → Filled rs → ◌≡◌ {A = Result (Unit {0}) ℕ} (Err i) (Err k)
+    → (0 < length s → (u : List ℕ) → scan_from rs i (take 1 s ++ u) ≡ Err k) → Broke rs i s k
 broke_here rs i k s ok e h =
     let p : i ≡ k = cc in
     let r = fill rs ok in
@@ -71,9 +70,9 @@ broke_here rs i k s ok e h =
 
 -- one byte more, by what the scan says after it
 module _ (rs : List Range) (i k b : ℕ) (s : List ℕ) (ok : Filled rs)
-    (go : (l : List Range) → Filled l → scan_from l (suc i) s ≡ Broken k → Broke l (suc i) s k) where
+    (go : (l : List Range) → Filled l → scan_from l (suc i) s ≡ Err k → Broke l (suc i) s k) where
   broke_onward : (st : ToCome) → after_of rs b ≡ st → Open st
-      → onward st i (λ l. scan_from l (suc i) s) ≡ Broken k → Broke rs i (b ∷ s) k
+      → onward st i (λ l. scan_from l (suc i) s) ≡ Err k → Broke rs i (b ∷ s) k
   unfolding scan_from
   broke_onward Stop q o e = broke_here rs i k (b ∷ s) ok e (λ h u. rw q e)
   broke_onward (Next l) q o e =
@@ -86,13 +85,13 @@ module _ (rs : List Range) (i k b : ℕ) (s : List ℕ) (ok : Filled rs)
         stops = λ h u. rw q (p.stops (omega arith) u);
       }
 
-broke : (s : List ℕ) (rs : List Range) (i k : ℕ) → Filled rs → scan_from rs i s ≡ Broken k → Broke rs i s k
+broke : (s : List ℕ) (rs : List Range) (i k : ℕ) → Filled rs → scan_from rs i s ≡ Err k → Broke rs i s k
 unfolding scan_from
 broke [] [] i k ok e = absurd (never e)
 broke [] (r ∷ rs) i k ok e = broke_here (r ∷ rs) i k [] ok e (λ h. absurd (omega arith))
 broke (b ∷ s) rs i k ok e = broke_onward rs i k b s ok (λ l o. broke s l (suc i) k o) (after_of rs b) refl (opens rs b ok) e
 
-not_text : (s : List ℕ) (k : ℕ) → scan s ≡ Broken k → Text s → ⊥
+not_text : (s : List ℕ) (k : ℕ) → scan s ≡ Err k → Text s → ⊥
 not_text s k e t = never (sym (text-whole t) ∙ e)
 
 -- ---- there is one such place, so the scan finds it
@@ -118,7 +117,7 @@ longest_stops {s} {k} l h g = omega (arith, l.longest (k + 1) (omega arith) g)
 pub longest_once : {s : List ℕ} {j k : ℕ} → Longest s j → Longest s k → j ≡ k
 longest_once {s} {j} {k} a b = omega (arith, a.longest k b.within b.continues, b.longest j a.within a.continues)
 
-pub broken_breaks : (s : List ℕ) (k : ℕ) → scan s ≡ Broken k → Breaks s k
+pub broken_breaks : (s : List ℕ) (k : ℕ) → scan s ≡ Err k → Breaks s k
 unfolding scan
 broken_breaks s k e =
     let p = broke s [] 0 k tt e in
@@ -130,12 +129,12 @@ broken_breaks s k e =
           (λ h g. not_text _ k (rw add-one (p.stops h g.rest)) g.text);
     }
 
-pub broken_within : (s : List ℕ) (k : ℕ) → scan s ≡ Broken k → k ≤ length s
+pub broken_within : (s : List ℕ) (k : ℕ) → scan s ≡ Err k → k ≤ length s
 broken_within s k e = (broken_breaks s k e).prefix.within
 
-pub breaks_broken : {s : List ℕ} {k : ℕ} → Breaks s k → scan s ≡ Broken k
+pub breaks_broken : {s : List ℕ} {k : ℕ} → Breaks s k → scan s ≡ Err k
 breaks_broken {s} {k} a = go (scan s) refl
   where
-    go : (r : Found) → scan s ≡ r → r ≡ Broken k
-    go Whole e = absurd (a.wrong (whole-text s e))
-    go (Broken j) e = rw (longest_once (broken_breaks s j e).prefix a.prefix)
+    go : (r : Result (Unit {0}) ℕ) → scan s ≡ r → r ≡ Err k
+    go (Ok tt) e = absurd (a.wrong (whole-text s e))
+    go (Err j) e = rw (longest_once (broken_breaks s j e).prefix a.prefix)

@@ -1,4 +1,5 @@
 -- The scan at a place of the whole list: one byte, a run of plain bytes, the end. What the loops of the code go by. Assumes nothing.
+use Rattle.std.proofs.Common.{Result, Ok, Err}
 use Prim.Native.Nat.{ℕ, zero, suc, ◌+◌, ◌-◌, ◌≤◌, ◌<◌}
 use mathlib.Core.Path.{◌≡◌, refl, sym, ◌∙◌, ap}
 use mathlib.Core.List.{List, [], ◌∷◌, ◌++◌, append-nil}
@@ -7,13 +8,10 @@ use native.Mathlib.Numerals.{add-one}
 use native.Mathlib.Nat.{add-zero}
 use native.Mathlib.Omega.{arith}
 use lib.Dec.{ltb}
-use lib.ListN.{length, get_or, take, drop, length-drop, drop_of_length-le, take-append-drop, get_or-eq_default}
-use lib.Seq.{drop-cons, drop-drop, length-take-le}
+use lib.ListN.{length, get_or, take, drop, length-drop, length-append, drop_of_length-le, take-append-drop, get_or-eq_default}
+use lib.Seq.{drop-cons, drop-drop, length-take-le, take-append_seam, drop-append_seam}
 use borrow.Author.Count.{below_more}
 use borrow.Author.Tests.{ltb-true, ltb-false}
-use Rattle.utf8.specs.declared.Found.TheVariants.{Whole, Broken}
-use Rattle.utf8.specs.declared.Reach.{Reach}
-use Rattle.utf8.specs.declared.Reach.TheVariants.{Ends, Breaks}
 use Rattle.utf8.specs.Grammar.{Range, ◌⋯◌, tails, InRange}
 use Rattle.utf8.specs.Scan.{Next, Stop, lead_of, after_of, onward, ended_at, scan_from, scan}
 use Rattle.utf8.specs.Steps.{AtMost, scan_at, Passes, Reaches, ends, breaks}
@@ -57,13 +55,13 @@ module _ (s : List ℕ) (i : ℕ) (h : i < length s) where
   unfolding after_of
   first_next rs e = rw (turn s i [] h, e)
 
-  first_stop : lead_of (get_or s i 0) ≡ Stop → scan_at s i [] ≡ Broken i
+  first_stop : lead_of (get_or s i 0) ≡ Stop → scan_at s i [] ≡ Err i
   unfolding after_of
   first_stop e = rw (turn s i [] h, e)
 
 -- a byte that is to come
 module _ (s : List ℕ) (i : ℕ) (r : Range) (rs : List Range) where
-  pub next_missing : length s ≤ i → scan_at s i (r ∷ rs) ≡ Broken i
+  pub next_missing : length s ≤ i → scan_at s i (r ∷ rs) ≡ Err i
   next_missing h = at_end s i (r ∷ rs) h
 
   module _ (h : i < length s) where
@@ -71,7 +69,7 @@ module _ (s : List ℕ) (i : ℕ) (r : Range) (rs : List Range) where
     unfolding after_of
     next_in k = rw (turn s i (r ∷ rs) h, in_among k)
 
-    pub next_out : (r.from ≤ get_or s i 0 → r.to < get_or s i 0) → scan_at s i (r ∷ rs) ≡ Broken i
+    pub next_out : (r.from ≤ get_or s i 0 → r.to < get_or s i 0) → scan_at s i (r ∷ rs) ≡ Err i
     unfolding after_of
     next_out k = rw (turn s i (r ∷ rs) h, out_among r.from r.to (get_or s i 0) k)
 
@@ -82,43 +80,41 @@ pub record Came (s : List ℕ) (i n at left : ℕ) : Type 0 where
   pub same : scan_at s i (tails n) ≡ scan_at s at (tails left)
 
 module _ {s : List ℕ} {i n at : ℕ} where
-  pub came_whole : {left : ℕ} → Came s i n at left → left ≡ 0 → Reaches s i (tails n) i (Ends at)
+  pub came_whole : {left : ℕ} → Came s i n at left → left ≡ 0 → Reaches s i (tails n) i (Ok at)
   came_whole c e =
       ends (record { after = c.after; within = c.within; same = c.same ∙ ap (λ (m : ℕ). scan_at s at (tails m)) e }) c.after
 
-  pub came_end : {left : ℕ} → Came s i n at left → 0 < left → length s ≤ at → Reaches s i (tails n) i (Breaks at)
+  pub came_end : {left : ℕ} → Came s i n at left → 0 < left → length s ≤ at → Reaches s i (tails n) i (Err at)
   came_end {left = zero} c e h = absurd (omega arith)
   came_end {left = suc m} c e h = breaks (c.same ∙ next_missing s at (0x80 ⋯ 0xBF) (tails m) h)
 
   pub came_out : {left : ℕ} → Came s i n at left → 0 < left → at < length s → (0x80 ≤ get_or s at 0 → 0xBF < get_or s at 0)
-      → Reaches s i (tails n) i (Breaks at)
+      → Reaches s i (tails n) i (Err at)
   came_out {left = zero} c e h o = absurd (omega arith)
   came_out {left = suc m} c e h o = breaks (c.same ∙ next_out s at (0x80 ⋯ 0xBF) (tails m) h o)
 
-  pub came_in : {left : ℕ} → Came s i n at left → 0 < left → at < length s → InRange 0x80 0xBF (get_or s at 0) → Came s i n (at + 1) (left - 1)
-  came_in {left = zero} c e h o = absurd (omega arith)
-  came_in {left = suc m} c e h o =
-      let q : m ≡ suc m - 1 = omega arith in
+  pub came_in : {left less : ℕ} → Came s i n at left → left ≡ suc less → at < length s → InRange 0x80 0xBF (get_or s at 0) → Came s i n (at + 1) less
+  came_in {less = m} c e h o =
       record {
         after = omega (arith, c.after);
         within = omega arith;
-        same = c.same ∙ next_in s at (0x80 ⋯ 0xBF) (tails m) h o ∙ ap (λ (k : ℕ). scan_at s (at + 1) (tails k)) q;
+        same = c.same ∙ ap (λ (k : ℕ). scan_at s at (tails k)) e ∙ next_in s at (0x80 ⋯ 0xBF) (tails m) h o;
       }
 
 -- ---- a byte of a range, and what is to come behind it
 module _ {s : List ℕ} {i : ℕ} where
   -- what is reached from the next byte on is reached from here, if the scan goes on there
-  pub reaches_on : {rs rs' : List Range} {least : ℕ} {r : Reach} → scan_at s i rs ≡ scan_at s (i + 1) rs' → least ≤ i + 1
+  pub reaches_on : {rs rs' : List Range} {least : ℕ} {r : Result ℕ ℕ} → scan_at s i rs ≡ scan_at s (i + 1) rs' → least ≤ i + 1
       → Reaches s (i + 1) rs' (i + 1) r → Reaches s i rs least r
   reaches_on e k (ends {j = j} p h) = ends {j = j} (record { after = omega (arith, p.after); within = p.within; same = e ∙ p.same }) (omega (arith, h))
   reaches_on e k (breaks q) = breaks (e ∙ q)
 
   -- the first byte of a character begins an alternative
-  pub begins : (rs : List Range) {r : Reach} → i < length s → lead_of (get_or s i 0) ≡ Next rs → Reaches s (i + 1) rs (i + 1) r → Reaches s i [] (i + 1) r
+  pub begins : (rs : List Range) {r : Result ℕ ℕ} → i < length s → lead_of (get_or s i 0) ≡ Next rs → Reaches s (i + 1) rs (i + 1) r → Reaches s i [] (i + 1) r
   begins rs h e q = reaches_on (first_next s i h rs e) (omega arith) q
 
   -- or none
-  pub begins_none : i < length s → lead_of (get_or s i 0) ≡ Stop → Reaches s i [] (i + 1) (Breaks i)
+  pub begins_none : i < length s → lead_of (get_or s i 0) ≡ Stop → Reaches s i [] (i + 1) (Err i)
   begins_none h e = breaks (first_stop s i h e)
 
 -- ---- the loop over the characters
@@ -132,11 +128,11 @@ module _ {s : List ℕ} where
   pub passes_first : {i j : ℕ} → i < length s → lead_of (get_or s i 0) ≡ Next [] → Passes s (i + 1) [] j → Passes s i [] j
   passes_first {i} h e p = record { after = omega (arith, p.after); within = p.within; same = first_next s i h [] e ∙ p.same }
 
-  pub reaches_ends : {i least j : ℕ} {rs : List Range} {r : Reach} → Reaches s i rs least r → r ≡ Ends j → Passes s i rs j × (least ≤ j)
+  pub reaches_ends : {i least j : ℕ} {rs : List Range} {r : Result ℕ ℕ} → Reaches s i rs least r → r ≡ Ok j → Passes s i rs j × (least ≤ j)
   reaches_ends {j = x} (ends {j = y} p h) e = let q : y ≡ x = cc in (rw q at p, omega (arith, h))
   reaches_ends (breaks q) e = absurd (let z : ◌≡◌ {A = ℕ} 0 1 = cc in omega arith)
 
-  pub reaches_breaks : {i least k : ℕ} {rs : List Range} {r : Reach} → Reaches s i rs least r → r ≡ Breaks k → scan_at s i rs ≡ Broken k
+  pub reaches_breaks : {i least k : ℕ} {rs : List Range} {r : Result ℕ ℕ} → Reaches s i rs least r → r ≡ Err k → scan_at s i rs ≡ Err k
   reaches_breaks (ends p h) e = absurd (let z : ◌≡◌ {A = ℕ} 0 1 = cc in omega arith)
   reaches_breaks {k = x} (breaks {k = y} q) e = let w : y ≡ x = cc in rw w at q
 
@@ -145,10 +141,10 @@ module _ {s : List ℕ} where
     unfolding scan
     scan-at = p.same
 
-    pub octets_whole : length s ≤ i → Whole ≡ scan s
+    pub octets_whole : length s ≤ i → (Ok tt) ≡ scan s
     octets_whole h = sym (scan-at ∙ at_end s i [] h)
 
-    pub octets_broken : {k : ℕ} → scan_at s i [] ≡ Broken k → Broken k ≡ scan s
+    pub octets_broken : {k : ℕ} → scan_at s i [] ≡ Err k → Err k ≡ scan s
     octets_broken b = sym (scan-at ∙ b)
 
 -- ---- a run of ASCII
@@ -170,6 +166,16 @@ run_passes s i j top a z h m =
       same = rw (take-append-drop, length-take-le (j - i) (drop i s) l, drop-drop, q) at e;
     }
 
-pub run_whole : (s : List ℕ) (top : ℕ) → top < 0x80 → AtMost s top → scan s ≡ Whole
+-- a block of a run, as `chunks_exact` gives it
+pub block_passes : (s p u : List ℕ) (at top : ℕ) → at ≤ length s → drop at s ≡ p ++ u → length p ≡ 32 → top < 0x80 → AtMost p top
+    → (u ≡ drop (at + 32) s) × Passes s at [] (at + 32)
+block_passes s p u at top h e l t m =
+    let n : 32 ≤ length s - at = omega (arith, ap length e, length-append p u, length-drop at s) in
+    let q : at + 32 - at ≡ 32 = omega arith in
+    let b : take 32 (drop at s) ≡ p = rw (e, ← l) (take-append_seam p u) in
+    let d : drop 32 (drop at s) ≡ u = rw (e, ← l) (drop-append_seam p u) in
+    (sym d ∙ drop-drop 32 at s, run_passes s at (at + 32) top (omega arith) (omega arith) t (rw (q, b) m))
+
+pub run_whole : (s : List ℕ) (top : ℕ) → top < 0x80 → AtMost s top → scan s ≡ (Ok tt)
 unfolding scan scan_from
 run_whole s top h m = rw (append-nil s) at (run s [] 0 top h m)

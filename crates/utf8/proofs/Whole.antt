@@ -4,7 +4,7 @@ use mathlib.Core.Path.{◌≡◌, refl, sym}
 use mathlib.Core.Logic.{inl, inr}
 use mathlib.Core.List.{List, [], ◌∷◌, ◌++◌}
 use native.Mathlib.Omega.{arith}
-use Rattle.utf8.specs.declared.Found.TheVariants.{Whole, Broken}
+use Rattle.std.proofs.Common.{Result, Ok, Err}
 use Rattle.utf8.specs.Grammar.{Range, Alternative, UTF8-char, InRange, Fits, done, byte, OneOf, Char, Text, none, more}
 use Rattle.utf8.specs.Scan.{ToCome, Next, Stop, lookup, lead_of, after_of, onward, scan_from, scan}
 use Rattle.utf8.proofs.Table.{in_among, out_among, picked}
@@ -46,7 +46,7 @@ led_char : {c : List ℕ} → Char c → Led 0 UTF8-char c
 led_char {c} o = led 0 UTF8-char c (omega arith) o
 
 -- ---- whole, so made by the grammar
-pub never : {k : ℕ} → Whole ≡ Broken k → ⊥
+pub never : {k : ℕ} → ◌≡◌ {A = Result (Unit {0}) ℕ} (Ok tt) (Err k) → ⊥
 never e = let z : ◌≡◌ {A = ℕ} 0 1 = cc in omega arith
 
 -- the bytes of a character that are to come, and a text behind them
@@ -76,13 +76,13 @@ module _ (b : ℕ) (s : List ℕ) where
   grows [] = first (lookup UTF8-char b) (makes UTF8-char b)
   grows (r ∷ rs) = picked r.from r.to b (Grows (r ∷ rs)) grown tt
 
-  whole-onward : (rs : List Range) (i : ℕ) (go : (l : List Range) → scan_from l (suc i) s ≡ Whole → Goes l s) (st : ToCome) → Grows rs st
-      → onward st i (λ l. scan_from l (suc i) s) ≡ Whole → Goes rs (b ∷ s)
+  whole-onward : (rs : List Range) (i : ℕ) (go : (l : List Range) → scan_from l (suc i) s ≡ Ok tt → Goes l s) (st : ToCome) → Grows rs st
+      → onward st i (λ l. scan_from l (suc i) s) ≡ Ok tt → Goes rs (b ∷ s)
   unfolding Grows
   whole-onward rs i go (Next l) g e = g (go l e)
   whole-onward rs i go Stop g e = absurd (never (sym e))
 
-whole-goes : (s : List ℕ) (rs : List Range) (i : ℕ) → scan_from rs i s ≡ Whole → Goes rs s
+whole-goes : (s : List ℕ) (rs : List Range) (i : ℕ) → scan_from rs i s ≡ Ok tt → Goes rs s
 unfolding scan_from
 whole-goes [] [] i e = goes done none
 whole-goes [] (r ∷ rs) i e = absurd (never (sym e))
@@ -91,16 +91,16 @@ whole-goes (b ∷ s) rs i e = whole-onward b s rs i (λ l. whole-goes s l (suc i
 goes-text : {s : List ℕ} → Goes [] s → Text s
 goes-text (goes done t) = t
 
-pub whole-text : (s : List ℕ) → scan s ≡ Whole → Text s
+pub whole-text : (s : List ℕ) → scan s ≡ Ok tt → Text s
 unfolding scan
 whole-text s e = goes-text (whole-goes s [] 0 e)
 
 -- ---- made by the grammar, so whole
 -- the scan finds u whole from anywhere where a character begins
 abbrev pub Passed : List ℕ → Type 0
-Passed u = (i : ℕ) → scan_from [] i u ≡ Whole
+Passed u = (i : ℕ) → scan_from [] i u ≡ Ok tt
 
-pub rest-whole : {rs : List Range} {t : List ℕ} (u : List ℕ) → Fits rs t → Passed u → (i : ℕ) → scan_from rs i (t ++ u) ≡ Whole
+pub rest-whole : {rs : List Range} {t : List ℕ} (u : List ℕ) → Fits rs t → Passed u → (i : ℕ) → scan_from rs i (t ++ u) ≡ Ok tt
 unfolding scan_from after_of
 rest-whole u done k i = k i
 rest-whole u (byte h r) k i = rw (in_among h) (rest-whole u r k (suc i))
@@ -110,9 +110,9 @@ unfolding scan_from after_of lead_of
 text_passed none i = refl
 text_passed (more {t = u} c t) i = go (led_char c) (λ j. text_passed t j)
   where
-    go : {c : List ℕ} → Led 0 UTF8-char c → Passed u → scan_from [] i (c ++ u) ≡ Whole
+    go : {c : List ℕ} → Led 0 UTF8-char c → Passed u → scan_from [] i (c ++ u) ≡ Ok tt
     go (leads _ q r) k = rw q (rest-whole u r k (suc i))
 
-pub text-whole : {s : List ℕ} → Text s → scan s ≡ Whole
+pub text-whole : {s : List ℕ} → Text s → scan s ≡ Ok tt
 unfolding scan
 text-whole t = text_passed t 0

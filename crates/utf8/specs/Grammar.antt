@@ -1,10 +1,8 @@
 -- UTF-8 as the grammar of RFC 3629, section 4: each line of the RFC is a definition under its name, and each alternative is one row,
 -- in the RFC's order; and the place at which bytes cease to follow it. Assumes nothing.
-use Rattle.std.specs.Prelude.{ℕ, zero, suc, ◌≤◌, ◌⊎◌, List, [], ◌∷◌, ◌++◌, length, take}
+use Rattle.std.specs.Prelude.{Result, Ok, Err, ℕ, zero, suc, ◌≤◌, ◌⊎◌, List, [], ◌∷◌, ◌++◌, length, take}
 use Rattle.answer.specs.Numbers.{TEXT}
 use Rattle.answer.specs.Outcome.{Outcome, taken, refused}
-use Rattle.utf8.specs.declared.Found.{Found}
-use Rattle.utf8.specs.declared.Found.TheVariants.{Whole, Broken}
 
 -- ---- the RFC's table
 -- %xFROM-TO
@@ -113,9 +111,9 @@ pub record Breaks (s : List ℕ) (k : ℕ) : Type 0 where
 
 -- ---- answers
 -- Document 01's number and place for each answer: a text is taken, another is TEXT.
-abbrev pub text_of : Found → Outcome (Unit {0})
-text_of Whole = taken tt
-text_of (Broken k) = refused TEXT k
+abbrev pub text_of : Result (Unit {0}) ℕ → Outcome (Unit {0})
+text_of (Ok _) = taken tt
+text_of (Err k) = refused TEXT k
 
 -- The right answer for s: taken if it is a text, else TEXT where it breaks.
 pub data Reads (s : List ℕ) : Outcome (Unit {0}) → Type 0 where

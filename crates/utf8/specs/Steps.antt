@@ -1,9 +1,5 @@
 -- For contracts of private functions: what they promise each other. Assumes nothing.
-use Rattle.std.specs.Prelude.{ℕ, ◌≤◌, ◌≡◌, List, [], length, drop, get_or}
-use Rattle.utf8.specs.declared.Found.{Found}
-use Rattle.utf8.specs.declared.Found.TheVariants.{Broken}
-use Rattle.utf8.specs.declared.Reach.{Reach}
-use Rattle.utf8.specs.declared.Reach.TheVariants.{Ends, Breaks}
+use Rattle.std.specs.Prelude.{Result, Ok, Err, ℕ, ◌≤◌, ◌≡◌, List, [], length, drop, get_or}
 use Rattle.utf8.specs.Grammar.{Range}
 use Rattle.utf8.specs.Scan.{scan_from}
 
@@ -12,7 +8,7 @@ abbrev pub AtMost : List ℕ → ℕ → Type 0
 AtMost s top = (k : ℕ) → get_or s k 0 ≤ top
 
 -- The scan of s from place i on, where bytes of these ranges are to come.
-abbrev pub scan_at : List ℕ → ℕ → List Range → Found
+abbrev pub scan_at : List ℕ → ℕ → List Range → Result (Unit {0}) ℕ
 scan_at s i rs = scan_from rs i (drop i s)
 
 -- It changes nothing if that scan goes on at place j, where a character begins.
@@ -22,6 +18,6 @@ pub record Passes (s : List ℕ) (i : ℕ) (rs : List Range) (j : ℕ) : Type 0 
   pub same : scan_at s i rs ≡ scan_at s j []
 
 -- The bytes that are to come at place i are all there and end at a place not before `least`, or the text breaks among them.
-pub data Reaches (s : List ℕ) (i : ℕ) (rs : List Range) (least : ℕ) : Reach → Type 0 where
-  ends : {j : ℕ} → Passes s i rs j → least ≤ j → Reaches s i rs least (Ends j)
-  breaks : {k : ℕ} → scan_at s i rs ≡ Broken k → Reaches s i rs least (Breaks k)
+pub data Reaches (s : List ℕ) (i : ℕ) (rs : List Range) (least : ℕ) : Result ℕ ℕ → Type 0 where
+  ends : {j : ℕ} → Passes s i rs j → least ≤ j → Reaches s i rs least (Ok j)
+  breaks : {k : ℕ} → scan_at s i rs ≡ Err k → Reaches s i rs least (Err k)

@@ -7,43 +7,15 @@ ghost use Rattle.utf8.specs.Grammar.{◌⋯◌, tails as tailsOf, text_of, Reads
 ghost use Rattle.utf8.specs.Scan.{scan, is_text};
 ghost use Rattle.utf8.specs.Steps.{AtMost, Passes, Reaches};
 
-// A text; or the first place at which none continues, which is the length where the last character is cut short.
-#[derive(Clone, Copy)]
-pub enum Found {
-    Whole,
-    Broken(usize),
-}
-
-// The bytes of a character that are to come: where they end, or where they break.
-#[derive(Clone, Copy)]
-enum Reach {
-    Ends(usize),
-    Breaks(usize),
-}
-
 // The highest byte. The loop has no other way out, so that it compiles to vector instructions.
 fn highest(s: &[u8]) -> u8
     ensures { AtMost s.now result }
 {
-    let mut top: u8 = 0;
-    let mut i = 0;
-    while i < s.len() {
-        let b = s[i];
-        if top < b {
-            top = b;
-        }
-        i += 1;
+    let mut top = 0;
+    for &b in s {
+        top = b.max(top);
     }
     top
-}
-
-fn higher(a: u8, b: u8) -> u8
-    ensures { (a ≤ result) × (b ≤ result) }
-{
-    if a < b {
-        return b;
-    }
-    a
 }
 
 // The highest byte of a text of any length: whole blocks, and the last bytes once more as a block of their own, so that no loop goes byte by byte but for the shortest.
@@ -55,57 +27,40 @@ fn peak(s: &[u8]) -> u8
         return highest(s);
     }
     if n < 32 {
-        return higher(highest(&s[..16]), highest(&s[n - 16..]));
+        return highest(&s[..16]).max(highest(&s[n - 16..]));
     }
     let m = n - n % 32;
-    higher(highest(&s[..m]), highest(&s[n - 32..]))
+    highest(&s[..m]).max(highest(&s[n - 32..]))
 }
 
 // n( UTF8-tail ) from i on.
-fn tails(s: &[u8], i: usize, n: usize) -> Reach
+fn tails(s: &[u8], i: usize, n: usize) -> Result<usize, usize>
     requires { i ≤ length s.now }
     ensures { Reaches s.now i (tailsOf n) i result }
 {
     let mut at = i;
-    let mut left = n;
-    while 0 < left {
-        if s.len() <= at {
-            return Reach::Breaks(at);
+    for _ in 0..n {
+        match s.get(at) {
+            Some(&b) if 0x80 <= b && b <= 0xBF => at += 1,
+            _ => return Err(at),
         }
-        let b = s[at];
-        if b < 0x80 {
-            return Reach::Breaks(at);
-        }
-        if 0xBF < b {
-            return Reach::Breaks(at);
-        }
-        left -= 1;
-        at += 1;
     }
-    Reach::Ends(at)
+    Ok(at)
 }
 
 // %xLO-HI n( UTF8-tail ) from i on.
-fn then(s: &[u8], i: usize, lo: u8, hi: u8, n: usize) -> Reach
+fn then(s: &[u8], i: usize, lo: u8, hi: u8, n: usize) -> Result<usize, usize>
     requires { i ≤ length s.now }
     ensures { Reaches s.now i (lo ⋯ hi ∷ tailsOf n) i result }
 {
-    if s.len() <= i {
-        return Reach::Breaks(i);
+    match s.get(i) {
+        Some(&b) if lo <= b && b <= hi => tails(s, i + 1, n),
+        _ => Err(i),
     }
-    let b = s[i];
-    if b < lo {
-        return Reach::Breaks(i);
-    }
-    if hi < b {
-        return Reach::Breaks(i);
-    }
-    let next = i + 1;
-    tails(s, next, n)
 }
 
 // UTF8-char = UTF8-1 / UTF8-2 / UTF8-3 / UTF8-4: the character at i, each alternative of RFC 3629, section 4, as one case in the RFC's order.
-fn utf8_char(s: &[u8], i: usize) -> Reach
+fn utf8_char(s: &[u8], i: usize) -> Result<usize, usize>
     requires { i < length s.now }
     ensures { Reaches s.now i [] (i + 1) result }
 {
@@ -113,7 +68,7 @@ fn utf8_char(s: &[u8], i: usize) -> Reach
     let b = s[i];
     match b {
         // UTF8-1 = %x00-7F
-        0x00..=0x7F => Reach::Ends(next),
+        0x00..=0x7F => Ok(next),
 
         // UTF8-2 = %xC2-DF UTF8-tail
         0xC2..=0xDF => tails(s, next, 1),
@@ -131,7 +86,7 @@ fn utf8_char(s: &[u8], i: usize) -> Reach
         0xF1..=0xF3 => tails(s, next, 3),
         0xF4 => then(s, next, 0x80, 0x8F, 2),
 
-        _ => Reach::Breaks(i),
+        _ => Err(i),
     }
 }
 
@@ -141,12 +96,11 @@ fn blocks(s: &[u8], i: usize) -> usize
     ensures { Passes s.now i [] result }
 {
     let mut at = i;
-    while 32 <= s.len() - at {
-        let end = at + 32;
-        if 0x80 <= highest(&s[at..end]) {
+    for block in s[i..].chunks_exact(32) {
+        if 0x80 <= highest(block) {
             return at;
         }
-        at = end;
+        at += 32;
     }
     at
 }
@@ -156,18 +110,17 @@ fn ascii(s: &[u8], i: usize) -> usize
     requires { i ≤ length s.now }
     ensures { Passes s.now i [] result }
 {
-    let mut at = blocks(s, i);
-    while at < s.len() {
+    let start = blocks(s, i);
+    for at in start..s.len() {
         if 0x80 <= s[at] {
             return at;
         }
-        at += 1;
     }
-    at
+    s.len()
 }
 
-// UTF8-octets = *( UTF8-char ): character by character, but for runs of ASCII.
-fn utf8_octets(s: &[u8]) -> Found
+// UTF8-octets = *( UTF8-char ): character by character, but for runs of ASCII. No `for`, since the place goes on by what was read.
+fn utf8_octets(s: &[u8]) -> Result<(), usize>
     ensures { result ≡ scan s.now }
 {
     let mut i = 0;
@@ -175,32 +128,25 @@ fn utf8_octets(s: &[u8]) -> Found
         if s[i] < 0x80 {
             i = ascii(s, i + 1);
         } else {
-            match utf8_char(s, i) {
-                Reach::Ends(j) => {
-                    i = j;
-                }
-                Reach::Breaks(k) => {
-                    return Found::Broken(k);
-                }
-            }
+            i = utf8_char(s, i)?;
         }
     }
-    Found::Whole
+    Ok(())
 }
 
 // The fast path for a text that is all ASCII: it changes nothing, as the scan finds such a text whole.
 fn all_ascii(s: &[u8]) -> bool
-    ensures { result ≡ true → scan s.now ≡ Found.Whole }
+    ensures { result ≡ true → scan s.now ≡ Ok tt }
 {
     peak(s) < 0x80
 }
 
 // Whether s is a text, and if not, where it breaks.
-pub fn text(s: &[u8]) -> Found
+pub fn text(s: &[u8]) -> Result<(), usize>
     ensures { Reads s.now (text_of result) }
 {
     if all_ascii(&s[..]) {
-        return Found::Whole;
+        return Ok(());
     }
     utf8_octets(&s[..])
 }
@@ -209,8 +155,5 @@ pub fn text(s: &[u8]) -> Found
 pub fn is_text(s: &[u8]) -> bool
     ensures { result ≡ is_text s.now }
 {
-    match text(s) {
-        Found::Whole => true,
-        Found::Broken(_) => false,
-    }
+    text(s).is_ok()
 }

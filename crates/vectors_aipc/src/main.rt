@@ -3,82 +3,52 @@
 // A line `w` is an answer of `write`; any other line is a reading: number, place, tag, the four numbers, start and length of the data.
 #![tactic(auto)]
 
-use aipc::{Message, Reading};
-use answer::Answer;
-use kinds::Cell;
+ghost use Rattle.std.specs.Prelude.{◌≤◌};
+
+use aipc::{Content, Message, Reading};
+use answer::{Answer, Fault, Refusal};
 use std::io;
 
-fn end_line(rt: &impl Print) -> io::Result<()> {
-    println!(rt; "")
-}
-
-fn number(rt: &impl Print, x: u64) -> io::Result<()> {
-    print!(rt; " {x}")
-}
-
-fn cell(rt: &impl Print, c: Cell) -> io::Result<()> {
-    number(rt, c.1)
-}
-
-fn show(rt: &impl Print, r: Reading) -> io::Result<()> {
-    let first = r.number;
-    print!(rt; "{first}")?;
-    number(rt, r.place)?;
-    let message = r.message;
-    let f = kinds::form_of(message);
-    number(rt, f.tag as u64)?;
-    let a = f.a;
-    let b = f.b;
-    let c = f.c;
-    let d = f.d;
-    cell(rt, a)?;
-    cell(rt, b)?;
-    cell(rt, c)?;
-    cell(rt, d)?;
-    number(rt, r.start)?;
-    number(rt, r.len)?;
-    end_line(rt)
+fn show(rt: &impl Print, r: Result<Content, Fault>) -> io::Result<()> {
+    let r = Reading::from(r);
+    let f = kinds::form_of(r.message);
+    print!(rt; "{} {} {}", r.number, r.place, f.tag)?;
+    for c in f.cells() {
+        print!(rt; " {}", c.1)?;
+    }
+    println!(rt; " {} {}", r.start, r.len)
 }
 
 fn show_written(rt: &impl Print, a: Answer) -> io::Result<()> {
-    print!(rt; "w")?;
-    number(rt, a.number as u64)?;
-    number(rt, a.place)?;
-    end_line(rt)
+    println!(rt; "w {} {}", a.number, a.place)
 }
 
 // The first n bytes of b as they are, one fewer, and one more.
 fn lengths(rt: &impl Print, b: &[u8], n: usize) -> io::Result<()> {
-    if 0 < n {
-        if n < b.len() {
-            show(rt, aipc::read(&b[..n]))?;
-            show(rt, aipc::read(&b[..n - 1]))?;
-            show(rt, aipc::read(&b[..n + 1]))?;
-        }
+    if 0 < n && n < b.len() {
+        show(rt, aipc::read(&b[..n]))?;
+        show(rt, aipc::read(&b[..n - 1]))?;
+        show(rt, aipc::read(&b[..n + 1]))?;
     }
     Ok(())
 }
 
 // The first n bytes of b with the one at i changed.
 fn change(rt: &impl Print, b: &mut [u8], n: usize, i: usize, by: u8) -> io::Result<()> {
-    if n <= b.len() {
-        if i < n {
-            let was = b[i];
-            b[i] = was.wrapping_add(by);
-            show(rt, aipc::read(&b[..n]))?;
-            b[i] = was;
-        }
+    if n <= b.len() && i < n {
+        let was = b[i];
+        b[i] = was.wrapping_add(by);
+        show(rt, aipc::read(&b[..n]))?;
+        b[i] = was;
     }
     Ok(())
 }
 
 // Each of the first n bytes of b one more, and one less.
 fn changes(rt: &impl Print, b: &mut [u8], n: usize) -> io::Result<()> {
-    let mut i = 0;
-    while i < n {
+    for i in 0..n {
         change(rt, b, n, i, 1)?;
         change(rt, b, n, i, 255)?;
-        i += 1;
     }
     Ok(())
 }
@@ -86,23 +56,22 @@ fn changes(rt: &impl Print, b: &mut [u8], n: usize) -> io::Result<()> {
 // The message of a tag whose bytes are all s.
 fn filled(tag: u16, s: u8) -> Message {
     let mut b = [s; 34];
-    b[0] = (tag % 256) as u8;
-    b[1] = (tag / 256) as u8;
+    b[..2].copy_from_slice(&tag.to_le_bytes());
     messages::said(&b)
 }
 
 // A message with the first n bytes of a text as its data: written, and what was written read.
-fn trial(rt: &impl Print, message: Message, n: usize) -> io::Result<()> {
+fn trial(rt: &impl Print, message: Message, n: usize) -> io::Result<()>
+    requires { n ≤ 3 }
+{
     let text = [0x7F, 0xC3, 0xA9];
     let mut out = [0u8; 64];
-    if n <= 3 {
-        let a = aipc::write(message, &text[..n], &mut out);
-        show_written(rt, a)?;
-        if a.number == 0 {
-            let long = a.place as usize;
-            lengths(rt, &out, long)?;
-            changes(rt, &mut out, long)?;
-        }
+    let a = aipc::write(message, &text[..n], &mut out);
+    show_written(rt, a)?;
+    if a.number == 0 {
+        let long = a.place as usize;
+        lengths(rt, &out, long)?;
+        changes(rt, &mut out, long)?;
     }
     Ok(())
 }
@@ -115,33 +84,21 @@ fn kind(rt: &impl Print, tag: u16) -> io::Result<()> {
 }
 
 // Whether two bytes that say the tag are refused as an unknown one.
-fn unknown(tag: u16) -> bool {
-    let mut b = [0u8; 2];
-    b[0] = (tag % 256) as u8;
-    b[1] = (tag / 256) as u8;
-    aipc::read(&b).number == answer::TAG
-}
-
-fn count(rt: &impl Print, n: u64) -> io::Result<()> {
-    print!(rt; "unknown")?;
-    number(rt, n)?;
-    end_line(rt)
+fn is_unknown(tag: u16) -> bool {
+    matches!(aipc::read(&tag.to_le_bytes()), Err(Fault(Refusal::Tag, _)))
 }
 
 // Every tag: those of the table are run, the others counted.
 fn tags(rt: &impl Print) -> io::Result<()> {
-    let mut n: u64 = 0;
-    let mut t: u32 = 0;
-    while t < 65536 {
-        let tag = t as u16;
-        if unknown(tag) {
-            n += 1;
+    let mut unknown: u64 = 0;
+    for tag in 0..=u16::MAX {
+        if is_unknown(tag) {
+            unknown += 1;
         } else {
             kind(rt, tag)?;
         }
-        t += 1;
     }
-    count(rt, n)
+    println!(rt; "unknown {unknown}")
 }
 
 // The longest message, and one byte more.
@@ -164,10 +121,8 @@ fn longest(rt: &impl Print) -> io::Result<()> {
 // A text, cut at each length.
 fn cuts(rt: &impl Print) -> io::Result<()> {
     let b = [0x00, 0x14, 0x02, 0x02, 0x00, 0x00, 0x00, 0xC3, 0xA9];
-    let mut n = 0;
-    while n <= 9 {
+    for n in 0..=b.len() {
         show(rt, aipc::read(&b[..n]))?;
-        n += 1;
     }
     Ok(())
 }

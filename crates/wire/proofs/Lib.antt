@@ -1,4 +1,3 @@
-pub mod Differences
 pub mod Numbers
 pub mod Parts
 pub mod Filling

@@ -9,7 +9,13 @@ use native.Mathlib.Omega.{arith}
 use lib.Arith.{mod-mul, digits_div, digits_mod}
 use lib.Dec.{lit<}
 use lib.ListN.{length, take, drop, get_or, length-drop, length-take, drop_of_length-le, get_or-eq_default}
-use lib.Seq.{take-add, take_at, take_all, drop-drop, drop-append-le, take-append-le, length-take-le, get_or-take, get_or-drop, drop-cons, take-nil}
+use lib.Seq.{take-add, take-suc, take_at, take_all, drop-drop, drop-append-le, take-append-le, length-take-le, get_or-take, get_or-drop, drop-cons, take-nil}
+use Rattle.std.specs.Prelude.{Option, None, Some, MatchOption}
+use Rattle.std.specs.Option.{option_copied}
+use Rattle.std.specs.Array.{IsFirstChunk}
+use Rattle.std.proofs.Common.{Bor}
+use Rattle.std.specs.Int.{byte_at, byte_worth, bytes_low_first, sum_through}
+use Rattle.std.specs.Prelude.{slice_index}
 use Rattle.wire.specs.Numbers.{Bytes, le, le_at, bytes_of}
 
 -- ---- where a number stands
@@ -205,3 +211,37 @@ cut_done s at i h k l = go (dec_lt at (length s))
     go : Dec (at < length s) → le_at 8 s i ≡ le_at 8 s at
     go (yes m) = ap (le_at 8 s) (omega arith)
     go (no m) = le_at_past 8 s i (omega arith) ∙ sym (le_at_past 8 s at (omega arith))
+
+-- ---- the library's numbers and bytes
+
+-- a number by what each byte is worth, as `from_le_bytes` adds them up
+front : (k : ℕ) (l : List ℕ) → k < length l → sum_through (λ i. byte_worth i (slice_index l i)) k ≡ le (take (suc k) l)
+unfolding le
+front zero l h = sym (le_at-one l 0) ∙ le_at-zero 1 l
+front (suc k) l h =
+    let n : length (take (suc k) l) ≡ suc k = length-take-le (suc k) l (omega arith) in
+    rw (take-suc l (suc k) 0 h, le-append, n, front k l (omega arith)) (omega arith)
+
+pub le-sum : (k : ℕ) (l : List ℕ) → length l ≡ suc k → sum_through (λ i. byte_worth i (slice_index l i)) k ≡ le l
+le-sum k l h = front k l (omega arith) ∙ ap le (take_all (suc k) l (omega arith))
+
+-- the bytes of a number, as `to_le_bytes` lists them
+byte_there : (i x : ℕ) → byte_at i x ≡ x / 256 ^ i % 256
+byte_there zero x = rw div-one
+byte_there (suc i) x = refl
+
+low : (i k x : ℕ) → bytes_low_first i k x ≡ bytes_of k (x / 256 ^ i)
+unfolding bytes_of
+low i zero x = refl
+low i (suc k) x = rw (byte_there i x, low (suc i) k x, div-div-eq-div-mul, pow-suc)
+
+pub bytes_of-low : (k x : ℕ) → bytes_low_first 0 k x ≡ bytes_of k x
+bytes_of-low k x = low 0 k x ∙ ap (bytes_of k) (div-one x)
+
+-- ---- the first n bytes of a tail, as they are lent where there are as many
+
+pub whole : {t : List ℕ} (r : Option (Bor (List ℕ))) (n : ℕ) (s : List ℕ) (at : ℕ) → at ≤ length s → t ≡ drop at s → MatchOption r (length t < n) (λ y. IsFirstChunk t y.now n)
+    → MatchOption (option_copied r) (length s < at + n) (λ w. (le w ≡ le_at n s at) × (length w ≡ n))
+unfolding le_at
+whole {t} None n s at h e c = omega (arith, ap length e, length-drop at s)
+whole {t} (Some y) n s at h e c = (ap le (c.same ∙ ap (take n) e), ap length c.same ∙ length-take-le n t c.enough)

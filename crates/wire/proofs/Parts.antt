@@ -3,17 +3,17 @@
 use mathlib.Core.Path.{◌≡◌, refl, sym, ◌∙◌, ap}
 use mathlib.Core.Bool.{Bool, true, false, cond}
 use mathlib.Core.List.{List, [], ◌∷◌, ◌++◌, append_assoc, append-nil}
-use Prim.Native.Nat.{ℕ, suc, ◌+◌, ◌-◌, ◌/◌, ◌%◌, ◌^◌, ◌≤◌, ◌<◌}
+use Prim.Native.Nat.{ℕ, suc, ◌+◌, ◌-◌, ◌%◌, ◌^◌, ◌≤◌, ◌<◌}
 use native.Mathlib.Nat.{add-suc, le_refl}
 use native.Mathlib.Numerals.{add-one}
 use native.Mathlib.Omega.{arith}
 use lib.Dec.{leb}
 use borrow.Author.Tests.{le-leb, lt-leb, leb-true, leb-false}
-use lib.ListN.{length, take, drop, set, length-take, length-append, length-drop, take-append-drop, drop_of_length-le}
-use lib.Seq.{sets, sets-eq, paste, take-length, length-take-le, take-add, take_all, take-append_seam, drop-append_seam, drop-append-add, drop-drop, drop_at}
+use lib.ListN.{length, take, drop, set, length-append, length-drop, take-append-drop, drop_of_length-le}
+use lib.Seq.{sets, sets-eq, paste, take-length, length-take-le, take_all, take-append_seam, drop-append_seam, drop-append-add, drop-drop, drop_at}
 use Rattle.wire.specs.Numbers.{le_at, bytes_of}
 use Rattle.wire.specs.Parts.{splice, put, Wrote}
-use Rattle.wire.proofs.Numbers.{length-bytes_of, bytes_of-halves, le_at-bytes_of, le_at_here}
+use Rattle.wire.proofs.Numbers.{le_at-bytes_of, le_at_here}
 
 -- ---- splice
 
@@ -27,6 +27,13 @@ unfolding splice
 le_at-splice n x at old h k =
     let l : length (take at old) ≡ at = length-take-le at old (omega arith) in
     sym (le_at_here n (splice at (bytes_of n x) old) at) ∙ rw (append_assoc, drop_at (take at old) (bytes_of n x ++ drop (at + length (bytes_of n x)) old) at l) (le_at-bytes_of n x (drop (at + length (bytes_of n x)) old) k)
+
+-- a part that is lent and comes back as bs
+pub splice_part : (at : ℕ) (bs old : List ℕ) → take at old ++ (bs ++ drop (at + length bs - at) (drop at old)) ≡ splice at bs old
+unfolding splice
+splice_part at bs old =
+    let e : at + (at + length bs - at) ≡ at + length bs = omega arith in
+    rw (drop-drop, e, append_assoc)
 
 -- ---- stores
 
@@ -50,10 +57,10 @@ pub stored_one : (x : ℕ) (l : List ℕ) (at : ℕ) → x < 256 → at + 1 ≤ 
 unfolding bytes_of
 stored_one x l at h k = let e : x % 256 ≡ x = omega arith in rw e (stored x [] l at (omega arith))
 
--- a copy that a loop has brought to its end, of s or of a list that starts as s does
-pub pasted : (d : List ℕ) (at : ℕ) (s t : List ℕ) (n : ℕ) → n ≡ length s → take n t ≡ take n s → paste d at t n ≡ splice at s d
+-- a copy that a loop has brought to its end
+pub pasted : (d : List ℕ) (at : ℕ) (s : List ℕ) (n : ℕ) → n ≡ length s → paste d at s n ≡ splice at s d
 unfolding splice
-pasted d at s t n e h = rw (h, e, take-length)
+pasted d at s n e = rw (e, take-length)
 
 -- ---- put: a splice, or nothing
 
@@ -88,10 +95,6 @@ none old = record { count = refl; bytes = refl }
 -- the tail of a list, as it is lent and as it comes back
 pub tail_whole : (at : ℕ) (l : List ℕ) → take (length l - at) (drop at l) ≡ drop at l
 tail_whole at l = take_all (length l - at) (drop at l) (rw length-drop (le_refl _))
-
--- where it starts past the end, it is empty
-pub tail_past : (at : ℕ) (l : List ℕ) → length l < at → take (length l - length l) (drop (length l) l) ≡ drop at l
-tail_past at l h = tail_whole (length l) l ∙ drop_of_length-le l {i = length l} (le_refl _) ∙ sym (drop_of_length-le l {i = at} (omega arith))
 
 tail_none : (at : ℕ) (l : List ℕ) → drop (length l - at) (drop at l) ≡ []
 tail_none at l = drop_of_length-le (drop at l) {i = length l - at} (rw length-drop (le_refl _))
@@ -133,13 +136,6 @@ wrote_start {bs} {old} so h =
 
 -- ---- a part by part copy
 
-start : (l bs : List ℕ) (at n : ℕ) → at ≤ length l → length bs ≡ n → Wrote (take at l ++ bs) l (splice at bs l) (at + n)
-unfolding splice
-start l bs at n h e = record {
-  count = simp (length-append, length-take-le at l h) (omega arith);
-  bytes = rw (length-append, length-take-le at l h);
-}
-
 -- a splice is what was before the place, and the bytes, written over the start
 pub as_splice : (old bs new : List ℕ) (at n : ℕ) → at ≤ length old → Wrote (take at old ++ bs) old new n → new ≡ splice at bs old
 unfolding splice
@@ -151,22 +147,3 @@ no_part old at h = record {
   count = simp (append-nil, length-take-le at old h) (omega arith);
   bytes = simp (append-nil, length-take-le at old h, take-append-drop);
 }
-
--- the part of s from i to e follows the one before it
-pub next_part : {old l new : List ℕ} (s : List ℕ) (at i e : ℕ) → i ≤ e → e ≤ length s → Wrote (take at old ++ take i s) old l (at + i)
-    → new ≡ splice (at + i) (take (e - i) (drop i s)) l → Wrote (take at old ++ take e s) old new (at + e)
-next_part s at i e h k so q =
-    let g : i + (e - i) ≡ e = omega arith in
-    let split : take i s ++ take (e - i) (drop i s) ≡ take e s = rw (← take-add, g) in
-    let w = rw (append_assoc, split) at (wrote_splice so (take (e - i) (drop i s)) q) in
-    let n : length (take (e - i) (drop i s)) ≡ e - i = simp (length-take, length-drop) (omega arith) in
-    record { count = omega (arith, w.count); bytes = w.bytes }
-
--- ---- a number by its lower and its upper bytes
-
-pub splice-halves : (n m x : ℕ) (l : List ℕ) (at : ℕ) → at ≤ length l
-    → splice (at + n) (bytes_of m (x / 256 ^ n)) (splice at (bytes_of n (x % 256 ^ n)) l) ≡ splice at (bytes_of (n + m) x) l
-splice-halves n m x l at h =
-    let a : List ℕ = bytes_of n (x % 256 ^ n) in
-    let so : Wrote (take at l ++ a) l (splice at a l) (at + n) = start l a at n h (length-bytes_of n (x % 256 ^ n)) in
-    as_splice l (bytes_of (n + m) x) _ at _ h (rw (append_assoc, bytes_of-halves) at (wrote_splice so (bytes_of m (x / 256 ^ n)) refl))

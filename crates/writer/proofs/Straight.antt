@@ -3,12 +3,13 @@
 use mathlib.Core.Path.{◌≡◌, refl, sym, ◌∙◌, ap}
 use mathlib.Core.Bool.{Bool, true, false, false≢true, ◌&&◌}
 use mathlib.Core.List.{List, [], ◌∷◌, ◌++◌, map}
-use Prim.Native.Nat.{ℕ, ◌+◌, ◌≤◌, ◌<◌}
+use Prim.Native.Nat.{ℕ, zero, suc, ◌+◌, ◌≤◌, ◌<◌}
 use native.Mathlib.Numerals.{add-one}
 use native.Mathlib.Omega.{arith}
+use Rattle.std.specs.Bool.{MatchBool}
+use Rattle.std.specs.List.Sorted.{IsNonDecreasing}
 use lib.Dec.{leb}
-use lib.ListN.{length, drop, get_or, drop_of_length-le}
-use lib.Seq.{drop-cons}
+use lib.ListN.{length, get_or}
 use borrow.Author.Tests.{leb-true, le-leb, lt-leb}
 use Rattle.wire.specs.Numbers.{Bytes}
 use Rattle.order.specs.Keyed.{Apart, sort}
@@ -27,21 +28,25 @@ use Rattle.writer.specs.Runs.{in_order_from, in_key_order}
 use Rattle.writer.specs.Steps.{Listed, sorted_bytes}
 use Rattle.writer.proofs.Runs.{entry_from}
 
--- ---- the test, start by start: what is left of it from the start with the number i on
+-- ---- the test, as the library makes it
 
-module _ (l : List ℕ) (i last : ℕ) (b : Bool) (v : b ≡ in_order_from last (drop i l)) where
-  module _ (h : i < length l) where
-    next : b ≡ (leb last (get_or l i 0) && in_order_from (get_or l i 0) (drop (i + 1) l))
-    next = v ∙ rw (drop-cons l i 0 h, add-one i)
+rising : (n : ℕ) (l : List ℕ) → ((k : ℕ) → suc k < length l → get_or l k 0 ≤ get_or l (suc k) 0) → (0 < length l → n ≤ get_or l 0 0) → in_order_from n l ≡ true
+rising n [] h b = refl
+rising n (y ∷ l) h b = rw (le-leb n y (b (omega arith))) (rising y l (λ k g. h (suc k) (omega arith)) (λ g. h 0 (omega arith)))
 
-    pub order_next : last ≤ get_or l i 0 → b ≡ in_order_from (get_or l i 0) (drop (i + 1) l)
-    order_next k = next ∙ rw (le-leb last (get_or l i 0) k)
+and-false : (b : Bool) → (b && false) ≡ false
+and-false true = refl
+and-false false = refl
 
-    pub order_stop : get_or l i 0 < last → b ≡ false
-    order_stop k = next ∙ rw (lt-leb last (get_or l i 0) k)
+falling : (n k : ℕ) (l : List ℕ) → suc k < length l → get_or l (suc k) 0 < get_or l k 0 → in_order_from n l ≡ false
+falling n k [] h g = absurd (omega arith)
+falling n zero (x ∷ []) h g = absurd (omega arith)
+falling n zero (x ∷ y ∷ l) h g = rw (lt-leb x y g) (and-false (leb n x))
+falling n (suc k) (x ∷ l) h g = rw (falling x k l (omega arith) g) (and-false (leb n x))
 
-  pub order_end : length l ≤ i → b ≡ true
-  order_end h = v ∙ ap (in_order_from last) (drop_of_length-le l h)
+pub order_sorted : (l : List ℕ) (r : Bool) → MatchBool r (IsNonDecreasing l) ((k : ℕ) × (k + 1 < length l) × ((d : ℕ) → get_or l (k + 1) d < get_or l k d)) → r ≡ in_key_order l
+order_sorted l true h = sym (rising 0 l (λ k g. h k (suc k) 0 (omega arith) g) (λ g. omega arith))
+order_sorted l false h = sym (falling 0 h.0 l (omega (arith, h.1)) (rw add-one at (h.2 0)))
 
 up_from : (n : ℕ) (l : List ℕ) → in_order_from n l ≡ true → Up (λ y. y) n l
 up_from n [] h = tt

@@ -27,15 +27,12 @@ pub fn put_run(kind: Kind, s: &[u8], starts: &[u32], out: &mut [u8]) -> usize
     ensures { Wrote (join (fits (length out.old) (map (entry_by (describe kind) s.now) starts.now))) out.old out.new result }
 {
     let mut at = 0;
-    let mut i = 0;
-    while i < starts.len() {
-        let y = starts[i] as usize;
-        let n = put_entry(kind, &s[..], y, &mut out[at..]);
+    for y in starts {
+        let n = put_entry(kind, &s[..], *y as usize, &mut out[at..]);
         if out.len() - at < n {
             return at;
         }
         at += n;
-        i += 1;
     }
     at
 }
@@ -46,17 +43,7 @@ pub fn put_run(kind: Kind, s: &[u8], starts: &[u32], out: &mut [u8]) -> usize
 pub fn in_order(starts: &[u32]) -> bool
     ensures { result ≡ in_key_order starts.now }
 {
-    let mut last = 0;
-    let mut i = 0;
-    while i < starts.len() {
-        let y = starts[i];
-        if y < last {
-            return false;
-        }
-        last = y;
-        i += 1;
-    }
-    true
+    starts.is_sorted()
 }
 
 // The list s over as many bytes, its entries in the order of `starts`: its count, the entries, and behind them what is left of s, which is its tail.

@@ -1,30 +1,17 @@
-use Rattle.aipc.proofs.Puts.{put-none}
-use borrow.Author.Tests.{eq-eqb, ne_eqb}
+use Rattle.std.proofs.Common.{rules}
+use mathlib.Core.Path.{sym, ◌∙◌}
+use Rattle.aipc.proofs.Puts.{put-none, put_low}
+use Rattle.aipc.proofs.Walks.{width_none}
 use Rattle.aipc.proofs.put_field.Goals as goal
 
-pub returns-in-Absent : goal.returns-in-Absent
-returns-in-Absent c = rw c.in-Absent.is (put-none _ _ _)
+pub returns-in-1 : goal.returns-in-1
+returns-in-1 c = let a = c.args in put_low a.at 1 a.c.1 a.out.now (sym c.in-1.is ∙ c.width.ensures.0) c.put_u8.ensures
 
-pub returns-in-U8 : goal.returns-in-U8
-returns-in-U8 c = rw c.in-U8.is c.put8.ensures
+pub returns-in-2 : goal.returns-in-2
+returns-in-2 c = let a = c.args in put_low a.at 2 a.c.1 a.out.now (sym c.in-2.is ∙ c.width.ensures.0) c.put_u16.ensures
 
-pub returns-in-U16 : goal.returns-in-U16
-returns-in-U16 c = rw c.in-U16.is c.put16.ensures
+pub returns-in-4 : goal.returns-in-4
+returns-in-4 c = let a = c.args in put_low a.at 4 a.c.1 a.out.now (sym c.in-4.is ∙ c.width.ensures.0) c.put_u32.ensures
 
-pub returns-in-U32 : goal.returns-in-U32
-returns-in-U32 c = rw c.in-U32.is c.put32.ensures
-
-pub returns-in-U64 : goal.returns-in-U64
-returns-in-U64 c = rw c.in-U64.is c.put_u64.ensures
-
-pub returns-in-Flag : goal.returns-in-Flag
-returns-in-Flag c = rw c.in-Flag.is c.put8-in-Flag.ensures
-
-pub returns-in-Level : goal.returns-in-Level
-returns-in-Level c = rw c.in-Level.is c.put8-in-Level.ensures
-
-pub returns-then-ok-eq0 : goal.returns-then-ok-eq0
-returns-then-ok-eq0 c = rw (c.in-Error.is, eq-eqb _ _ c.if-ok-eq0.true) c.put32-then-ok-eq0.ensures
-
-pub returns-else-ok-eq0 : goal.returns-else-ok-eq0
-returns-else-ok-eq0 c = rw (c.in-Error.is, ne_eqb _ _ c.if-ok-eq0.false) (put-none _ _ _)
+pub returns-in_default : goal.returns-in_default
+returns-in_default c = let a = c.args in let e = c.width.ensures.0 in rw (width_none a.ok a.c.0 (search rules) (search rules) (search rules) (search rules)) (put-none _ _ _)

@@ -10,7 +10,7 @@ returns-then-in_order c =
     let bytes : Bytes c.args.s.now = λ i. (c.type_inv.s i).fits in
     straight_done (lawful Controllers) c.requires.0 (sym c.in_order.ensures ∙ c.if-in_order.true) (bytes) c.requires.1 c.copy.ensures
 
-pub returns : goal.returns
-returns c =
+pub returns-else-in_order : goal.returns-else-in_order
+returns-else-in_order c =
     let bytes : Bytes c.args.s.now = λ i. (c.type_inv.s i).fits in
     by_starts-done (lawful Controllers) c.requires.0 (bytes) c.requires.1 c.put_by_starts.ensures

@@ -14,14 +14,11 @@ slice_bounds-ask_row-end c = omega (arith, c.loop-i-test.true)
 pub ask_row-requires : goal.ask_row-requires
 ask_row-requires c = c.loop-i.invariant.modest
 
-pub returns-in-Stop : goal.returns-in-Stop
-returns-in-Stop c = asking_stop _ _ _ _ _ _ _ c.loop-i.invariant c.loop-i-test.true (λ j. omega (arith, c.type_inv.table j)) c.requires.2 c.is_known-known.ensures _ c.ask_row.ensures c.in-Stop.is
-
-pub overflow_add-i : goal.overflow_add-i
-overflow_add-i c = omega (arith, c.loop-i.invariant.modest.few)
+pub returns-in-Err : goal.returns-in-Err
+returns-in-Err c = asking_stop _ _ _ _ _ _ _ c.loop-i.invariant c.loop-i-test.true (λ j. omega (arith, c.type_inv.table j)) c.requires.2 c.is_known-known.ensures _ c.ask_row.ensures c.in-Err.is
 
 pub loop-i-preserved : goal.loop-i-preserved
-loop-i-preserved c = asking_next _ _ _ _ _ _ _ c.loop-i.invariant c.loop-i-test.true (λ j. omega (arith, c.type_inv.table j)) c.requires.2 c.is_known-known.ensures _ c.ask_row.ensures c.in-Ends.is
+loop-i-preserved c = asking_next _ _ _ _ _ _ _ c.loop-i.invariant c.loop-i-test.true (λ j. omega (arith, c.type_inv.table j)) c.requires.2 c.is_known-known.ensures _ c.ask_row.ensures c.in-Ok.is
 
 pub returns : goal.returns
 returns c = asking_done _ _ _ _ _ _ _ c.loop-i.invariant c.loop-i-test.false

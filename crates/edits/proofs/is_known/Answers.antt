@@ -11,8 +11,8 @@ returns-then-i-r c = rw (eq-eqb _ _ c.if-i-r.true)
 pub returns-then-site : goal.returns-then-site
 returns-then-site c = known-none c.requires.1 c.if-i-r.false c.if-site.true (key_at devices c.args.table.now (24 * c.args.i))
 
-pub returns-in-There : goal.returns-in-There
-returns-in-There c = known-there c.requires.1 c.if-i-r.false c.key_at-k.ensures c.find_ordered.ensures c.in-There.is
+pub returns-in-Ok : goal.returns-in-Ok
+returns-in-Ok c = known-there c.requires.1 c.if-i-r.false c.key_at-k.ensures c.find_ordered.ensures c.in-Ok.is
 
-pub returns-in-Free : goal.returns-in-Free
-returns-in-Free c = known_free c.requires.1 c.if-i-r.false c.key_at-k.ensures (old_asc _ c.requires.0) c.find_ordered.ensures c.in-Free.is
+pub returns-in-Err : goal.returns-in-Err
+returns-in-Err c = known_free c.requires.1 c.if-i-r.false c.key_at-k.ensures (old_asc _ c.requires.0) c.find_ordered.ensures c.in-Err.is

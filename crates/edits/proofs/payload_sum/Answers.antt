@@ -3,17 +3,14 @@ use Rattle.edits.proofs.Summing.{summing_start, summing_fits, summing_next, summ
 use native.Mathlib.Omega.{arith}
 use Rattle.edits.proofs.payload_sum.Goals as goal
 
-pub loop-i-init : goal.loop-i-init
-loop-i-init c = summing_start c.requires
-
-pub overflow_cast-at : goal.overflow_cast-at
-overflow_cast-at c = omega (arith, c.type_inv.starts c.loop-i.i)
+pub loop-start-init : goal.loop-start-init
+loop-start-init c = summing_start c.requires
 
 pub overflow_add-n : goal.overflow_add-n
 overflow_add-n c = search (rules, summing_fits)
 
-pub loop-i-preserved : goal.loop-i-preserved
-loop-i-preserved c = search (rules, summing_next)
+pub loop-start-preserved : goal.loop-start-preserved
+loop-start-preserved c = search (rules, summing_next)
 
 pub returns : goal.returns
-returns c = summing_done c.loop-i.invariant c.loop-i-test.false
+returns c = summing_done c.loop-start.invariant c.loop-start-test.false

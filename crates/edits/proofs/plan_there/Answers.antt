@@ -1,89 +1,90 @@
 use Rattle.edits.proofs.Landing.{Landing, landing, fair, there-within, gone_within, there_lands, new_short, target-same, side_same, wants-same}
 use Rattle.edits.proofs.Plan.{planning_of, measured_of}
+use Rattle.edits.specs.declared.Edit.{Edit as Given}
+use Rattle.edits.specs.declared.Site.{Site}
 use Rattle.edits.specs.Edits.{edit_of}
-use Rattle.edits.specs.Cuts.{old_entries, site_bytes}
-use Rattle.edits.specs.Plans.{Planning}
+use Rattle.edits.specs.Cuts.{bare, side_for, own_rows, HoldsList, old_entries, site_bytes}
+use Rattle.answer.specs.Outcome.{Pass}
 use Rattle.writer.specs.Runs.{entry_by}
+use Rattle.sections.specs.Walks.{Read}
+use Rattle.aerosnap.specs.declared.Side.{Side}
 use Rattle.aerosnap.specs.Content.{kind_at}
 use Rattle.aerosnap.specs.Adding.{Name, side_of}
 use Rattle.aerosnap.specs.Edits.{Edit, target, wants, key_of}
 use Rattle.entries.specs.Kinds.{Description}
-use Rattle.lists.specs.declared.Found.TheVariants.{There}
+use Rattle.std.proofs.Common.{Ok}
 use Rattle.lists.specs.Promises.{find_in}
 use mathlib.Core.Bool.{true}
+use mathlib.Core.List.{List}
 use mathlib.Core.Path.{◌≡◌, sym, ◌∙◌, ap, subst}
-use Prim.Native.Nat.{◌+◌, ◌-◌, ◌≤◌}
+use Prim.Native.Nat.{ℕ, ◌+◌, ◌-◌, ◌≤◌, ◌<◌}
 use lib.ListN.{length, get_or}
 use native.Mathlib.Omega.{arith}
 use Rattle.edits.proofs.plan_there.Goals as goal
 
+-- an edit that wants the entry q of its list, where that stands
+module _ (edit : Given) (a b file index : List ℕ) (site : Site) (q : ℕ) (read : Read file) (pass : Pass (own_rows (edit_of edit a b))) (holds : HoldsList (side_for edit) file index site)
+    (is_wanted : wants (bare edit) ≡ true) (found : Ok q ≡ find_in (kind_at (side_for edit)).key (key_of (target (bare edit))) (old_entries (side_for edit) file)) where
+  abbrev e : Edit
+  e = edit_of edit a b
+
+  its : Landing e file index site
+  its = landing edit a b read pass holds
+
+  there : Ok q ≡ find_in (kind_at (side_of (target e))).key (key_of (target e)) (old_entries (side_of (target e)) file)
+  there = subst (λ (n : Name). Ok q ≡ find_in (kind_at (side_of n)).key (key_of n) (old_entries (side_of n) file)) (target-same edit a b) found
+
+  wanted : wants e ≡ true
+  wanted = sym (wants-same edit a b) ∙ is_wanted
+
+  within : q + 1 ≤ site.last - site.first
+  within = there-within its there wanted
+
+  inside : site.first + q < length index
+  inside = omega (arith, within, holds.lasts, holds.firsts)
+
+  -- how many bytes it has
+  gone : {d : Description} {side : Side} {n : ℕ} → d ≡ kind_at side → side ≡ side_for edit → n ≡ length (entry_by d (site_bytes file site) (get_or index (site.first + q) 0))
+      → n ≡ length (entry_by (kind_at (side_of (target e))) (site_bytes file site) (get_or index (site.first + q) 0))
+  gone k i h = h ∙ ap (λ (d : Description). length (entry_by d (site_bytes file site) (get_or index (site.first + q) 0))) (k ∙ ap kind_at (i ∙ side_same edit a b))
+
 pub overflow_add-low : goal.overflow_add-low
-overflow_add-low c =
-    let edit : Edit = let a = c.args in edit_of a.edit a.a.now a.b.now in
-    let its : Landing (edit) c.args.file.now c.args.index.now c.args.site = landing c.args.edit c.args.a.now c.args.b.now c.requires.whole_file.0.read c.requires.pass.0 c.requires.whole_file.1 in
-    let there : There c.args.q ≡ find_in (kind_at (side_of (target (edit)))).key (key_of (target (edit))) (old_entries (side_of (target (edit))) c.args.file.now) = subst (λ (n : Name). There c.args.q ≡ find_in (kind_at (side_of n)).key (key_of n) (old_entries (side_of n) c.args.file.now)) (target-same c.args.edit c.args.a.now c.args.b.now) c.requires.pass.2 in
-    let wanted : wants (edit) ≡ true = sym (wants-same c.args.edit c.args.a.now c.args.b.now) ∙ c.requires.pass.1 in
-    let within : c.args.q + 1 ≤ c.args.site.last - c.args.site.first = there-within (its) (there) (wanted) in
-    let inside : c.args.site.first + c.args.q + 1 ≤ length c.args.index.now = omega (arith, within, c.requires.whole_file.1.lasts, c.requires.whole_file.1.firsts) in
-    omega (arith, inside, c.ranges)
+overflow_add-low c = let a = c.args in let p = c.requires in
+    omega (arith, inside a.edit a.a.now a.b.now a.file.now a.index.now a.site a.q p.whole_file.0.read p.pass.0 p.whole_file.1 p.pass.1 p.pass.2, c.ranges)
 
 pub offset_bounds-index-low : goal.offset_bounds-index-low
-offset_bounds-index-low c =
-    let edit : Edit = let a = c.args in edit_of a.edit a.a.now a.b.now in
-    let its : Landing (edit) c.args.file.now c.args.index.now c.args.site = landing c.args.edit c.args.a.now c.args.b.now c.requires.whole_file.0.read c.requires.pass.0 c.requires.whole_file.1 in
-    let there : There c.args.q ≡ find_in (kind_at (side_of (target (edit)))).key (key_of (target (edit))) (old_entries (side_of (target (edit))) c.args.file.now) = subst (λ (n : Name). There c.args.q ≡ find_in (kind_at (side_of n)).key (key_of n) (old_entries (side_of n) c.args.file.now)) (target-same c.args.edit c.args.a.now c.args.b.now) c.requires.pass.2 in
-    let wanted : wants (edit) ≡ true = sym (wants-same c.args.edit c.args.a.now c.args.b.now) ∙ c.requires.pass.1 in
-    let within : c.args.q + 1 ≤ c.args.site.last - c.args.site.first = there-within (its) (there) (wanted) in
-    let inside : c.args.site.first + c.args.q + 1 ≤ length c.args.index.now = omega (arith, within, c.requires.whole_file.1.lasts, c.requires.whole_file.1.firsts) in
-    omega (arith, inside, c.ranges)
+offset_bounds-index-low c = let a = c.args in let p = c.requires in
+    omega (arith, inside a.edit a.a.now a.b.now a.file.now a.index.now a.site a.q p.whole_file.0.read p.pass.0 p.whole_file.1 p.pass.1 p.pass.2, c.ranges)
 
 pub bounds-index-low : goal.bounds-index-low
-bounds-index-low c =
-    let edit : Edit = let a = c.args in edit_of a.edit a.a.now a.b.now in
-    let its : Landing (edit) c.args.file.now c.args.index.now c.args.site = landing c.args.edit c.args.a.now c.args.b.now c.requires.whole_file.0.read c.requires.pass.0 c.requires.whole_file.1 in
-    let there : There c.args.q ≡ find_in (kind_at (side_of (target (edit)))).key (key_of (target (edit))) (old_entries (side_of (target (edit))) c.args.file.now) = subst (λ (n : Name). There c.args.q ≡ find_in (kind_at (side_of n)).key (key_of n) (old_entries (side_of n) c.args.file.now)) (target-same c.args.edit c.args.a.now c.args.b.now) c.requires.pass.2 in
-    let wanted : wants (edit) ≡ true = sym (wants-same c.args.edit c.args.a.now c.args.b.now) ∙ c.requires.pass.1 in
-    let within : c.args.q + 1 ≤ c.args.site.last - c.args.site.first = there-within (its) (there) (wanted) in
-    let inside : c.args.site.first + c.args.q + 1 ≤ length c.args.index.now = omega (arith, within, c.requires.whole_file.1.lasts, c.requires.whole_file.1.firsts) in
-    omega (arith, inside)
+bounds-index-low c = let a = c.args in let p = c.requires in
+    omega (arith, inside a.edit a.a.now a.b.now a.file.now a.index.now a.site a.q p.whole_file.0.read p.pass.0 p.whole_file.1 p.pass.1 p.pass.2)
 
 pub overflow_cast-index : goal.overflow_cast-index
 overflow_cast-index c = omega (arith, c.type_inv.index (c.args.site.first + c.args.q))
 
 pub cut_there-cut-requires : goal.cut_there-cut-requires
-cut_there-cut-requires c =
-    let edit : Edit = let a = c.args in edit_of a.edit a.a.now a.b.now in
-    let its : Landing (edit) c.args.file.now c.args.index.now c.args.site = landing c.args.edit c.args.a.now c.args.b.now c.requires.whole_file.0.read c.requires.pass.0 c.requires.whole_file.1 in
-    let there : There c.args.q ≡ find_in (kind_at (side_of (target (edit)))).key (key_of (target (edit))) (old_entries (side_of (target (edit))) c.args.file.now) = subst (λ (n : Name). There c.args.q ≡ find_in (kind_at (side_of n)).key (key_of n) (old_entries (side_of n) c.args.file.now)) (target-same c.args.edit c.args.a.now c.args.b.now) c.requires.pass.2 in
-    let wanted : wants (edit) ≡ true = sym (wants-same c.args.edit c.args.a.now c.args.b.now) ∙ c.requires.pass.1 in
-    let within : c.args.q + 1 ≤ c.args.site.last - c.args.site.first = there-within (its) (there) (wanted) in
-    let gone : let a = c.args in c.length_at-gone.result ≡ length (entry_by (kind_at (side_of (target (edit)))) (site_bytes a.file.now a.site) (get_or a.index.now (a.site.first + a.q) 0)) = let a = c.args in
-    let d = c.kind_at.ensures ∙ ap kind_at (c.side_of-side.ensures ∙ side_same a.edit a.a.now a.b.now) in
-    c.length_at-gone.ensures ∙ ap (λ (k : Description). length (entry_by k (site_bytes a.file.now a.site) (get_or a.index.now (a.site.first + a.q) 0))) d in
-    (fair (its) (c.args.q + 1) (within), omega (arith, c.entry_size.ensures, new_short (edit) c.requires.pass.0), gone_within (its) (there) (wanted) (gone))
+cut_there-cut-requires c = let a = c.args in let p = c.requires in
+    let its = its a.edit a.a.now a.b.now a.file.now a.index.now a.site a.q p.whole_file.0.read p.pass.0 p.whole_file.1 p.pass.1 p.pass.2 in
+    let there = there a.edit a.a.now a.b.now a.file.now a.index.now a.site a.q p.whole_file.0.read p.pass.0 p.whole_file.1 p.pass.1 p.pass.2 in
+    let wanted = wanted a.edit a.a.now a.b.now a.file.now a.index.now a.site a.q p.whole_file.0.read p.pass.0 p.whole_file.1 p.pass.1 p.pass.2 in
+    let within = within a.edit a.a.now a.b.now a.file.now a.index.now a.site a.q p.whole_file.0.read p.pass.0 p.whole_file.1 p.pass.1 p.pass.2 in
+    let gone = gone a.edit a.a.now a.b.now a.file.now a.index.now a.site a.q p.whole_file.0.read p.pass.0 p.whole_file.1 p.pass.1 p.pass.2 c.kind_at.ensures c.side_of-side.ensures c.length_at-gone.ensures in
+    (fair its (a.q + 1) within, omega (arith, c.entry_size.ensures, new_short (edit_of a.edit a.a.now a.b.now) p.pass.0), gone_within its there wanted gone)
 
 pub plan_at-requires : goal.plan_at-requires
-plan_at-requires c =
-    let edit : Edit = let a = c.args in edit_of a.edit a.a.now a.b.now in
-    let its : Landing (edit) c.args.file.now c.args.index.now c.args.site = landing c.args.edit c.args.a.now c.args.b.now c.requires.whole_file.0.read c.requires.pass.0 c.requires.whole_file.1 in
-    let there : There c.args.q ≡ find_in (kind_at (side_of (target (edit)))).key (key_of (target (edit))) (old_entries (side_of (target (edit))) c.args.file.now) = subst (λ (n : Name). There c.args.q ≡ find_in (kind_at (side_of n)).key (key_of n) (old_entries (side_of n) c.args.file.now)) (target-same c.args.edit c.args.a.now c.args.b.now) c.requires.pass.2 in
-    let wanted : wants (edit) ≡ true = sym (wants-same c.args.edit c.args.a.now c.args.b.now) ∙ c.requires.pass.1 in
-    let gone : let a = c.args in c.length_at-gone.result ≡ length (entry_by (kind_at (side_of (target (edit)))) (site_bytes a.file.now a.site) (get_or a.index.now (a.site.first + a.q) 0)) = let a = c.args in
-    let d = c.kind_at.ensures ∙ ap kind_at (c.side_of-side.ensures ∙ side_same a.edit a.a.now a.b.now) in
-    c.length_at-gone.ensures ∙ ap (λ (k : Description). length (entry_by k (site_bytes a.file.now a.site) (get_or a.index.now (a.site.first + a.q) 0))) d in
-    let planned : Planning (edit) c.side_of-side.result c.args.file.now c.args.index.now c.args.site c.cut_there-cut.result = let a = c.args in
-    planning_of a.edit a.a.now a.b.now c.side_of-side.ensures c.requires.pass.0 c.requires.whole_file.0 (there_lands (its) (there) (wanted) (gone) (rw c.entry_size.ensures at c.cut_there-cut.ensures)) in
-    ((planned).whole, measured_of (planned))
+plan_at-requires c = let a = c.args in let p = c.requires in
+    let its = its a.edit a.a.now a.b.now a.file.now a.index.now a.site a.q p.whole_file.0.read p.pass.0 p.whole_file.1 p.pass.1 p.pass.2 in
+    let there = there a.edit a.a.now a.b.now a.file.now a.index.now a.site a.q p.whole_file.0.read p.pass.0 p.whole_file.1 p.pass.1 p.pass.2 in
+    let wanted = wanted a.edit a.a.now a.b.now a.file.now a.index.now a.site a.q p.whole_file.0.read p.pass.0 p.whole_file.1 p.pass.1 p.pass.2 in
+    let gone = gone a.edit a.a.now a.b.now a.file.now a.index.now a.site a.q p.whole_file.0.read p.pass.0 p.whole_file.1 p.pass.1 p.pass.2 c.kind_at.ensures c.side_of-side.ensures c.length_at-gone.ensures in
+    let planned = planning_of a.edit a.a.now a.b.now c.side_of-side.ensures p.pass.0 p.whole_file.0 (there_lands its there wanted gone (rw c.entry_size.ensures at c.cut_there-cut.ensures)) in
+    (planned.whole, measured_of planned)
 
 pub returns : goal.returns
-returns c =
-    let edit : Edit = let a = c.args in edit_of a.edit a.a.now a.b.now in
-    let its : Landing (edit) c.args.file.now c.args.index.now c.args.site = landing c.args.edit c.args.a.now c.args.b.now c.requires.whole_file.0.read c.requires.pass.0 c.requires.whole_file.1 in
-    let there : There c.args.q ≡ find_in (kind_at (side_of (target (edit)))).key (key_of (target (edit))) (old_entries (side_of (target (edit))) c.args.file.now) = subst (λ (n : Name). There c.args.q ≡ find_in (kind_at (side_of n)).key (key_of n) (old_entries (side_of n) c.args.file.now)) (target-same c.args.edit c.args.a.now c.args.b.now) c.requires.pass.2 in
-    let wanted : wants (edit) ≡ true = sym (wants-same c.args.edit c.args.a.now c.args.b.now) ∙ c.requires.pass.1 in
-    let gone : let a = c.args in c.length_at-gone.result ≡ length (entry_by (kind_at (side_of (target (edit)))) (site_bytes a.file.now a.site) (get_or a.index.now (a.site.first + a.q) 0)) = let a = c.args in
-    let d = c.kind_at.ensures ∙ ap kind_at (c.side_of-side.ensures ∙ side_same a.edit a.a.now a.b.now) in
-    c.length_at-gone.ensures ∙ ap (λ (k : Description). length (entry_by k (site_bytes a.file.now a.site) (get_or a.index.now (a.site.first + a.q) 0))) d in
-    let planned : Planning (edit) c.side_of-side.result c.args.file.now c.args.index.now c.args.site c.cut_there-cut.result = let a = c.args in
-    planning_of a.edit a.a.now a.b.now c.side_of-side.ensures c.requires.pass.0 c.requires.whole_file.0 (there_lands (its) (there) (wanted) (gone) (rw c.entry_size.ensures at c.cut_there-cut.ensures)) in
-    c.plan_at.ensures (edit) (planned)
+returns c = let a = c.args in let p = c.requires in
+    let its = its a.edit a.a.now a.b.now a.file.now a.index.now a.site a.q p.whole_file.0.read p.pass.0 p.whole_file.1 p.pass.1 p.pass.2 in
+    let there = there a.edit a.a.now a.b.now a.file.now a.index.now a.site a.q p.whole_file.0.read p.pass.0 p.whole_file.1 p.pass.1 p.pass.2 in
+    let wanted = wanted a.edit a.a.now a.b.now a.file.now a.index.now a.site a.q p.whole_file.0.read p.pass.0 p.whole_file.1 p.pass.1 p.pass.2 in
+    let gone = gone a.edit a.a.now a.b.now a.file.now a.index.now a.site a.q p.whole_file.0.read p.pass.0 p.whole_file.1 p.pass.1 p.pass.2 c.kind_at.ensures c.side_of-side.ensures c.length_at-gone.ensures in
+    c.plan_at.ensures (edit_of a.edit a.a.now a.b.now) (planning_of a.edit a.a.now a.b.now c.side_of-side.ensures p.pass.0 p.whole_file.0 (there_lands its there wanted gone (rw c.entry_size.ensures at c.cut_there-cut.ensures)))

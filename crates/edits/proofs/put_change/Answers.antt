@@ -1,3 +1,4 @@
+use Rattle.answer.proofs.Outcomes.{handed_on}
 use Rattle.edits.proofs.Plan.{ready_is, ready_fills, ready_holds}
 use Rattle.edits.proofs.Carding.{ready_modest, ready_moves}
 use Rattle.cards.proofs.Answers.{beside_refused, beside_taken}
@@ -22,23 +23,21 @@ card_behind-requires c =
     let edit : Edit = let a = c.args in edit_of a.edit a.a.now a.b.now in
     ready_modest (c.requires)
 
-pub put_edited-requires : goal.put_edited-requires
-put_edited-requires c =
+pub put_edited-bytes-requires : goal.put_edited-bytes-requires
+put_edited-bytes-requires c =
     let edit : Edit = let a = c.args in edit_of a.edit a.a.now a.b.now in
     let same : side_for c.args.edit ≡ side_of (target (edit)) = side_same c.args.edit c.args.a.now c.args.b.now in
     let a = c.args in
     let z = c.requires in
     record { whole_file = (z.whole, rw (same) z.lands.cuts); pass = (z.own, subst (λ (i : Side). PayloadWith i a.file.now a.x.site a.x.cut (length (entry_for (edit)))) (sym (same)) (ready_fills z), subst (λ (i : Side). Holds (length a.out.now) (file_bytes i a.file.now a.x.site a.x.cut (entry_for (edit)))) (sym (same)) (ready_holds z)) }
 
-pub returns-in-Out : goal.returns-in-Out
-returns-in-Out c =
-    let edit : Edit = let a = c.args in edit_of a.edit a.a.now a.b.now in
-    let same : side_for c.args.edit ≡ side_of (target (edit)) = side_same c.args.edit c.args.a.now c.args.b.now in
-    beside_refused 0 (ready_moves (c.requires) c.args.card (c.side_of-side.ensures ∙ same) c.card_before.ensures c.card_behind.ensures c.move_by.ensures c.in-Out.is)
+pub returns-in_err-moved : goal.returns-in_err-moved
+returns-in_err-moved c = let a = c.args in
+    rw (handed_on _ (record { index = 0; fault = c.in_err-moved.field-0.0 }) c.from_residual.ensures.1)
+    (beside_refused 0 (ready_moves c.requires a.card (c.side_of-side.ensures ∙ side_same a.edit a.a.now a.b.now) c.card_before.ensures c.card_behind.ensures c.in_err-moved.ensures))
 
-pub returns-in-To : goal.returns-in-To
-returns-in-To c =
-    let edit : Edit = let a = c.args in edit_of a.edit a.a.now a.b.now in
-    let same : side_for c.args.edit ≡ side_of (target (edit)) = side_same c.args.edit c.args.a.now c.args.b.now in
-    beside_taken 0 (ready_moves (c.requires) c.args.card (c.side_of-side.ensures ∙ same) c.card_before.ensures c.card_behind.ensures c.move_by.ensures c.in-To.is)
-    (rw (ready_is (c.requires)) (rw (same) at c.put_edited.ensures))
+pub returns : goal.returns
+returns c = let a = c.args in
+    let same = side_same a.edit a.a.now a.b.now in
+    beside_taken 0 (ready_moves c.requires a.card (c.side_of-side.ensures ∙ same) c.card_before.ensures c.card_behind.ensures c.in_ok-moved.ensures)
+    (rw (ready_is c.requires) (rw same at c.put_edited-bytes.ensures))

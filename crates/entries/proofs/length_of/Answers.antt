@@ -1,15 +1,6 @@
 use Rattle.entries.proofs.Lengths.{block_length, one-length}
 use Rattle.entries.proofs.length_of.Goals as goal
 
-pub returns-in-Devices : goal.returns-in-Devices
-returns-in-Devices c = rw c.in-Devices.is c.device_reach.ensures
-
-pub returns-in-Disks : goal.returns-in-Disks
-returns-in-Disks c = rw c.in-Disks.is c.disk_reach.ensures
-
-pub returns-in-Cpus : goal.returns-in-Cpus
-returns-in-Cpus c = rw c.in-Cpus.is (c.cpu_reach.ensures c.in-Cpus.field-0)
-
 pub returns-in-Mmus : goal.returns-in-Mmus
 returns-in-Mmus c = rw c.in-Mmus.is (block_length c.args.b.now _ _ (rw c.mmu_length.ensures at c.reach.ensures))
 

@@ -2,13 +2,10 @@ use mathlib.Core.Path.{sym, ◌∙◌}
 use Prim.Native.Nat.{◌+◌}
 use native.Mathlib.Omega.{arith}
 use lib.ListN.{length}
-use borrow.Author.Tests.{leb-true, leb-false}
+use borrow.Author.Tests.{leb-false}
 use Rattle.format.specs.Format.{at_most, any}
 use Rattle.format.proofs.Exits.{sized_short}
 use Rattle.format.proofs.part_at.Goals as goal
-
-pub held_at-requires : goal.held_at-requires
-held_at-requires c = (leb-true _ _ (sym c.fits.ensures ∙ c.if-fits.true), c.u32_at.ensures)
 
 pub returns : goal.returns
 returns c = let a = c.args in sized_short a.s.now a.at 4 (at_most a.most) any (omega (arith, leb-false (a.at + 4) (length a.s.now) (sym c.fits.ensures ∙ c.if-fits.false)))

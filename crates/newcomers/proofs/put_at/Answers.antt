@@ -19,9 +19,8 @@ put_record-requires c = let a = c.args in let g = leb-true (a.i * 24 + 24) (leng
 
 pub returns-then-fits : goal.returns-then-fits
 unfolding record_put
-returns-then-fits c = let a = c.args in
-    (refl, put-at (a.i * 24) (record_of a.d) a.records.now (length_record a.d) (sym c.fits.ensures ∙ c.if-fits.true) c.put_record.ensures)
+returns-then-fits c = let a = c.args in put-at (a.i * 24) (record_of a.d) a.records.now (length_record a.d) (sym c.fits.ensures ∙ c.if-fits.true) c.put_record.ensures
 
-pub returns : goal.returns
+pub returns-else-fits : goal.returns-else-fits
 unfolding record_put
-returns c = let a = c.args in (refl, put_refused (a.i * 24) (record_of a.d) a.records.now (length_record a.d) (sym c.fits.ensures ∙ c.if-fits.false) refl)
+returns-else-fits c = let a = c.args in put_refused (a.i * 24) (record_of a.d) a.records.now (length_record a.d) (sym c.fits.ensures ∙ c.if-fits.false) refl

@@ -7,27 +7,18 @@ use lib.ListN.{length, drop}
 use native.Mathlib.Omega.{arith}
 use Rattle.ready.proofs.note_all.Goals as goal
 
-pub loop-i-init : goal.loop-i-init
-loop-i-init c = (refl, omega arith, λ m v. passing_start _ c.u32_at-n.ensures v)
+pub loop-init : goal.loop-init
+loop-init c = (refl, omega arith, λ m v. passing_start _ c.u32_at-n.ensures v)
 
-pub overflow_add-at : goal.overflow_add-at
-overflow_add-at c =
-    let room : c.loop-i.at + c.length_in-at.result ≤ length c.args.list.now + 4 = let s = c.args.list.now in
-    rw c.length_in-at.ensures (pass-room (span (describe c.args.kind).form (drop c.loop-i.at s)) c.loop-i.at s c.loop-i.invariant.1) in
-    omega (arith, room)
-
-pub loop-i-preserved : goal.loop-i-preserved
-loop-i-preserved c =
-    let room : c.loop-i.at + c.length_in-at.result ≤ length c.args.list.now + 4 = let s = c.args.list.now in
-    rw c.length_in-at.ensures (pass-room (span (describe c.args.kind).form (drop c.loop-i.at s)) c.loop-i.at s c.loop-i.invariant.1) in
+pub loop-preserved : goal.loop-preserved
+loop-preserved c =
+    let room : c.loop.at + c.length_in-at.result ≤ length c.args.list.now + 4 = let s = c.args.list.now in
+    rw c.length_in-at.ensures (pass-room (span (describe c.args.kind).form (drop c.loop.at s)) c.loop.at s c.loop.invariant.1) in
     let a = c.args in (
-      c.note.auto.notes ∙ c.loop-i.invariant.0,
+      c.note.auto.notes ∙ c.loop.invariant.0,
       room,
-      λ m v. rw c.note.ensures (passing_next a.kind (c.loop-i.invariant.2 m v) c.loop-i-test.true c.loop-i.invariant.0 c.u32_at.ensures c.length_in-at.ensures),
+      λ m v. rw c.note.ensures (passing_next a.kind (c.loop.invariant.2 m v) c.loop-test.true c.loop.invariant.0 c.u32_at.ensures c.length_in-at.ensures),
     )
 
-pub shape_of-notes : goal.shape_of-notes
-shape_of-notes c = c.loop-i.invariant.0
-
 pub returns : goal.returns
-returns c = λ m v. passing_end (c.loop-i.invariant.2 m v) c.loop-i-test.false
+returns c = λ m v. passing_end (c.loop.invariant.2 m v) c.loop-test.false

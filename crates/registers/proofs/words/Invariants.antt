@@ -1,15 +1,9 @@
-use Rattle.registers.proofs.Arrays.{Filled}
+use Rattle.registers.specs.Registers.{gather}
 use Rattle.wire.specs.Numbers.{le_at}
-use mathlib.Core.List.{List}
-use Prim.Native.Nat.{ℕ, ◌+◌, ◌-◌, ◌*◌}
-use lib.ListN.{length}
+use mathlib.Core.Path.{◌≡◌}
+use Prim.Native.Nat.{ℕ, ◌+◌, ◌*◌}
+use lib.ListN.{take}
 use Rattle.registers.proofs.words.Given as goal
 
-abbrev each : List ℕ → ℕ → ℕ → ℕ
-each s at k = le_at 8 s (k * 8 + at)
-
 abbrev pub invariant-loop-i : goal.invariant-loop-i
-invariant-loop-i l = Filled (each l.s l.at) (length l.initial.a) l.a l.i
-
-abbrev pub decreases-loop-i : goal.decreases-loop-i
-decreases-loop-i l = length l.initial.a - l.i
+invariant-loop-i l = take l.i l.a ≡ gather (λ (k : ℕ). le_at 8 l.s (k * 8 + l.at)) l.i

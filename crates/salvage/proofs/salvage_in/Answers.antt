@@ -1,23 +1,31 @@
+use Rattle.answer.proofs.Outcomes.{handed_on}
 use Rattle.sections.proofs.Directed.{filed_long, filed_short}
 use Rattle.salvage.proofs.Rescuing.{losses_few, salvage-room, salvage-rows, salvage_ready, salvage-done}
 use mathlib.Core.Path.{◌∙◌}
 use native.Mathlib.Omega.{arith}
 use Rattle.salvage.proofs.salvage_in.Goals as goal
 
-pub returns-then-out-need : goal.returns-then-out-need
-returns-then-out-need c = salvage-room c.args.file.now c.requires.0.passes c.args.out.now c.args.losses.now (c.noted-need.ensures ∙ c.requires.0.directory.bytes) c.if-out-need.true
+pub returns-in_err-roomy : goal.returns-in_err-roomy
+returns-in_err-roomy c = let a = c.args in
+    rw (handed_on _ c.in_err-roomy.field-0.0 c.from_residual.ensures.1)
+    (salvage-room a.file.now c.requires.0.passes a.out.now a.losses.now (c.noted.ensures ∙ c.requires.0.directory.bytes) c.in_err-roomy.field-0.0 c.in_err-roomy.ensures)
 
-pub overflow_mul-rows : goal.overflow_mul-rows
-overflow_mul-rows c = omega (arith, c.requires.1, losses_few c.args.file.now, (filed_short c.requires.0).1)
+pub overflow_mul-lost : goal.overflow_mul-lost
+overflow_mul-lost c = omega (arith, c.requires.1, losses_few c.args.file.now, (filed_short c.requires.0).1)
 
-pub returns-then-losses-rows : goal.returns-then-losses-rows
-returns-then-losses-rows c = salvage-rows c.args.file.now c.requires.0.passes c.args.out.now c.args.losses.now (c.noted-need.ensures ∙ c.requires.0.directory.bytes) c.if-out-need.false c.requires.1 c.if-losses-rows.true
+pub returns-in_err-roomy-2 : goal.returns-in_err-roomy-2
+returns-in_err-roomy-2 c = let a = c.args in
+    rw (handed_on _ c.in_err-roomy-2.field-0.0 c.from_residual-in_err-roomy-2.ensures.1)
+    (salvage-rows a.file.now c.requires.0.passes a.out.now a.losses.now (c.noted.ensures ∙ c.requires.0.directory.bytes) c.in_ok-roomy.ensures c.requires.1 c.in_err-roomy-2.field-0.0 c.in_err-roomy-2.ensures)
 
-pub put_form-n-requires : goal.put_form-n-requires
-put_form-n-requires c = (c.requires.0, (salvage_ready c.args.file.now c.requires.0.passes c.args.out.now c.args.losses.now (c.noted-need.ensures ∙ c.requires.0.directory.bytes) c.if-out-need.false c.requires.1 c.if-losses-rows.false).0)
+pub put_form-bytes-requires : goal.put_form-bytes-requires
+put_form-bytes-requires c = let a = c.args in
+    (c.requires.0, (salvage_ready a.file.now c.requires.0.passes a.out.now a.losses.now (c.noted.ensures ∙ c.requires.0.directory.bytes) c.in_ok-roomy.ensures c.requires.1 c.in_ok-roomy-2.ensures).0)
 
 pub put_losses-requires : goal.put_losses-requires
-put_losses-requires c = (c.requires.0.passes, filed_long c.requires.0, c.requires.1, (salvage_ready c.args.file.now c.requires.0.passes c.args.out.now c.args.losses.now (c.noted-need.ensures ∙ c.requires.0.directory.bytes) c.if-out-need.false c.requires.1 c.if-losses-rows.false).1)
+put_losses-requires c = let a = c.args in
+    (c.requires.0.passes, filed_long c.requires.0, c.requires.1, (salvage_ready a.file.now c.requires.0.passes a.out.now a.losses.now (c.noted.ensures ∙ c.requires.0.directory.bytes) c.in_ok-roomy.ensures c.requires.1 c.in_ok-roomy-2.ensures).1)
 
 pub returns : goal.returns
-returns c = salvage-done c.args.file.now c.requires.0.passes c.args.out.now c.args.losses.now (c.noted-need.ensures ∙ c.requires.0.directory.bytes) c.if-out-need.false c.requires.1 c.if-losses-rows.false c.put_form-n.ensures c.put_losses.ensures
+returns c = let a = c.args in
+    salvage-done a.file.now c.requires.0.passes a.out.now a.losses.now (c.noted.ensures ∙ c.requires.0.directory.bytes) c.in_ok-roomy.ensures c.requires.1 c.in_ok-roomy-2.ensures c.put_form-bytes.ensures c.put_losses.ensures

@@ -1,12 +1,9 @@
+use mathlib.Core.Path.{ap}
+use Rattle.answer.specs.Outcome.{after}
+use Rattle.answer.proofs.Outcomes.{handed_on}
 use Rattle.sections.specs.Directory.{verdict_of}
-use mathlib.Core.Path.{sym, ◌∙◌, ap}
 use Rattle.sections.proofs.index_file.Goals as goal
 
-pub returns-in-Fault : goal.returns-in-Fault
-returns-in-Fault c = let v = c.divide.ensures in record { answers = ap verdict_of (sym c.in-Fault.is ∙ v.answers); index = v.index }
-
-pub returns-in-Whole : goal.returns-in-Whole
-returns-in-Whole c = let v = c.divide.ensures in record { answers = ap verdict_of (sym c.in-Whole.is ∙ v.answers); index = v.index }
-
-pub returns-in-Lost : goal.returns-in-Lost
-returns-in-Lost c = let v = c.divide.ensures in record { answers = ap verdict_of (sym c.in-Lost.is ∙ v.answers); index = v.index }
+pub returns-in_err-divide : goal.returns-in_err-divide
+returns-in_err-divide c = let v = c.in_err-divide.ensures in
+    rw (handed_on _ c.in_err-divide.field-0.0 c.from_residual.ensures.1) (record { answers = ap (λ o. after o verdict_of) v.answers; index = v.index })

@@ -1,19 +1,12 @@
+use Rattle.answer.proofs.Outcomes.{handed_on}
 use Rattle.sections.proofs.Headers.{scan_stop, scan-walk, scan-fits}
-use Rattle.aerosnap.specs.File.{header_checks}
-use Rattle.answer.specs.Outcome.{taken}
-use Rattle.answer.specs.Calls.{asked, test_of}
-use mathlib.Core.Path.{◌≡◌, sym, ◌∙◌, ap}
 use Rattle.sections.proofs.scan.Goals as goal
 
 pub behind_header-requires : goal.behind_header-requires
-behind_header-requires c =
-    let passed : taken tt ≡ asked (header_checks c.args.file.now) = sym (ap test_of c.in-Fine.is) ∙ c.header.ensures in
-    scan-fits c.args.file.now (passed)
+behind_header-requires c = scan-fits c.args.file.now c.in_ok-header.ensures
 
-pub returns-in-Fault : goal.returns-in-Fault
-returns-in-Fault c = scan_stop c.args.file.now (rw c.in-Fault.is at c.header.ensures)
+pub returns-in_err-header : goal.returns-in_err-header
+returns-in_err-header c = rw (handed_on _ c.in_err-header.field-0.0 c.from_residual.ensures.1) (scan_stop c.args.file.now c.in_err-header.ensures)
 
-pub returns-in-Fine : goal.returns-in-Fine
-returns-in-Fine c =
-    let passed : taken tt ≡ asked (header_checks c.args.file.now) = sym (ap test_of c.in-Fine.is) ∙ c.header.ensures in
-    scan-walk c.args.file.now (passed) c.behind_header.ensures
+pub returns : goal.returns
+returns c = scan-walk c.args.file.now c.in_ok-header.ensures c.behind_header.ensures

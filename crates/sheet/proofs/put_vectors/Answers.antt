@@ -1,44 +1,38 @@
 use Rattle.sheet.proofs.Rows.{write_on}
 use Rattle.sheet.specs.Vectors.{joined}
-use Rattle.wire.proofs.Parts.{no_part, as_splice, length-put}
-use lib.ListN.{length, take}
-use lib.Seq.{take_all}
-use mathlib.Core.Path.{◌≡◌, refl, ap, ◌∙◌}
+use Rattle.wire.proofs.Parts.{no_part, as_splice, put-fits}
+use Rattle.fields.proofs.Splices.{mid_is}
+use borrow.Rule.Slice.PartMut.{put_mid}
+use lib.ListN.{length, take, drop, get_or, length-drop}
+use lib.Seq.{length-take-le, take_all}
+use Prim.Native.Nat.{ℕ, ◌+◌, ◌-◌, ◌*◌, ◌≤◌}
+use mathlib.Core.List.{List, []}
+use mathlib.Core.Path.{◌≡◌, sym, ap, ◌∙◌}
 use native.Mathlib.Omega.{arith}
-use borrow.Author.Rules.{rules}
 use Rattle.sheet.proofs.put_vectors.Goals as goal
 
 pub loop-i-init : goal.loop-i-init
 unfolding joined
-loop-i-init c = (omega arith, refl, no_part c.args.s.now c.args.at (omega arith))
-
-pub overflow_add-at : goal.overflow_add-at
-overflow_add-at c = omega (arith, c.loop-i-test.true)
-
-pub bounds-a-i : goal.bounds-a-i
-bounds-a-i c = c.loop-i-test.true
-
-pub overflow_add-i : goal.overflow_add-i
-overflow_add-i c = omega (arith, c.loop-i-test.true)
-
-pub loop-i-smaller : goal.loop-i-smaller
-loop-i-smaller c = omega (arith, c.loop-i-test.true)
+loop-i-init c = no_part c.args.s.now c.args.at (omega arith)
 
 pub loop-i-preserved : goal.loop-i-preserved
-loop-i-preserved c = let a = c.args in
-    let h = c.loop-i-test.true in
-    let inv = c.loop-i.invariant in
-    let p = c.put_row.ensures in
-    let n : length a.a ≡ 16 = search rules in
-    (omega (arith, h), ap length p.1 ∙ length-put _ _ _ ∙ inv.1, write_on c.loop-i.i a.a a.at (omega (arith, h, n)) p.0 (omega (arith, h, inv.1, c.requires)) inv.2 p.1)
-
-pub shape_of-s : goal.shape_of-s
-shape_of-s c = c.loop-i.invariant.1
+loop-i-preserved c =
+    let rows = c.args.a.now in
+    let i = c.loop-i.i in
+    let s = c.loop-i.s in
+    let start : ℕ = c.args.at + i * 16 in
+    let row = get_or rows i [] in
+    let room : start + 16 ≤ length s = omega (arith, c.requires) in
+    let w : start + 16 - start ≡ 16 = omega arith in
+    let long : start + 16 - start ≤ length (drop start s) = rw (length-drop) (omega arith) in
+    let same : c.copy_from_slice.new.self ≡ row = c.copy_from_slice.ensures.after in
+    let n : length row ≡ 16 = sym (ap length same) ∙ c.copy_from_slice.ensures.len ∙ length-take-le (start + 16 - start) (drop start s) long ∙ w in
+    write_on i rows c.args.at (omega arith) n (omega arith) c.loop-i.invariant
+    (ap (λ (l : List ℕ). put_mid start (start + 16 - start) s l) same ∙ mid_is start (start + 16 - start) row s (w ∙ sym n) ∙ sym (put-fits start row s (omega arith)))
 
 pub returns : goal.returns
-returns c = let a = c.args in
-    let inv = c.loop-i.invariant in
-    let n : length a.a ≡ 16 = search rules in
-    let e : c.loop-i.i ≡ 16 = omega (arith, inv.0, c.loop-i-test.false) in
-    let whole : take c.loop-i.i a.a ≡ a.a = take_all c.loop-i.i a.a (omega arith) in
-    as_splice a.s.now (joined a.a) c.loop-i.s a.at _ (omega (arith, c.requires)) (rw whole at inv.2)
+returns c =
+    let rows = c.args.a.now in
+    let e : c.loop-i.i ≡ 16 = omega arith in
+    let whole : take c.loop-i.i rows ≡ rows = take_all c.loop-i.i rows (omega arith) in
+    as_splice c.args.s.now (joined rows) c.loop-i.s c.args.at _ (omega (arith, c.requires)) (rw whole at c.loop-i.invariant)

@@ -1,22 +1,15 @@
-use Rattle.registers.proofs.Arrays.{filled_none, filled_next, filled_all}
-use Rattle.registers.specs.Registers.{segment_in}
-use Rattle.registers.specs.declared.Segment.{Segment}
-use mathlib.Core.List.{List}
-use mathlib.Core.Path.{refl}
-use Prim.Native.Nat.{ℕ, ◌+◌, ◌*◌}
+use Rattle.registers.proofs.Arrays.{filled_none, filled_next}
+use mathlib.Core.List.{[]}
+use mathlib.Core.Path.{refl, ◌∙◌}
+use lib.ListN.{length-set}
+use native.Mathlib.Omega.{arith}
 use Rattle.sheet.proofs.segments.Goals as goal
 
-abbrev each : List ℕ → ℕ → Segment
-each s k = segment_in s (k * 18 + 146)
-
 pub loop-i-init : goal.loop-i-init
-loop-i-init c = filled_none (each c.args.s.now) 6 _ refl
-
-pub bounds-a-i : goal.bounds-a-i
-bounds-a-i c = c.loop-i-test.true
+loop-i-init c = (refl, filled_none _ [])
 
 pub loop-i-preserved : goal.loop-i-preserved
-loop-i-preserved c = filled_next (each c.args.s.now) 6 c.loop-i.i c.loop-i.a c.segment_at.result c.loop-i.invariant c.loop-i-test.true c.segment_at.ensures
-
-pub returns : goal.returns
-returns c = filled_all (each c.args.s.now) 6 c.loop-i.i c.loop-i.a c.loop-i.invariant c.loop-i-test.false
+loop-i-preserved c =
+    let i = c.loop-i.i in
+    let v = c.loop-i.invariant in
+    (length-set c.loop-i.segment-items i c.segment_at.result ∙ v.0, filled_next _ i c.loop-i.segment-items c.segment_at.result v.1 (omega arith) c.segment_at.ensures)

@@ -1,15 +1,8 @@
-use Rattle.registers.proofs.Arrays.{Filled}
-use Rattle.registers.specs.Registers.{segment_in}
-use Rattle.registers.specs.declared.Segment.{Segment}
-use mathlib.Core.List.{List}
-use Prim.Native.Nat.{ℕ, ◌+◌, ◌-◌, ◌*◌}
+use Rattle.registers.specs.Registers.{gather, segment_in}
+use mathlib.Core.Path.{◌≡◌}
+use Prim.Native.Nat.{ℕ, ◌+◌, ◌*◌}
+use lib.ListN.{length, take}
 use Rattle.sheet.proofs.segments.Given as goal
 
-abbrev each : List ℕ → ℕ → Segment
-each s k = segment_in s (k * 18 + 146)
-
 abbrev pub invariant-loop-i : goal.invariant-loop-i
-invariant-loop-i l = Filled (each l.s) 6 l.a l.i
-
-abbrev pub decreases-loop-i : goal.decreases-loop-i
-decreases-loop-i l = 6 - l.i
+invariant-loop-i l = (length l.segment-items ≡ 6) × (take l.i l.segment-items ≡ gather (λ (k : ℕ). segment_in l.s (k * 18 + 146)) l.i)

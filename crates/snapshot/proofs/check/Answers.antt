@@ -4,4 +4,4 @@ use mathlib.Core.Path.{◌∙◌}
 use Rattle.snapshot.proofs.check.Goals as goal
 
 pub returns : goal.returns
-returns c = c.answered.ensures ∙ verdict-done (file_of c.args.file.now) c.faults.result c.faults.ensures
+returns c = c.from.ensures ∙ verdict-done (file_of c.args.file.now) c.faults.result c.faults.ensures

@@ -1,6 +1,8 @@
+use Rattle.answer.proofs.Outcomes.{fills-writes}
 use Rattle.aerosnap.specs.Known.{DEVICES}
-use Rattle.snapshot.proofs.Reading.{bare-table}
+use Rattle.aerosnap.specs.Tables.{list_table}
+use lib.ListN.{length}
 use Rattle.snapshot.proofs.devices.Goals as goal
 
-pub returns-then-file-le-HEADER : goal.returns-then-file-le-HEADER
-returns-then-file-le-HEADER c = let a = c.args in bare-table a.file.now DEVICES a.table.now c.if-file-le-HEADER.true c.check.ensures
+pub returns : goal.returns
+returns c = rw c.from.ensures (fills-writes (list_table DEVICES (length c.args.table.now) c.args.file.now) c.list_table.result c.list_table.ensures)

@@ -1,3 +1,4 @@
+use Rattle.answer.proofs.Outcomes.{handed_on}
 use Rattle.snapshot.proofs.Reading.{list_fits, list_inside, list_short, list_done}
 use Rattle.aerosnap.proofs.Standing.{end_at}
 use lib.ListN.{length}
@@ -10,8 +11,8 @@ end_at-e-requires c =
     let within : let a = c.args in (end_at a.file.now a.at ≤ length a.file.now) × (length a.file.now ≤ 1073741824) = list_fits c.requires in
     omega (arith, within)
 
-pub returns-then-table-need : goal.returns-then-table-need
-returns-then-table-need c = list_short c.requires c.u32_at-n.ensures c.end_at-e.ensures c.args.table.now c.if-table-need.true
+pub returns-in_err-roomy : goal.returns-in_err-roomy
+returns-in_err-roomy c = rw (handed_on _ c.in_err-roomy.field-0.0 c.from_residual.ensures.1) (list_short c.requires c.u32_at-n.ensures c.end_at-e.ensures c.args.table.now c.in_err-roomy.ensures)
 
 pub overflow_add-at : goal.overflow_add-at
 overflow_add-at c =
@@ -44,4 +45,4 @@ slice_bounds-put_rows-end-2 c =
     inside
 
 pub returns : goal.returns
-returns c = list_done c.requires c.u32_at-n.ensures c.end_at-e.ensures c.table_in-t.ensures c.u16_at.ensures c.if-table-need.false c.put_rows.ensures
+returns c = list_done c.requires c.u32_at-n.ensures c.end_at-e.ensures c.table_in-t.ensures c.u16_at.ensures c.in_ok-roomy.ensures c.put_rows.ensures

@@ -1,5 +1,7 @@
-use Rattle.snapshot.proofs.Reading.{bare-sections}
+use Rattle.answer.proofs.Outcomes.{fills-writes}
+use Rattle.aerosnap.specs.Calls.{sections_call}
+use lib.ListN.{length}
 use Rattle.snapshot.proofs.sections.Goals as goal
 
-pub returns-then-file-le-HEADER : goal.returns-then-file-le-HEADER
-returns-then-file-le-HEADER c = let a = c.args in bare-sections a.file.now a.table.now c.if-file-le-HEADER.true c.check.ensures
+pub returns : goal.returns
+returns c = rw c.from.ensures (fills-writes (sections_call (length c.args.table.now) c.args.file.now) c.section_table.result c.section_table.ensures)

@@ -3,15 +3,6 @@ use Rattle.utf8.proofs.Table.{hit}
 use Rattle.utf8.proofs.Turns.{passes_here, passes_then, passes_first}
 use Rattle.utf8.proofs.ascii.Goals as goal
 
-pub loop-at-init : goal.loop-at-init
-loop-at-init c = c.blocks-at.ensures
-
-pub returns-then-s-at-ge128 : goal.returns-then-s-at-ge128
-returns-then-s-at-ge128 c = c.loop-at.invariant
-
 pub loop-at-preserved : goal.loop-at-preserved
 loop-at-preserved c = passes_then c.loop-at.invariant
     (passes_first (omega arith) (hit 0 _ (omega arith)) (passes_here _ (omega arith)))
-
-pub returns : goal.returns
-returns c = c.loop-at.invariant

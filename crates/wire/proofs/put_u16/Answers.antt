@@ -1,15 +1,5 @@
-use Rattle.wire.proofs.Parts.{put_tested, put_refused}
-use Rattle.wire.proofs.Numbers.{length-bytes_of}
-use Rattle.wire.specs.Numbers.{bytes_of}
-use borrow.Author.Tests.{leb-true}
-use mathlib.Core.Path.{sym, ◌∙◌, refl}
+use Rattle.wire.proofs.Numbers.{bytes_of-low}
 use Rattle.wire.proofs.put_u16.Goals as goal
 
-pub store_u16-requires : goal.store_u16-requires
-store_u16-requires c = leb-true _ _ (sym c.fits.ensures ∙ c.if-fits.true)
-
-pub returns-then-fits : goal.returns-then-fits
-returns-then-fits c = let a = c.args in put_tested a.at (bytes_of 2 a.x) a.out.now (length-bytes_of 2 a.x) (sym c.fits.ensures ∙ c.if-fits.true) c.store_u16.ensures
-
-pub returns-else-fits : goal.returns-else-fits
-returns-else-fits c = let a = c.args in put_refused a.at (bytes_of 2 a.x) a.out.now (length-bytes_of 2 a.x) (sym c.fits.ensures ∙ c.if-fits.false) refl
+pub returns : goal.returns
+returns c = rw (← bytes_of-low 2 c.args.x, ← c.to_le_bytes.ensures) c.store.ensures

@@ -1,19 +1,12 @@
-use Rattle.wire.proofs.Numbers.{narrow}
-use borrow.Author.Tests.{leb-true, leb-false}
-use native.Mathlib.Omega.{arith}
-use lib.ListN.{length}
-use Prim.Native.Nat.{◌+◌}
-use mathlib.Core.Path.{sym, ◌∙◌}
+use Rattle.std.proofs.Common.{◌∙◌, arith}
+use Rattle.wire.proofs.Numbers.{le-sum, narrow}
 use Rattle.wire.proofs.u16_at.Goals as goal
 
-pub whole_u16-requires : goal.whole_u16-requires
-whole_u16-requires c = leb-true _ _ (sym c.fits.ensures ∙ c.if-fits.true)
-
-pub cut_at-requires : goal.cut_at-requires
-cut_at-requires c = let a = c.args in omega (arith, leb-false (a.at + 2) (length a.s.now) (sym c.fits.ensures ∙ c.if-fits.false))
+pub returns-in-Some : goal.returns-in-Some
+returns-in-Some c = c.from_le_bytes.ensures ∙ le-sum 1 c.in-Some.bytes c.in-Some.ensures.1 ∙ c.in-Some.ensures.0
 
 pub overflow_cast-result : goal.overflow_cast-result
-overflow_cast-result c = let a = c.args in let p = narrow 2 6 a.s.now a.at (λ i. (c.type_inv.s i).fits) (leb-false (a.at + 2) (length a.s.now) (sym c.fits.ensures ∙ c.if-fits.false)) in omega (arith, c.cut_at.ensures)
+overflow_cast-result c = let a = c.args in omega (arith, c.cut_at.ensures, (narrow 2 6 a.s.now a.at (λ i. (c.type_inv.s i).fits) c.in-None.ensures).1)
 
-pub returns : goal.returns
-returns c = let a = c.args in let p = narrow 2 6 a.s.now a.at (λ i. (c.type_inv.s i).fits) (leb-false (a.at + 2) (length a.s.now) (sym c.fits.ensures ∙ c.if-fits.false)) in c.cut_at.ensures ∙ p.0
+pub returns-in-None : goal.returns-in-None
+returns-in-None c = let a = c.args in c.cut_at.ensures ∙ (narrow 2 6 a.s.now a.at (λ i. (c.type_inv.s i).fits) c.in-None.ensures).0

@@ -1,11 +1,6 @@
-use lib.ListN.{length}
-use Prim.Native.Nat.{◌+◌}
-use borrow.Author.Tests.{leb-true, leb-false}
-use mathlib.Core.Path.{sym, ◌∙◌}
+use Rattle.std.proofs.Common.{◌∙◌}
+use Rattle.wire.proofs.Numbers.{le-sum}
 use Rattle.wire.proofs.u64_at.Goals as goal
 
-pub whole_u64-requires : goal.whole_u64-requires
-whole_u64-requires c = leb-true _ _ (sym c.fits.ensures ∙ c.if-fits.true)
-
-pub cut_at-requires : goal.cut_at-requires
-cut_at-requires c = let a = c.args in leb-false (a.at + 8) (length a.s.now) (sym c.fits.ensures ∙ c.if-fits.false)
+pub returns-in-Some : goal.returns-in-Some
+returns-in-Some c = c.from_le_bytes.ensures ∙ le-sum 7 c.in-Some.bytes c.in-Some.ensures.1 ∙ c.in-Some.ensures.0

@@ -1,4 +1,0 @@
-use Rattle.aipc.proofs.put_sized.Goals as goal
-
-pub returns : goal.returns
-returns c = rw (← c.put32.ensures) c.copy.ensures

@@ -1,9 +1,0 @@
--- What is left of the table falls with each line.
-use Rattle.std.proofs.Common.{◌-◌, ◌≤◌}
-use Rattle.listing.proofs.lines.Given as goal
-
-abbrev pub invariant-loop-at : goal.invariant-loop-at
-invariant-loop-at g l = l.at ≤ l.n
-
-abbrev pub decreases-loop-at : goal.decreases-loop-at
-decreases-loop-at g l = l.n - l.at

@@ -1,0 +1,1 @@
+use Rattle.snapshot.proofs.list_table_with.Goals as goal
