@@ -370,9 +370,17 @@ fn what_stands_in_the_way_of_the_new_file_is_told() {
 
 // ---- signals
 
-/// Runs `cim canon in out` and sends it a signal in the middle of its writing; how it ended.
+/// Runs `cim canon in out` and sends it a signal in the middle of its writing; how it ended. What sends the signal is
+/// started before, and waits for a line.
 fn signalled(at: &Path, name: &str) -> ExitStatus {
     let mut child = cim(at).args(["canon", "in", "out"]).stdout(Stdio::null()).spawn().unwrap();
+    let kill = format!("read line; kill -s {name} {}", child.id());
+    let mut sender = Command::new("sh")
+        .args(["-c", &kill])
+        .stdin(Stdio::piped())
+        .stderr(Stdio::null())
+        .spawn()
+        .unwrap();
     let begun = || {
         fs::read_dir(at).unwrap().flatten().any(|entry| {
             let hidden = entry.file_name().to_string_lossy().starts_with('.');
@@ -380,8 +388,8 @@ fn signalled(at: &Path, name: &str) -> ExitStatus {
         })
     };
     while !begun() && child.try_wait().unwrap().is_none() {}
-    let kill = format!("kill -s {name} {}", child.id());
-    let _ = Command::new("sh").args(["-c", &kill]).stderr(Stdio::null()).status().unwrap();
+    sender.stdin.take().unwrap().write_all(b"now\n").unwrap();
+    sender.wait().unwrap();
     child.wait().unwrap()
 }
 
