@@ -371,9 +371,15 @@ fn what_stands_in_the_way_of_the_new_file_is_told() {
 // ---- signals
 
 /// Runs `cim canon in out` and sends it a signal in the middle of its writing; how it ended. What sends the signal is
-/// started before, and waits for a line.
+/// started before, and waits for a line. Signals that the tests were told to ignore, as in the background, are not
+/// ignored by the command: `env` sees to that.
 fn signalled(at: &Path, name: &str) -> ExitStatus {
-    let mut child = cim(at).args(["canon", "in", "out"]).stdout(Stdio::null()).spawn().unwrap();
+    let mut child = Command::new("env")
+        .args(["--default-signal=HUP,INT,TERM", env!("CARGO_BIN_EXE_cim"), "canon", "in", "out"])
+        .current_dir(at)
+        .stdout(Stdio::null())
+        .spawn()
+        .unwrap();
     let kill = format!("read line; kill -s {name} {}", child.id());
     let mut sender = Command::new("sh")
         .args(["-c", &kill])
