@@ -3,7 +3,8 @@
  *
  * Link with target/staticlib/libcimbrolau.a, which `tools/library` makes; `tools/install PREFIX` puts it, this header and a file for
  * pkg-config below PREFIX. examples/list.c is a whole program. Of other libraries it wants memcpy, memmove and memset.
- * It keeps no state and allocates nothing, so several threads may call it at once. A call takes at most 230 KiB of stack.
+ * It keeps no state and allocates nothing, so several threads may call it at once. A call takes at most 125 KiB of stack,
+ * cimbrolau_add_devices_of 221 KiB.
  *
  * Every call takes every input, ends, and answers with a number and a place:
  *

@@ -115,3 +115,16 @@ module _ (ok : ℕ) (cs : List Cell) (out : List ℕ) where
   pub putting_all : {i at : ℕ} {l : List ℕ} → Putting ok cs out i at l → length cs ≤ i → l ≡ put_cells ok cs 2 out
   unfolding put_cells
   putting_all {i} {at} {l} r k = let d : drop i cs ≡ [] = drop_of_length-le cs k in rw d at r.same
+
+abbrev pub cell_bytes : ℕ → Cell → List ℕ
+cell_bytes ok c = bytes_of (field_width ok c.0) c.1
+
+-- four fields, each put where the one before it ends
+pub put_four : (f : Form) (out : List ℕ) {l₁ l₂ l₃ l₄ : List ℕ} {w₁ w₂ w₃ : ℕ} → w₁ ≡ field_width (ok_of f) f.a.0 → w₂ ≡ field_width (ok_of f) f.b.0 → w₃ ≡ field_width (ok_of f) f.c.0
+    → l₁ ≡ put 2 (cell_bytes (ok_of f) f.a) out
+    → l₂ ≡ put (2 + w₁) (cell_bytes (ok_of f) f.b) l₁
+    → l₃ ≡ put (2 + w₁ + w₂) (cell_bytes (ok_of f) f.c) l₂
+    → l₄ ≡ put (2 + w₁ + w₂ + w₃) (cell_bytes (ok_of f) f.d) l₃
+    → l₄ ≡ put_cells (ok_of f) (cells f) 2 out
+unfolding put_cells
+put_four f out a b c p q r s = s ∙ rw (r, q, p, a, b, c)

@@ -86,6 +86,10 @@ width_small ok Error = go (eqb ok 0)
     go true = omega arith
     go false = omega arith
 
+pub end_sum : (f : Form) → numbers_end f ≡ 2 + field_width (ok_of f) f.a.0 + field_width (ok_of f) f.b.0 + field_width (ok_of f) f.c.0 + field_width (ok_of f) f.d.0
+unfolding size_of
+end_sum f = omega arith
+
 pub end_small : (f : Form) → numbers_end f ≤ 34
 unfolding size_of
 end_small f =

@@ -189,7 +189,7 @@ fn all_allowed(f: Form) -> bool
     ensures { result ≡ all_allowed f }
 {
     let ok = f.ok();
-    f.cells().iter().all(|c| allowed(ok, *c))
+    allowed(ok, f.a) && allowed(ok, f.b) && allowed(ok, f.c) && allowed(ok, f.d)
 }
 
 // Whether the data may stand there: none for a kind that has none, UTF-8 for a text.
@@ -226,16 +226,12 @@ fn limits(need: usize, have: usize) -> Result<(), Fault>
     answer::roomy(have, need)
 }
 
-// Where the numbers end.
+// Where the numbers end. Here, where they are asked and where they are stored there are four terms: with loops over `cells` a call that writes took a quarter longer.
 fn numbers_end(f: Form) -> usize
     ensures { (result ≡ numbers_end f) × (result ≤ 34) }
 {
     let ok = f.ok();
-    let mut end = 2;
-    for c in f.cells() {
-        end += width(ok, c);
-    }
-    end
+    2 + width(ok, f.a) + width(ok, f.b) + width(ok, f.c) + width(ok, f.d)
 }
 
 fn body_size(body: Body, bytes: &[u8]) -> usize
@@ -282,11 +278,13 @@ fn put_numbers(out: &mut [u8], f: Form)
     ensures { out.new ≡ put_cells (ok_of f) (cells f) 2 out.old }
 {
     let ok = f.ok();
-    let mut at = 2;
-    for c in f.cells() {
-        put_field(out, ok, c, at);
-        at += width(ok, c);
-    }
+    let second = 2 + width(ok, f.a);
+    let third = second + width(ok, f.b);
+    let fourth = third + width(ok, f.c);
+    put_field(out, ok, f.a, 2);
+    put_field(out, ok, f.b, second);
+    put_field(out, ok, f.c, third);
+    put_field(out, ok, f.d, fourth);
 }
 
 // What stands behind them: nothing, or a length and as many bytes.

@@ -1,6 +1,6 @@
 -- Demand 1: every call takes every input, ends, and answers or refuses with a number and a place; a refused call leaves all lent buffers exactly as they were.
 -- That it takes every input and ends is what the checker proves of each function: none of the public ones asks anything of its caller.
--- The promise of every public call says that it answers by its definition: `verdict` of it, `reading` of it, `Writes` or `WritesBeside` of it. The demands speak of these definitions.
+-- The promise of every call for C says that it answers by its definition: `verdict` of it, `reading` of it, `Writes` or `WritesBeside` of it; inside, a `Result` stands for it (`outcome_of`). The demands speak of these definitions.
 -- Assumes nothing.
 use Rattle.std.specs.Prelude.{◌≡◌, true, ◌≢◌, ◌↔◌, ◌⊎◌, List, ◌++◌, ℕ, ◌≤◌, ◌<◌, length, drop}
 use Rattle.answer.specs.declared.Answer.{Answer}

@@ -86,7 +86,7 @@ pub record PassedBy (o : ℕ × Outcome Tally) (t : List ℕ) (r : ℕ) (w : Sit
   pub modest : Modestly w x (length t / 24) g
 
 abbrev pub CountedBy : ℕ × Outcome Tally → List ℕ → ℕ → Site → Extent → Result ℕ Refused → Type 0
-CountedBy o t r w x (Err f) = o ≡ (f.index, fault_of f.fault)
+CountedBy o t r w x (Err f) = (o ≡ (f.index, fault_of f.fault)) × (f.index ≤ 4096)
 CountedBy o t r w x (Ok g) = PassedBy o t r w x g
 
 -- ---- the bytes
@@ -155,7 +155,7 @@ pub record TableReady (have : ℕ) (t store starts s index : List ℕ) (x : Chan
   pub new_bytes : x.new.bytes ≡ length (render (with_rows t store s))
 
 abbrev pub PreparedBy : ℕ → List ℕ → List ℕ → List ℕ → List ℕ → List ℕ → Result Change Refused → Type 0
-PreparedBy have t store starts s index (Err f) = add_all have s (new_devices t) store ≡ (f.index, fault_of f.fault)
+PreparedBy have t store starts s index (Err f) = (add_all have s (new_devices t) store ≡ (f.index, fault_of f.fault)) × (f.index ≤ 4096)
 PreparedBy have t store starts s index (Ok x) = TableReady have t store starts s index x
 
 -- so many places for the starts of the rows: one for each, or more than a list may have

@@ -1,2 +1,2 @@
--- Once: the promise of `form_of` fixes its answer.
+-- Once: the promise of each public function fixes its answer.
 pub mod Once

@@ -14,6 +14,7 @@ use Rattle.messages.specs.Reading.{read_message, reading}
 use Rattle.numbers.specs.declared.Numbers.{Numbers}
 use Rattle.numbers.specs.declared.Told.{Told}
 use Rattle.numbers.specs.Numbers.{numbers_of, message_of, told, write_numbers}
+use Rattle.messages.specs.declared.Content.{Content}
 
 pub numbers_of_once : (m : Message) {r s : Numbers} → r ≡ numbers_of m → s ≡ numbers_of m → r ≡ s
 numbers_of_once m e f = equal_once e f
@@ -27,3 +28,6 @@ read_once m e f = equal_once e f
 pub write_once : (n : Numbers) (d old : List ℕ) {r s : Answer} {new now : List ℕ}
     → Writes (write_numbers n d (length old)) old r new → Writes (write_numbers n d (length old)) old s now → (r ≡ s) × (new ≡ now)
 write_once n d old a b = writes_once a b
+
+pub told_from_once : (o : Result Content Fault) {r s : Told} → r ≡ told (reading (outcome_of o)) → s ≡ told (reading (outcome_of o)) → r ≡ s
+told_from_once o e f = equal_once e f

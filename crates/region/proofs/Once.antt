@@ -27,3 +27,6 @@ check_queue_once b q r s e f = outcome_once r s (equal_once e f)
 
 pub report_once : (b : List ℕ) (q : ℕ) {r s : Cursors} → r ≡ as_cursors (report_call b q) → s ≡ as_cursors (report_call b q) → r ≡ s
 report_once b q e f = equal_once e f
+
+pub cursors_from_once : (o : Result Ring Fault) {r s : Cursors} → r ≡ as_cursors (outcome_of o) → s ≡ as_cursors (outcome_of o) → r ≡ s
+cursors_from_once o e f = equal_once e f

@@ -165,6 +165,20 @@ fn list_table_with<const N: usize>(id: u32, file: &[u8], table: &mut [u8]) -> Re
 }
 
 // The same, with an index of as many places as the file needs: clearing places costs more than reading a short list.
+// Out of line: a file that has no section pays for no index.
+#[inline(never)]
+fn placed_table(id: u32, file: &[u8], table: &mut [u8]) -> Result<usize, Fault>
+    requires { (known id ≡ true) × ((v : ℕ) → body_of id v ≡ list (described (file_tables.table_in id v))) }
+    ensures { WritesCount (file_tables.list_table id (length table.old) file.now) table.old result table.new }
+{
+    match sections::places_for(&file[..], 64) {
+        Places::Few => list_table_with::<32>(id, &file[..], table),
+        Places::Some => list_table_with::<256>(id, &file[..], table),
+        Places::All => list_table_with::<4864>(id, &file[..], table),
+    }
+}
+
+// The table of the list with an id. That a file has no section is seen first.
 fn list_table(id: u32, file: &[u8], table: &mut [u8]) -> Result<usize, Fault>
     requires { (known id ≡ true) × ((v : ℕ) → body_of id v ≡ list (described (file_tables.table_in id v))) }
     ensures { WritesCount (file_tables.list_table id (length table.old) file.now) table.old result table.new }
@@ -173,11 +187,7 @@ fn list_table(id: u32, file: &[u8], table: &mut [u8]) -> Result<usize, Fault>
         faults(file)?;
         return Ok(0);
     }
-    match sections::places_for(&file[..], 64) {
-        Places::Few => list_table_with::<32>(id, &file[..], table),
-        Places::Some => list_table_with::<256>(id, &file[..], table),
-        Places::All => list_table_with::<4864>(id, &file[..], table),
-    }
+    placed_table(id, &file[..], table)
 }
 
 // The table of devices in key order.

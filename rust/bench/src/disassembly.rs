@@ -1,7 +1,7 @@
 //! Whether the library's copy is still a `memmove`, and how much stack a call takes, found in its machine code.
 //!
 //! The library copies bytes by std's `copy_from_slice`, whose loop the compiler makes one `memmove` of. Were it not to, bytes
-//! would be copied by a loop, and nothing but the time would tell. Both kinds of machine are read, x86-64 and Arm.
+//! would be copied twice or one by one, and nothing but the time would tell. Both kinds of machine are read, x86-64 and Arm.
 
 use std::collections::BTreeMap;
 use std::process::Command;
@@ -24,6 +24,15 @@ const WRITERS: [&str; 11] = [
     "cimbrolau_ring_fill",
 ];
 
+/// Crates that move numbers of an index, and no bytes of a file: a `memmove` of theirs says nothing of the library's copy.
+const INDEXERS: [&str; 4] = ["lists::", "sections::", "sorting::", "tables::"];
+
+/// From so many bytes on, an array on the stack of a function that copies bytes is one that they go through.
+const PART: u64 = 0x10000;
+
+/// An instruction that sets how many bytes a `memmove` moves or a `memset` clears stands at most this many before its call.
+const NEAR: usize = 8;
+
 /// The bytes of a step, of which a large frame takes one after the other: a page, or what the kit has compilers take, which is less.
 const STEPS: [u64; 2] = [0x1000, 0xc00];
 
@@ -34,14 +43,11 @@ const RETURN: u64 = 8;
 #[derive(Default)]
 struct Function {
     calls: Vec<String>,
+    /// Whether it moves bytes of any number at once: a `memmove` of so many as are known beforehand is no copy of a part.
+    moves: bool,
     stack: u64,
-}
-
-impl Function {
-    /// Whether it moves bytes of any number at once.
-    fn moves(&self) -> bool {
-        self.calls.iter().any(|call| call == "memmove" || call == "memcpy")
-    }
+    /// How many bytes it clears in arrays that are shorter than a part: others than one that bytes go through, which is never cleared where it is seen through.
+    cleared: u64,
 }
 
 /// What was found in the machine code.
@@ -64,12 +70,20 @@ pub fn look() -> Result<Found, String> {
     judged(&String::from_utf8_lossy(&output.stdout))
 }
 
-/// Each writer reaches a function that moves bytes.
+/// Each writer reaches a function that moves bytes, and none of those has an array for them on its stack, beside what it clears.
 fn judged(listing: &str) -> Result<Found, String> {
     let functions = functions(listing);
+    for (name, function) in &functions {
+        if function.moves && function.stack >= PART + function.cleared {
+            return Err(format!(
+                "{name} has {} bytes on its stack: its copy is not seen through",
+                function.stack
+            ));
+        }
+    }
     let mut found = Vec::new();
     for writer in WRITERS {
-        match reached(writer, &functions, Function::moves) {
+        match reached(writer, &functions, |function| function.moves) {
             Some(name) => found.push(format!("`{writer}` in `{name}`")),
             None => return Err(format!("the copy of {writer} is no longer a memmove")),
         }
@@ -113,17 +127,28 @@ fn reached<'a>(
 fn functions(listing: &str) -> BTreeMap<String, Function> {
     let mut functions = BTreeMap::new();
     let mut current = String::new();
+    let mut length = Length::default();
     let mut far = false;
     for line in listing.lines() {
         if let Some(name) = heading(line) {
             current = name.to_string();
+            length = Length::default();
             continue;
         }
         let function: &mut Function = functions.entry(current.clone()).or_default();
         if let Some(target) = relocation(line) {
+            match (target, length.near()) {
+                ("memmove", None) => {
+                    function.moves |=
+                        !INDEXERS.iter().any(|crate_name| current.starts_with(crate_name))
+                }
+                ("memset", Some(bytes)) if bytes < PART => function.cleared += bytes,
+                _ => {}
+            }
             function.calls.push(target.to_string());
             continue;
         }
+        length.pass(line);
         let taken = stack(line);
         // A step of a loop that takes steps up to an address below: the whole is counted where the address is made.
         let step = far && STEPS.contains(&taken);
@@ -131,6 +156,42 @@ fn functions(listing: &str) -> BTreeMap<String, Function> {
         far = (far || is_far(line)) && !step;
     }
     functions
+}
+
+/// The number that was last put where `memmove` and `memset` look for how many bytes they take, and how many instructions ago.
+#[derive(Default)]
+struct Length {
+    bytes: Option<u64>,
+    since: usize,
+}
+
+impl Length {
+    fn pass(&mut self, line: &str) {
+        match bytes_asked(line) {
+            Some(bytes) => *self = Self { bytes, since: 0 },
+            None => self.since += 1,
+        }
+    }
+
+    fn near(&self) -> Option<u64> {
+        self.bytes.filter(|_| self.since < NEAR)
+    }
+}
+
+/// Whether an instruction sets how many bytes are asked, and the number if it is one: that in `mov $0x10000,%edx` or in
+/// `mov w2, #0x10000`, and none in `mov %r9,%rdx` or `mov x2, x20`.
+fn bytes_asked(line: &str) -> Option<Option<u64>> {
+    let words = words(line);
+    let (operands, register) = match words[..] {
+        ["mov", operands] => operands.rsplit_once(',')?,
+        ["mov", to, from, ..] => (from, to.trim_end_matches(',')),
+        _ => return None,
+    };
+    if !["%edx", "%rdx", "w2", "x2"].contains(&register) {
+        return None;
+    }
+    let digits = operands.trim_start_matches(['$', '#']).strip_prefix("0x");
+    Some(digits.and_then(|digits| u64::from_str_radix(digits, 16).ok()))
 }
 
 /// The name in `0000000000000000 <writer::write>:`.
@@ -201,15 +262,32 @@ mod tests {
     const MOVES: &str = "
 0000000000000000 <writer::write>:
    9:\tsub    $0x20,%rsp
+ 1ae:\tmov    %r9,%rdx
  1b3:\tcall   1b8 <writer::write+0x1b8>
 \t\t\t1b4: R_X86_64_PLT32\tmemmove-0x4
 ";
 
-    /// A listing in which each writer calls `writer::write`, with the body given.
+    /// A listing in which each writer but the fill calls `writer::write`, with the body given, and the fill moves bytes itself.
     fn listing(body: &str) -> String {
         let call = "   0:\tcall   5\n\t\t\t1: R_X86_64_PLT32\t.text.writer::write-0x4";
-        let writers = WRITERS.map(|writer| format!("0000000000000000 <{writer}>:\n{call}\n"));
-        format!("{}{body}", writers.concat())
+        let heads = WRITERS.iter().filter(|writer| **writer != FILL);
+        let writers: String =
+            heads.map(|writer| format!("0000000000000000 <{writer}>:\n{call}\n")).collect();
+        format!("{writers}{FILLS}{body}")
+    }
+
+    const FILL: &str = "cimbrolau_ring_fill";
+
+    const FILLS: &str =
+        "0000000000000000 <cimbrolau_ring_fill>:\n\t\t\t1: R_X86_64_PLT32\tmemmove-0x4\n";
+
+    #[test]
+    fn a_fill_that_moves_no_bytes_is_found() {
+        let whole = listing(MOVES);
+        assert!(judged(&whole).unwrap().copies.ends_with("`cimbrolau_ring_fill`"));
+        let slow = whole.replace(FILLS, &FILLS.replace("memmove", "rings::store"));
+        assert!(judged(&slow).is_err());
+        assert!(judged(&whole.replace(FILLS, "")).is_err());
     }
 
     #[test]
@@ -236,6 +314,7 @@ mod tests {
 0000000000000000 <writer::write>:
    0:\tstp\tx29, x30, [sp, #-96]!
    9:\tsub\tsp, sp, #0x20
+ 1b0:\tmov\tx2, x20
  1c0:\tbl\t0 <memmove>
 \t\t\t1c0: R_AARCH64_CALL26\tmemmove
 ";
@@ -251,13 +330,51 @@ mod tests {
         let shorter = pages.replace("#0x1, lsl #12", "#0xc00");
         let stepped = judged(&listing(&MOVES_ARM.replace("   9:", &shorter))).unwrap();
         assert_eq!(stepped.stack, paged.stack);
+        assert!(judged(&listing(&MOVES_ARM.replace("#0x20", "#0x10, lsl #12"))).is_err());
         assert!(judged(&listing(&MOVES_ARM.replace("memmove", "memset"))).is_err());
+        assert!(judged(&listing(&MOVES_ARM.replace("x2, x20", "w2, #0x100"))).is_err());
     }
 
     #[test]
     fn another_call_is_no_memmove() {
         assert!(judged(&listing(&MOVES.replace("memmove", "memset"))).is_err());
+        assert!(judged(&listing(&MOVES.replace("memmove", "memcpy"))).is_err());
+        assert!(judged(&listing(&MOVES.replace("%r9,%rdx", "$0x100,%edx"))).is_err());
         assert!(judged(&listing(&MOVES.replace("R_X86", "no"))).is_err());
         assert!(judged("").is_err());
+    }
+
+    #[test]
+    fn a_memmove_of_numbers_is_no_copy() {
+        let elsewhere = |name: &str| {
+            let bytewise = MOVES.replace("memmove", name);
+            let moves = MOVES.replace("writer::write", name);
+            judged(&listing(&format!("{bytewise}{moves}")))
+        };
+        assert!(elsewhere("canon::put_between").is_ok());
+        assert!(elsewhere("tables::put_filed").is_err());
+        assert!(elsewhere("sorting::insert_at").is_err());
+    }
+
+    #[test]
+    fn other_arrays_that_are_cleared_are_not_the_copys() {
+        let large = MOVES.replace("$0x20,%rsp", "$0x10020,%rsp");
+        let clears = |bytes: &str| {
+            let call = "  20:\tcall   25 <memset>\n\t\t\t21: R_X86_64_PLT32\tmemset-0x4\n 1ae:";
+            large.replace(" 1ae:", &format!("  1b:\tmov    ${bytes},%edx\n{call}"))
+        };
+        assert!(judged(&listing(&clears("0x8000"))).is_ok());
+        assert!(judged(&listing(&clears("0x10"))).is_err());
+        assert!(judged(&listing(&clears("0x10000"))).is_err());
+        let arm = MOVES_ARM.replace("#0x20", "#0x10, lsl #12");
+        let cleared = "  20:\tmov\tw2, #0x4000\n  24:\tbl\t0 <memset>\n\t\t\t24: R_AARCH64_CALL26\tmemset\n 1b0:";
+        assert!(judged(&listing(&arm.replace(" 1b0:", cleared))).is_ok());
+    }
+
+    #[test]
+    fn an_array_on_the_stack_is_found() {
+        assert!(judged(&listing(&MOVES.replace("$0x20,%rsp", "$0x10020,%rsp"))).is_err());
+        let probed = MOVES.replace("sub    $0x20,%rsp", "lea    -0x10000(%rsp),%r11");
+        assert!(judged(&listing(&probed)).is_err());
     }
 }

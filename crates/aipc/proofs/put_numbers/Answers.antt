@@ -1,11 +1,7 @@
-use Rattle.aipc.proofs.Puts.{putting_next, putting_all}
-use Rattle.kinds.specs.Kinds.{cells, ok_of}
+use Rattle.aipc.proofs.Puts.{put_four}
 use Rattle.aipc.proofs.put_numbers.Goals as goal
 
-pub loop-c-preserved : goal.loop-c-preserved
-loop-c-preserved c = let a = c.args in
-    putting_next (ok_of a.f) (cells a.f) a.out.now c.loop-c.invariant c.loop-c-test.true c.cells-c-items.ensures c.ok-ok.ensures c.width-at.ensures c.put_field.ensures
-
 pub returns : goal.returns
-returns c = let a = c.args in
-    putting_all (ok_of a.f) (cells a.f) a.out.now c.loop-c.invariant c.loop-c-test.false
+returns c = let a = c.args in let e = c.ok-ok.ensures in
+    put_four a.f a.out.now (rw e at c.width-second.ensures.0) (rw e at c.width.ensures.0) (rw e at c.width-2.ensures.0)
+    (rw e at c.put_field.ensures) (rw e at c.put_field-2.ensures) (rw e at c.put_field-3.ensures) (rw e at c.put_field-4.ensures)

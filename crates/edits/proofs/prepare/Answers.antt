@@ -21,7 +21,7 @@ pub returns-in_err-grown : goal.returns-in_err-grown
 returns-in_err-grown c = let a = c.args in
     let numbers : let s = c.args.file.now in (c.sized-old.result.sections ≡ length (secs (content_of (sections_in s)))) × (c.sized-old.result.bytes ≡ length (render (content_of (sections_in s)))) = rw (whole-held c.requires.0) at c.sized-old.ensures in
     let bytes : Bytes c.args.table.now = λ j. omega (arith, c.type_inv.table j) in
-    rw (handed_on _ c.in_err-grown.field-0.0 c.from_residual.ensures.1) (stops c.requires.0.read c.requires.1 numbers.0 numbers.1 a.have a.store.now a.table.now bytes c.in_err-grown.ensures)
+    rw (handed_on _ c.in_err-grown.field-0.0 c.from_residual.ensures.1) (stops c.requires.0.read c.requires.1 numbers.0 numbers.1 a.have a.store.now a.table.now bytes c.in_err-grown.ensures.0, c.in_err-grown.ensures.1)
 
 pub stand_at-requires : goal.stand_at-requires
 stand_at-requires c = let p = c.in_ok-grown.ensures in (p.modest, p.many)
